@@ -5,8 +5,8 @@ use Rattle.command.specs.declared.line.Line.{Line}
 use Rattle.command.specs.declared.line.Line.the-variants as line
 use Rattle.command.specs.declared.word.Word.{Word}
 use Rattle.command.specs.declared.word.Word.the-variants as word
-use Rattle.command.specs.declared.number.Digits.{Digits}
-use Rattle.command.specs.declared.number.Digits.the-variants as digits
+use Rattle.command.specs.declared.number.Natural.{Natural}
+use Rattle.command.specs.declared.number.Natural.the-variants as natural
 
 -- the bytes read and not used yet stand in a buffer of that length
 pub record LinesWithin (lines : Lines) (size : ℕ) : Type 0 where
@@ -29,8 +29,8 @@ abbrev pub WordWithin : Word → ℕ → Type 0
 WordWithin (word.At from to) size = PartWithin from to size
 WordWithin word.Missing size = Unit {0}
 
--- digits make a number of at most 18 digits
-abbrev pub DigitsWithin : Digits → Type 0
-DigitsWithin (digits.Value n) = n ≤ 999999999999999999
-DigitsWithin digits.Beyond = Unit {0}
-DigitsWithin digits.IsNot = Unit {0}
+-- a number of at most 18 digits
+abbrev pub NaturalWithin : Natural → Type 0
+NaturalWithin (natural.Is n) = n ≤ 999999999999999999
+NaturalWithin natural.Beyond = Unit {0}
+NaturalWithin natural.IsNot = Unit {0}

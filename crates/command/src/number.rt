@@ -1,5 +1,5 @@
 // Decimal numbers with an optional minus.
-ghost use Rattle.command.specs.Within.{DigitsWithin};
+ghost use Rattle.command.specs.Within.{NaturalWithin};
 
 // What a word is as a number.
 pub enum Number {
@@ -11,9 +11,9 @@ pub enum Number {
     IsNot,
 }
 
-// What digits are as a number, without a sign.
-enum Digits {
-    Value(u64),
+// What a word is as a number without a sign: this one, of at most 18 digits, one of more digits, or none.
+pub enum Natural {
+    Is(u64),
     Beyond,
     IsNot,
 }
@@ -27,25 +27,30 @@ pub fn read_number(word: &[u8]) -> Number {
         return Number::IsNot;
     }
     if word[0] == b'-' {
-        return match read_digits(word, 1) {
-            Digits::Value(n) => Number::Is(-(n as i64)),
-            Digits::Beyond => Number::Beyond(true),
-            Digits::IsNot => Number::IsNot,
+        return match digits_from(word, 1) {
+            Natural::Is(n) => Number::Is(-(n as i64)),
+            Natural::Beyond => Number::Beyond(true),
+            Natural::IsNot => Number::IsNot,
         };
     }
-    match read_digits(word, 0) {
-        Digits::Value(n) => Number::Is(n as i64),
-        Digits::Beyond => Number::Beyond(false),
-        Digits::IsNot => Number::IsNot,
+    match digits_from(word, 0) {
+        Natural::Is(n) => Number::Is(n as i64),
+        Natural::Beyond => Number::Beyond(false),
+        Natural::IsNot => Number::IsNot,
     }
 }
 
+// What the word is as a number without a sign.
+pub fn read_natural(word: &[u8]) -> Natural {
+    digits_from(word, 0)
+}
+
 // The number that the bytes from index `from` on make: at least one of them, and each a digit.
-fn read_digits(word: &[u8], from: usize) -> Digits
-    ensures { λ r. ⌜ DigitsWithin r ⌝ }
+fn digits_from(word: &[u8], from: usize) -> Natural
+    ensures { λ r. ⌜ NaturalWithin r ⌝ }
 {
     if word.len() <= from {
-        return Digits::IsNot;
+        return Natural::IsNot;
     }
     let mut n: u64 = 0;
     let mut beyond = false;
@@ -53,10 +58,10 @@ fn read_digits(word: &[u8], from: usize) -> Digits
     while i < word.len() {
         let byte = word[i];
         if byte < b'0' {
-            return Digits::IsNot;
+            return Natural::IsNot;
         }
         if b'9' < byte {
-            return Digits::IsNot;
+            return Natural::IsNot;
         }
         if n <= ROOM {
             n = n * 10 + (byte - b'0') as u64;
@@ -66,7 +71,7 @@ fn read_digits(word: &[u8], from: usize) -> Digits
         i += 1;
     }
     if beyond {
-        return Digits::Beyond;
+        return Natural::Beyond;
     }
-    Digits::Value(n)
+    Natural::Is(n)
 }

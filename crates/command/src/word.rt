@@ -27,8 +27,18 @@ pub fn word_at(line: &[u8], separator: u8, index: usize) -> Word
     Word::At(from, bytes::scan::find(line, from, line.len(), separator))
 }
 
-// How many words there are.
-pub fn count_words(line: &[u8], separator: u8) -> usize {
+// The bytes of the word of that index; none where there is no such word.
+pub fn part(line: &[u8], separator: u8, index: usize) -> &[u8] {
+    match word_at(line, separator, index) {
+        Word::At(from, to) => &line[from..to],
+        Word::Missing => &line[..0],
+    }
+}
+
+// How many words there are: at least one.
+pub fn count_words(line: &[u8], separator: u8) -> usize
+    ensures { λ r. ⌜ 1 ≤ r ⌝ }
+{
     let mut n = 1;
     let mut i = 0;
     while i < line.len() {

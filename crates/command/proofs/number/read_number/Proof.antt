@@ -8,15 +8,15 @@ use mir.Facts.{toZ-ofZ}
 use mir.Syntax.{w64}
 use mir.Val.{SFits, toZ}
 use borrow.Author.Tests.{lt-ltb}
-use Rattle.command.specs.Within.{DigitsWithin}
-use Rattle.command.specs.declared.number.Digits.{Digits}
-use Rattle.command.specs.declared.number.Digits.the-variants.{Value}
+use Rattle.command.specs.Within.{NaturalWithin}
+use Rattle.command.specs.declared.number.Natural.{Natural}
+use Rattle.command.specs.declared.number.Natural.the-variants.{Is}
 use borrow.Author.Needs.{needs}
 use Rattle.command.proofs.number.read_number.Statement.{statement}
 use Rattle.command.proofs.number.read_number.Tie as tie
 
-value-small : (d : Digits) (n : ℕ) → d ≡ Value n → DigitsWithin d → n ≤ 999999999999999999
-value-small d n same within = subst DigitsWithin same within
+value-small : (d : Natural) (n : ℕ) → d ≡ Is n → NaturalWithin d → n ≤ 999999999999999999
+value-small d n same within = subst NaturalWithin same within
 
 small-fits : (n : ℕ) → n ≤ 999999999999999999 → SFits w64 (pos n)
 small-fits n small = record { sfits = omega arith }
@@ -32,17 +32,17 @@ returns c = search needs
 shared-slice-read-if2 : tie.Need-shared-slice-read-if2
 shared-slice-read-if2 c = search needs
 
-read-digits-requires : tie.Need-read-digits-requires
-read-digits-requires c κs = search needs
+digits-from-requires : tie.Need-digits-from-requires
+digits-from-requires c κs = search needs
 
 enum-known-n : tie.Need-enum-known-n
 enum-known-n c = search needs
 
 cast-t10 : tie.Need-cast-t10
-cast-t10 c = small-fits _ (value-small _ _ (c .before .n .given .1) (c .before .before .before .read-digits .ensures))
+cast-t10 c = small-fits _ (value-small _ _ (c .before .n .given .1) (c .before .before .before .digits-from .ensures))
 
 sub-t11 : tie.Need-sub-t11
-sub-t11 c = negated-fits _ (value-small _ _ (c .before .n .given .1) (c .before .before .before .read-digits .ensures))
+sub-t11 c = negated-fits _ (value-small _ _ (c .before .n .given .1) (c .before .before .before .digits-from .ensures))
 
 enum-told : tie.Need-enum-told
 enum-told c = search needs
@@ -59,14 +59,14 @@ returns-3 c = search needs
 returns-4 : tie.Need-returns-4
 returns-4 c = search needs
 
-read-digits-requires-2 : tie.Need-read-digits-requires-2
-read-digits-requires-2 c κs = search needs
+digits-from-requires-2 : tie.Need-digits-from-requires-2
+digits-from-requires-2 c κs = search needs
 
 enum-known-n-2 : tie.Need-enum-known-n-2
 enum-known-n-2 c = search needs
 
 cast-t14 : tie.Need-cast-t14
-cast-t14 c = small-fits _ (value-small _ _ (c .before .n2 .given .1) (c .before .before .before .read-digits2 .ensures))
+cast-t14 c = small-fits _ (value-small _ _ (c .before .n2 .given .1) (c .before .before .before .digits-from2 .ensures))
 
 enum-told-3 : tie.Need-enum-told-3
 enum-told-3 c = search needs
@@ -89,7 +89,7 @@ read-number-spec =
     (tie.spec
     returns
     shared-slice-read-if2
-    read-digits-requires
+    digits-from-requires
     enum-known-n
     cast-t10
     sub-t11
@@ -98,7 +98,7 @@ read-number-spec =
     returns-2
     returns-3
     returns-4
-    read-digits-requires-2
+    digits-from-requires-2
     enum-known-n-2
     cast-t14
     enum-told-3

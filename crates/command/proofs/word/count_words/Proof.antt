@@ -8,7 +8,7 @@ use Rattle.command.proofs.word.count_words.Statement.{statement}
 use Rattle.command.proofs.word.count_words.Tie as tie
 
 abbrev Inv-loop : tie.InvT-loop
-Inv-loop line separator n₀ i₀ n i = (i ≤ length line) × (n ≤ i + 1)
+Inv-loop line separator n₀ i₀ n i = (i ≤ length line) × (n ≤ i + 1) × (1 ≤ n)
 
 abbrev μ-loop : tie.MeasureT-loop
 μ-loop line separator n₀ i₀ n i = length line - i

@@ -1,11 +1,11 @@
 use native.Mathlib.Omega.{arith}
 use mathlib.Core.Logic.{⊎-elim}
--- `command::number::read_digits` meets its contract: the number grows only from one with room for a digit more. Assumes nothing.
+-- `command::number::digits_from` meets its contract: the number grows only from one with room for a digit more. Assumes nothing.
 use Prim.Native.Nat.{_≤_, _+_, _-_}
 use lib.ListN.{length}
 use borrow.Author.Needs.{needs}
-use Rattle.command.proofs.number.read_digits.Statement.{statement}
-use Rattle.command.proofs.number.read_digits.Tie as tie
+use Rattle.command.proofs.number.digits_from.Statement.{statement}
+use Rattle.command.proofs.number.digits_from.Tie as tie
 
 abbrev Inv-loop : tie.InvT-loop
 Inv-loop word from n₀ beyond₀ i₀ n beyond i = n ≤ 999999999999999999
@@ -52,8 +52,8 @@ returns-4 c = search needs
 returns-5 : tie.Need-returns-5 Inv-loop μ-loop
 returns-5 c = search needs
 
-pub read-digits-spec : {M : Type 1} → statement M
-read-digits-spec =
+pub digits-from-spec : {M : Type 1} → statement M
+digits-from-spec =
     tie.close
     (tie.spec
     Inv-loop
