@@ -1,12 +1,10 @@
--- That what is found in a buffer lies inside it, and that a number fits. Assumes nothing.
+-- That what is found in a buffer lies inside it. Assumes nothing.
 use Prim.Native.Nat.{ℕ, _≤_, _+_}
 use Rattle.command.specs.declared.line.Lines.{Lines}
 use Rattle.command.specs.declared.line.Line.{Line}
 use Rattle.command.specs.declared.line.Line.the-variants as line
 use Rattle.command.specs.declared.word.Word.{Word}
 use Rattle.command.specs.declared.word.Word.the-variants as word
-use Rattle.command.specs.declared.number.Natural.{Natural}
-use Rattle.command.specs.declared.number.Natural.the-variants as natural
 
 -- the bytes read and not used yet stand in a buffer of that length
 pub record LinesWithin (lines : Lines) (size : ℕ) : Type 0 where
@@ -28,9 +26,3 @@ LineWithin line.End size = Unit {0}
 abbrev pub WordWithin : Word → ℕ → Type 0
 WordWithin (word.At from to) size = PartWithin from to size
 WordWithin word.Missing size = Unit {0}
-
--- a number of at most 18 digits
-abbrev pub NaturalWithin : Natural → Type 0
-NaturalWithin (natural.Is n) = n ≤ 999999999999999999
-NaturalWithin natural.Beyond = Unit {0}
-NaturalWithin natural.IsNot = Unit {0}
