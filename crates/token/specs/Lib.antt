@@ -1,0 +1,5 @@
+pub mod Byte
+pub mod Word
+pub mod Token
+pub mod Cut
+pub mod Table

@@ -1,0 +1,124 @@
+// How far a run of bytes goes: each function passes the bytes that belong to it, one after the other, and answers the place
+// after them.
+ghost use mathlib.Core.Path.{_≡_};
+ghost use Prim.Native.Nat.{_+_, _-_, _*_, _≤_, _<_, min};
+ghost use lib.ListN.{length, getD, take, drop};
+ghost use Rattle.token.specs.Byte.{classOf, classed, digitByte, nameByte, commentByte};
+ghost use Rattle.token.specs.Token.{decimal};
+ghost use Rattle.token.specs.Cut.{span};
+
+use crate::byte::{DIGIT, HYPHEN, NEWLINE, SMALL, class_of};
+
+// The byte at a place of the text, or 0 at its end.
+pub fn byte_at(text: &[u8], at: usize) -> u8
+    ensures { λ r. ⌜ r ≡ getD (now (text .entry)) at 0 ⌝ }
+{
+    if at < text.len() {
+        return text[at];
+    }
+    0
+}
+
+// The class of the byte at a place of the text; at its end that of byte 0, which no token and no gap has.
+pub fn class_at(text: &[u8], at: usize) -> u8
+    ensures { λ r. ⌜ r ≡ classOf (getD (now (text .entry)) at 0) ⌝ }
+{
+    class_of(byte_at(text, at))
+}
+
+// The end of the run of bytes with classes from low to high.
+pub fn run_end(text: &[u8], at: usize, low: u8, high: u8) -> usize
+    requires { ⌜ at ≤ length (now text) ⌝ }
+    ensures { λ r. ⌜ r ≡ at + span (classed low high) (drop at (now (text .entry))) ⌝ }
+{
+    let mut i = at;
+    while i < text.len() {
+        let class = class_of(text[i]);
+        if class < low {
+            return i;
+        }
+        if high < class {
+            return i;
+        }
+        i += 1;
+    }
+    i
+}
+
+// The end of the run of letters, digits, and hyphens that a letter or digit follows.
+pub fn name_end(text: &[u8], at: usize) -> usize
+    requires { ⌜ at ≤ length (now text) ⌝ }
+    ensures { λ r. ⌜ r ≡ at + span nameByte (drop at (now (text .entry))) ⌝ }
+{
+    let mut i = at;
+    while i < text.len() {
+        let class = class_of(text[i]);
+        if class < SMALL {
+            if class != HYPHEN {
+                return i;
+            }
+            if class_at(text, i + 1) < SMALL {
+                return i;
+            }
+        }
+        i += 1;
+    }
+    i
+}
+
+// The place of what ends a comment: the first of two hyphens, byte 10 or 13, or the end of the text.
+pub fn comment_end(text: &[u8], at: usize) -> usize
+    requires { ⌜ at ≤ length (now text) ⌝ }
+    ensures { λ r. ⌜ r ≡ at + span commentByte (drop at (now (text .entry))) ⌝ }
+{
+    let mut i = at;
+    while i < text.len() {
+        let class = class_of(text[i]);
+        if class == NEWLINE {
+            return i;
+        }
+        if class == HYPHEN {
+            if class_at(text, i + 1) == HYPHEN {
+                return i;
+            }
+        }
+        i += 1;
+    }
+    i
+}
+
+// A run of digits: its end and its value, or 4294967296 where the value is larger.
+pub struct Digits {
+    pub end: usize,
+    pub value: u64,
+}
+
+// The value of digits after one more digit, or 4294967296 where it is larger. The byte is a digit's.
+fn more(value: u64, byte: u8) -> u64
+    requires { ⌜ (value ≤ 4294967296) × (48 ≤ byte) × (byte ≤ 57) ⌝ }
+    ensures { λ r. ⌜ r ≡ min (10 * value + (byte - 48)) 4294967296 ⌝ }
+{
+    let next = 10 * value + (byte - 48) as u64;
+    if next < 4294967296 {
+        return next;
+    }
+    4294967296
+}
+
+// The run of digits.
+pub fn digit_run(text: &[u8], at: usize) -> Digits
+    requires { ⌜ at ≤ length (now text) ⌝ }
+    ensures { λ r. ⌜ (r .end ≡ at + span digitByte (drop at (now (text .entry)))) × (r .value ≡ min (decimal (take (r .end - at) (drop at (now (text .entry))))) 4294967296) ⌝ }
+{
+    let mut i = at;
+    let mut value = 0;
+    while i < text.len() {
+        let byte = text[i];
+        if class_of(byte) != DIGIT {
+            return Digits { end: i, value };
+        }
+        value = more(value, byte);
+        i += 1;
+    }
+    Digits { end: i, value }
+}
