@@ -26,6 +26,18 @@ pub fn class_at(text: &[u8], at: usize) -> u8
     class_of(byte_at(text, at))
 }
 
+// Whether the byte's class lies from low to high.
+fn in_run(text: &[u8], at: usize, low: u8, high: u8) -> bool
+    requires { ⌜ at < length (now text) ⌝ }
+    ensures { λ r. ⌜ r ≡ classed low high (getD (now (text .entry)) at 0) (getD (now (text .entry)) (at + 1) 0) ⌝ }
+{
+    let class = class_of(text[at]);
+    if low <= class {
+        return class <= high;
+    }
+    false
+}
+
 // The end of the run of bytes with classes from low to high.
 pub fn run_end(text: &[u8], at: usize, low: u8, high: u8) -> usize
     requires { ⌜ at ≤ length (now text) ⌝ }
@@ -33,16 +45,28 @@ pub fn run_end(text: &[u8], at: usize, low: u8, high: u8) -> usize
 {
     let mut i = at;
     while i < text.len() {
-        let class = class_of(text[i]);
-        if class < low {
+        if in_run(text, i, low, high) {
+            i += 1;
+        } else {
             return i;
         }
-        if high < class {
-            return i;
-        }
-        i += 1;
     }
     i
+}
+
+// Whether the byte is a letter, a digit, or a hyphen that a letter or digit follows.
+fn in_name(text: &[u8], at: usize) -> bool
+    requires { ⌜ at < length (now text) ⌝ }
+    ensures { λ r. ⌜ r ≡ nameByte (getD (now (text .entry)) at 0) (getD (now (text .entry)) (at + 1) 0) ⌝ }
+{
+    let class = class_of(text[at]);
+    if SMALL <= class {
+        return true;
+    }
+    if class == HYPHEN {
+        return SMALL <= class_at(text, at + 1);
+    }
+    false
 }
 
 // The end of the run of letters, digits, and hyphens that a letter or digit follows.
@@ -52,18 +76,31 @@ pub fn name_end(text: &[u8], at: usize) -> usize
 {
     let mut i = at;
     while i < text.len() {
-        let class = class_of(text[i]);
-        if class < SMALL {
-            if class != HYPHEN {
-                return i;
-            }
-            if class_at(text, i + 1) < SMALL {
-                return i;
-            }
+        if in_name(text, i) {
+            i += 1;
+        } else {
+            return i;
         }
-        i += 1;
     }
     i
+}
+
+// Whether the byte doesn't end a comment: it is not 10 or 13, and not the first of two hyphens.
+fn in_comment(text: &[u8], at: usize) -> bool
+    requires { ⌜ at < length (now text) ⌝ }
+    ensures { λ r. ⌜ r ≡ commentByte (getD (now (text .entry)) at 0) (getD (now (text .entry)) (at + 1) 0) ⌝ }
+{
+    let class = class_of(text[at]);
+    if class == NEWLINE {
+        return false;
+    }
+    if class == HYPHEN {
+        if class_at(text, at + 1) == HYPHEN {
+            return false;
+        }
+        return true;
+    }
+    true
 }
 
 // The place of what ends a comment: the first of two hyphens, byte 10 or 13, or the end of the text.
@@ -73,16 +110,11 @@ pub fn comment_end(text: &[u8], at: usize) -> usize
 {
     let mut i = at;
     while i < text.len() {
-        let class = class_of(text[i]);
-        if class == NEWLINE {
+        if in_comment(text, i) {
+            i += 1;
+        } else {
             return i;
         }
-        if class == HYPHEN {
-            if class_at(text, i + 1) == HYPHEN {
-                return i;
-            }
-        }
-        i += 1;
     }
     i
 }
@@ -114,11 +146,12 @@ pub fn digit_run(text: &[u8], at: usize) -> Digits
     let mut value = 0;
     while i < text.len() {
         let byte = text[i];
-        if class_of(byte) != DIGIT {
+        if class_of(byte) == DIGIT {
+            value = more(value, byte);
+            i += 1;
+        } else {
             return Digits { end: i, value };
         }
-        value = more(value, byte);
-        i += 1;
     }
     Digits { end: i, value }
 }

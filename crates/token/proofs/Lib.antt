@@ -1,0 +1,5 @@
+pub mod Tables
+pub mod Bytes
+pub mod Span
+pub mod Decimal
+pub mod Places
