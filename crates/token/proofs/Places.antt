@@ -40,6 +40,17 @@ no-class : (t : List ℕ) (k : ℕ) → length t ≤ k → classOf (getD t k 0) 
 unfolding classOf classIn rows
 no-class t k h = ap classOf (List·getD-eq-default t 0 h)
 
+-- a byte that is not 0 is in the text
+pub byte-inside : (t : List ℕ) (k v : ℕ) → getD t k 0 ≡ v → 0 < v → k < length t
+byte-inside t k v e p = go (decLt k (length t))
+  where
+    go : Dec (k < length t) → k < length t
+    go (yes h) = h
+    go (no h) =
+        let out : length t ≤ k = omega arith in
+        let z : v ≡ 0 = sym e ∙ List·getD-eq-default t 0 out in
+        omega arith
+
 -- a byte of any other class is in the text
 pub inside : (t : List ℕ) (k v : ℕ) → classOf (getD t k 0) ≡ v → 0 < v → k < length t
 inside t k v e p = go (decLt k (length t))

@@ -42,7 +42,7 @@ name s =
 
 -- a run of n digits at the start of s is none of a number: it starts with 0 and has more digits, or a letter follows it
 -- (another digit doesn't: the run is as long as may be)
-abbrev pub misfit : List ℕ → Bool
+unfoldable pub misfit : List ℕ → Bool
 misfit s =
     (eqb (getD s 0 0) 48 && ltb 1 (span digitByte s)) || alphanumeric (getD s (span digitByte s) 0)
 

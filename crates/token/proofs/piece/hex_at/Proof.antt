@@ -8,7 +8,7 @@ use lib.ListN.{length, getD, take, drop, length-drop}
 use Rattle.token.specs.Cut.{span, hexString}
 use Rattle.token.specs.declared.piece.Found.{Found}
 use Rattle.token.specs.Byte.{classOf, digitByte, nameByte, commentByte, textByte, hexByte, blankByte}
-use Rattle.token.proofs.Places.{byte-is, byte-not, class-is, class-not, inside}
+use Rattle.token.proofs.Places.{byte-is, byte-not, class-is, class-not, inside, byte-inside}
 use borrow.Author.Needs.{needs}
 use Rattle.token.proofs.piece.hex_at.Statement.{statement}
 use Rattle.token.proofs.piece.hex_at.Tie as tie
@@ -34,7 +34,10 @@ byte-at-requires c κs = search needs
 
 add-t10 : tie.Need-add-t10
 add-t10 c =
-    ?
+    let s = c .before .before .before .before .before .before in
+    let t = s .args .text .now in
+    let at = s .args .at in
+    omega (arith, byte-inside t (c .before .before .before .before .run-end .result + 1) 72 (sym (c .before .byte-at .ensures) ∙ c .if2 .taken) (omega arith))
 
 returns : tie.Need-returns
 unfolding hexString

@@ -2,11 +2,9 @@
 -- Assumes nothing.
 use mathlib.Core.Path.{_≡_, refl, sym, ap, _∙_}
 use mathlib.Core.Logic.{⊎-elim}
-use mathlib.Core.Bool.{Bool, true, false, and-false}
 use Prim.Native.Nat.{ℕ, _+_, _-_, _≤_, _<_}
 use native.Mathlib.Omega.{arith}
 use borrow.Author.Tests.{le-leb, lt-leb, lt-ltb, le-ltb, eq-eqb, ne-eqb}
-use lib.Dec.{leb, ltb, eqb}
 use lib.ListN.{length, getD, take, drop, length-drop}
 use Rattle.token.specs.Cut.{span, misfit}
 use Rattle.token.specs.Byte.{classOf, digitByte, nameByte, commentByte, textByte, hexByte, blankByte}
@@ -22,6 +20,7 @@ sub-if2 : tie.Need-sub-if2
 sub-if2 c = search needs
 
 returns : tie.Need-returns
+unfolding misfit
 returns c =
     let s = c .before .before .before .before in
     let t = s .args .text .now in
@@ -32,6 +31,7 @@ class-at-requires : tie.Need-class-at-requires
 class-at-requires c κs = search needs
 
 returns-2 : tie.Need-returns-2
+unfolding misfit
 returns-2 c =
     let s = c .before .before .before .before in
     let t = s .args .text .now in
@@ -39,7 +39,10 @@ returns-2 c =
     let n = span digitByte (drop at t) in
     let letter : classOf (getD (drop at t) n 0) ≡ c .class-at .result =
         class-there t at n (s .args .end) (sym (s .pre)) (c .class-at .ensures) in
-    let later = simp letter ?h in ?
+    ⊎-elim
+    (λ w. simp (byte-is t at 0 at (omega arith) (c .before .before .byte-at .ensures) (w .0 .taken), le-ltb 1 n (omega (arith, w .1 .left)), letter))
+    (λ w. simp (byte-not t at 0 at (omega arith) (c .before .before .byte-at .ensures) (w .left), letter))
+    (c .before .if1 .came)
 
 pub is-misfit-spec : {M : Type 1} → statement M
 is-misfit-spec = tie.close (tie.spec byte-at-requires sub-if2 returns class-at-requires returns-2)

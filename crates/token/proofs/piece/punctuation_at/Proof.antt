@@ -1,65 +1,64 @@
+-- `punctuation_at` is right because it asks the class what the definition asks, in the same order.
+-- Assumes nothing.
+use native.Mathlib.Nat.{add-zero}
+use borrow.Author.Tests.{le-leb, lt-leb, lt-ltb, le-ltb, eq-eqb, ne-eqb}
+use Rattle.token.specs.Cut.{punctuation}
 use borrow.Author.Needs.{needs}
 use Rattle.token.proofs.piece.punctuation_at.Statement.{statement}
 use Rattle.token.proofs.piece.punctuation_at.Tie as tie
-use Rattle.token.proofs.piece.punctuation_at.Reads as reads
-use Rattle.token.proofs.piece.punctuation_at.Lts as lts
-use Rattle.token.proofs.piece.colon_at.Reads as colon-at-reads
-use Rattle.token.proofs.piece.dot_at.Reads as dot-at-reads
-use Rattle.token.proofs.piece.hex_at.Reads as hex-at-reads
-use Rattle.token.proofs.piece.hyphen_at.Reads as hyphen-at-reads
-use Rattle.token.proofs.piece.text_at.Reads as text-at-reads
 
--- src/piece.rt:171:36
 add-t5 : tie.Need-add-t5
 add-t5 c = search needs
 
--- src/piece.rt:171:9
 returns : tie.Need-returns
-returns c = ?
+unfolding punctuation
+returns c =
+    simp (le-leb _ _ (c .if1 .taken))
 
--- src/piece.rt:174:9
 hyphen-at-requires : tie.Need-hyphen-at-requires
 hyphen-at-requires c κs = search needs
 
--- src/piece.rt:174:9
 returns-2 : tie.Need-returns-2
-returns-2 c = ?
+unfolding punctuation
+returns-2 c =
+    simp (lt-leb _ _ (c .before .before .if1 .left), eq-eqb _ _ (c .before .if2 .taken)) (c .hyphen-at .ensures)
 
--- src/piece.rt:177:9
 text-at-requires : tie.Need-text-at-requires
 text-at-requires c κs = search needs
 
--- src/piece.rt:177:9
 returns-3 : tie.Need-returns-3
-returns-3 c = ?
+unfolding punctuation
+returns-3 c =
+    simp (lt-leb _ _ (c .before .before .before .if1 .left), ne-eqb _ _ (c .before .before .if2 .left), eq-eqb _ _ (c .before .if3 .taken)) (c .text-at .ensures)
 
--- src/piece.rt:180:9
 colon-at-requires : tie.Need-colon-at-requires
 colon-at-requires c κs = search needs
 
--- src/piece.rt:180:9
 returns-4 : tie.Need-returns-4
-returns-4 c = ?
+unfolding punctuation
+returns-4 c =
+    simp (lt-leb _ _ (c .before .before .before .before .if1 .left), ne-eqb _ _ (c .before .before .before .if2 .left), ne-eqb _ _ (c .before .before .if3 .left), eq-eqb _ _ (c .before .if4 .taken)) (c .colon-at .ensures)
 
--- src/piece.rt:183:9
 dot-at-requires : tie.Need-dot-at-requires
 dot-at-requires c κs = search needs
 
--- src/piece.rt:183:9
 returns-5 : tie.Need-returns-5
-returns-5 c = ?
+unfolding punctuation
+returns-5 c =
+    simp (lt-leb _ _ (c .before .before .before .before .before .if1 .left), ne-eqb _ _ (c .before .before .before .before .if2 .left), ne-eqb _ _ (c .before .before .before .if3 .left), ne-eqb _ _ (c .before .before .if4 .left), eq-eqb _ _ (c .before .if5 .taken)) (c .dot-at .ensures)
 
--- src/piece.rt:186:9
 hex-at-requires : tie.Need-hex-at-requires
 hex-at-requires c κs = search needs
 
--- src/piece.rt:186:9
 returns-6 : tie.Need-returns-6
-returns-6 c = ?
+unfolding punctuation
+returns-6 c =
+    simp (lt-leb _ _ (c .before .before .before .before .before .before .if1 .left), ne-eqb _ _ (c .before .before .before .before .before .if2 .left), ne-eqb _ _ (c .before .before .before .before .if3 .left), ne-eqb _ _ (c .before .before .before .if4 .left), ne-eqb _ _ (c .before .before .if5 .left), eq-eqb _ _ (c .before .if6 .taken)) (c .hex-at .ensures)
 
--- src/piece.rt:166:1
 returns-7 : tie.Need-returns-7
-returns-7 c = ?
+unfolding punctuation
+returns-7 c =
+    simp (lt-leb _ _ (c .before .before .before .before .before .if1 .left), ne-eqb _ _ (c .before .before .before .before .if2 .left), ne-eqb _ _ (c .before .before .before .if3 .left), ne-eqb _ _ (c .before .before .if4 .left), ne-eqb _ _ (c .before .if5 .left), ne-eqb _ _ (c .if6 .left), add-zero)
 
 pub punctuation-at-spec : {M : Type 1} → statement M
 punctuation-at-spec =
