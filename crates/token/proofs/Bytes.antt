@@ -26,7 +26,7 @@ right b class = eqb class (classOf b) && digitsOnly b class
 
 rule : (b : ℕ) → b < 256 → T (right b (getD byteClasses b 0))
 unfolding right classOf classIn rows byteClasses
-rule b h = tested right byteClasses tt b h
+rule b h = tested right 0 byteClasses tt b h
 
 -- the entry of a byte is its class
 pub entry-class : (b : ℕ) → b < 256 → getD byteClasses b 0 ≡ classOf b

@@ -3,3 +3,4 @@ pub mod Bytes
 pub mod Span
 pub mod Decimal
 pub mod Places
+pub mod Words

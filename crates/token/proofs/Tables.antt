@@ -16,18 +16,19 @@ pub second-of : (a b : Bool) → T (a && b) → T b
 second-of true b t = t
 second-of false b t = absurd t
 
--- the test passes at every entry, counted from i
-abbrev pub passes : (ℕ → ℕ → Bool) → ℕ → List ℕ → Bool
-passes test i [] = true
-passes test i (x ∷ xs) = test i x && passes test (suc i) xs
+module _ {A : Type 0} (test : ℕ → A → Bool) where
+  -- the test passes at every entry, counted from i
+  abbrev pub passes : ℕ → List A → Bool
+  passes i [] = true
+  passes i (x ∷ xs) = test i x && passes (suc i) xs
 
-counted : (test : ℕ → ℕ → Bool) (i : ℕ) (xs : List ℕ) (k : ℕ) → T (passes test i xs) → k < length xs → T (test (i + k) (getD xs k 0))
-counted test i [] k t h = absurd (not-suc-le-zero h)
-counted test i (x ∷ xs) zero t h = rw add-zero (first-of (test i x) (passes test (suc i) xs) t)
-counted test i (x ∷ xs) (suc k) t h =
-    subst (λ (n : ℕ). T (test n (getD xs k 0))) (suc-add i k ∙ sym (add-suc i k))
-    (counted test (suc i) xs k (second-of (test i x) (passes test (suc i) xs) t) (le-of-suc-le-suc h))
+  counted : (d : A) (i : ℕ) (xs : List A) (k : ℕ) → T (passes i xs) → k < length xs → T (test (i + k) (getD xs k d))
+  counted d i [] k t h = absurd (not-suc-le-zero h)
+  counted d i (x ∷ xs) zero t h = rw add-zero (first-of (test i x) (passes (suc i) xs) t)
+  counted d i (x ∷ xs) (suc k) t h =
+      subst (λ (n : ℕ). T (test n (getD xs k d))) (suc-add i k ∙ sym (add-suc i k))
+      (counted d (suc i) xs k (second-of (test i x) (passes (suc i) xs) t) (le-of-suc-le-suc h))
 
--- what the computed test says of the entry at k
-pub tested : (test : ℕ → ℕ → Bool) (xs : List ℕ) → T (passes test 0 xs) → (k : ℕ) → k < length xs → T (test k (getD xs k 0))
-tested test xs t k h = rw (zero-add k) at (counted test 0 xs k t h)
+  -- what the computed test says of the entry at k
+  pub tested : (d : A) (xs : List A) → T (passes 0 xs) → (k : ℕ) → k < length xs → T (test k (getD xs k d))
+  tested d xs t k h = rw (zero-add k) at (counted d 0 xs k t h)

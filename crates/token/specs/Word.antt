@@ -2,10 +2,10 @@
 -- a word's place in it is its class, the number that the terminal of that name has.
 -- Assumes nothing.
 use mathlib.Core.Bool.{Bool, true, false, cond, _&&_}
-use mathlib.Core.List.{List, [], _∷_}
+use mathlib.Core.List.{List, [], _∷_, _++_}
 use Prim.Native.Nat.{ℕ, suc}
 use lib.Dec.{eqb, leb, ltb}
-use lib.ListN.{getD}
+use lib.ListN.{length, getD, take}
 use Rattle.terminal.specs.Terminal.{lower, Upper}
 use Rattle.token.specs.Byte.{classOf, capital-hex}
 
@@ -68,6 +68,15 @@ same (x ∷ xs) (y ∷ ys) = eqb x y && same xs ys
 unfoldable pub placeIn : List ℕ → List (List ℕ) → ℕ
 placeIn s [] = 0
 placeIn s (w ∷ ws) = cond (same s w) 0 (suc (placeIn s ws))
+
+-- the words' spellings, one after the other
+unfoldable pub joined : List (List ℕ) → List ℕ
+joined [] = []
+joined (w ∷ ws) = w ++ joined ws
+
+-- where the word at k starts among the joined spellings
+abbrev pub startOf : List (List ℕ) → ℕ → ℕ
+startOf ws k = length (joined (take k ws))
 
 -- how many words there are
 abbrev pub wordCount : ℕ

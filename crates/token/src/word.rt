@@ -1,10 +1,10 @@
 // The words of the grammar, looked up by a hash of a name's first byte, last byte and length: no two words share a slot, so
 // one comparison decides. specs/Word.antt has the same words in the same order.
 ghost use mathlib.Core.Path.{_≡_};
-ghost use Prim.Native.Nat.{_-_, _<_, _≤_};
-ghost use lib.ListN.{length, getD};
+ghost use Prim.Native.Nat.{_+_, _-_, _<_, _≤_};
+ghost use lib.ListN.{length, getD, take, drop};
 ghost use mathlib.Core.List.{[]};
-ghost use Rattle.token.specs.Word.{words, same, placeIn, nameClass};
+ghost use Rattle.token.specs.Word.{words, same, startOf, placeIn, nameClass};
 ghost use Rattle.token.specs.Table.{between};
 
 use crate::byte::{CAPITAL_HEX, class_of};
@@ -577,26 +577,41 @@ const SLOTS: [usize; 128] = [
     43,
 ];
 
+// Where the spelling of the word k starts; of 43, where the last one ends.
+fn spelling_start(k: usize) -> usize
+    requires { ⌜ k ≤ 43 ⌝ }
+    ensures { λ r. ⌜ r ≡ startOf words k ⌝ }
+{
+    SPELLING_STARTS[k]
+}
+
+// Whether n bytes of a, from its place i on, are those of b from its place j on.
+pub fn same_part(a: &[u8], i: usize, b: &[u8], j: usize, n: usize) -> bool
+    requires { ⌜ (i + n ≤ length (now a)) × (j + n ≤ length (now b)) ⌝ }
+    ensures { λ r. ⌜ r ≡ same (take n (drop i (now (a .entry)))) (take n (drop j (now (b .entry)))) ⌝ }
+{
+    let mut k = 0;
+    while k < n {
+        if a[i + k] == b[j + k] {
+            k += 1;
+        } else {
+            return false;
+        }
+    }
+    true
+}
+
 // Whether the name from start to end of the text is the word k.
 fn is_word(text: &[u8], start: usize, end: usize, k: usize) -> bool
     requires { ⌜ (start ≤ end) × (end ≤ length (now text)) × (k < 43) ⌝ }
     ensures { λ r. ⌜ r ≡ same (between (now (text .entry)) start end) (getD words k []) ⌝ }
 {
-    let from = SPELLING_STARTS[k];
-    let to = SPELLING_STARTS[k + 1];
-    if to - from != end - start {
+    let from = spelling_start(k);
+    let n = spelling_start(k + 1) - from;
+    if n != end - start {
         return false;
     }
-    let mut i = start;
-    let mut j = from;
-    while i < end {
-        if text[i] != SPELLINGS[j] {
-            return false;
-        }
-        i += 1;
-        j += 1;
-    }
-    true
+    same_part(text, start, &SPELLINGS, from, n)
 }
 
 // The word's class that the name from start to end of the text has, or 43 where it is no word.

@@ -1,102 +1,74 @@
+-- `is_word` is right because the word stands among the joined spellings where it starts, and spellings of different lengths are not the same.
+-- Assumes nothing.
+use mathlib.Core.List.{List, [], _∷_}
+use mathlib.Core.Path.{_≡_, refl, sym, ap, _∙_}
+use Prim.Native.Nat.{ℕ, _+_, _-_, _≤_, _<_}
+use native.Mathlib.Omega.{arith}
+use lib.ListN.{length, getD, take, drop, length-drop}
+use lib.Seq.{length-take-le}
+use Rattle.token.specs.Word.{words, same, placeIn, startOf, nameClass}
+use Rattle.token.specs.Table.{between}
+use Rattle.token.proofs.Words.{word-ends, start-fits, word-at, same-length, spellings}
+use borrow.Author.Needs.{needs}
 use Rattle.token.proofs.word.is_word.Statement.{statement}
 use Rattle.token.proofs.word.is_word.Tie as tie
-use Rattle.token.proofs.word.is_word.Reads as reads
-use Rattle.token.proofs.word.is_word.Lts as lts
 
-abbrev Inv-loop : tie.InvT-loop
-Inv-loop text start end k from to i₀ j₀ i j = ?
+spelling-start-requires : tie.Need-spelling-start-requires
+spelling-start-requires c κs = search needs
 
-abbrev μ-loop : tie.MeasureT-loop
-μ-loop text start end k from to i₀ j₀ i j = ?
+add-spelling-start : tie.Need-add-spelling-start
+add-spelling-start c = search needs
 
--- src/word.rt:585:16
-mul-from : tie.Need-mul-from Inv-loop μ-loop
-mul-from c = ?
+spelling-start-requires-2 : tie.Need-spelling-start-requires-2
+spelling-start-requires-2 c κs = search needs
 
--- src/word.rt:585:16
-array-read-from : tie.Need-array-read-from Inv-loop μ-loop
-array-read-from c = ?
+sub-n : tie.Need-sub-n
+sub-n c =
+    omega (arith, word-ends (c .before .before .before .args .k) (c .before .before .before .pre .2), c .before .spelling-start .ensures, c .spelling-start2 .ensures)
 
--- src/word.rt:586:30
-add-to : tie.Need-add-to Inv-loop μ-loop
-add-to c = ?
+sub-if1 : tie.Need-sub-if1
+sub-if1 c = search needs
 
--- src/word.rt:586:14
-mul-to : tie.Need-mul-to Inv-loop μ-loop
-mul-to c = ?
+returns : tie.Need-returns
+returns c =
+    let s = c .before .before .before .before in
+    let a = s .args in
+    let n : length (between (a .text .now) (a .start) (a .end)) ≡ a .end - a .start =
+        length-take-le (a .end - a .start) (drop (a .start) (a .text .now)) (omega (arith, length-drop (a .start) (a .text .now))) in
+    sym (same-length (between (a .text .now) (a .start) (a .end)) (getD words (a .k) [])
+      (λ e. c .if1 .taken (omega (arith, word-ends (a .k) (s .pre .2), c .before .before .spelling-start .ensures, c .before .spelling-start2 .ensures))))
 
--- src/word.rt:586:14
-array-read-to : tie.Need-array-read-to Inv-loop μ-loop
-array-read-to c = ?
+slice-aggregate-same-part : tie.Need-slice-aggregate-same-part
+slice-aggregate-same-part c = search needs
 
--- src/word.rt:587:8
-sub-if1 : tie.Need-sub-if1 Inv-loop μ-loop
-sub-if1 c = ?
+same-part-requires : tie.Need-same-part-requires
+same-part-requires c κs =
+    omega (arith, word-ends (c .before .before .before .before .before .args .k) (c .before .before .before .before .before .pre .2), start-fits (c .before .before .before .before .before .args .k + 1), c .before .before .before .spelling-start .ensures, c .before .before .spelling-start2 .ensures)
 
--- src/word.rt:587:21
-sub-if1-2 : tie.Need-sub-if1-2 Inv-loop μ-loop
-sub-if1-2 c = ?
-
--- src/word.rt:588:9
-returns : tie.Need-returns Inv-loop μ-loop
-returns c = ?
-
--- src/word.rt:592:5
-loop-holds : tie.Need-loop-holds Inv-loop μ-loop
-loop-holds c = ?
-
--- src/word.rt:593:12
-shared-slice-read-if2 : tie.Need-shared-slice-read-if2 Inv-loop μ-loop
-shared-slice-read-if2 c = ?
-
--- src/word.rt:593:23
-array-read-if2 : tie.Need-array-read-if2 Inv-loop μ-loop
-array-read-if2 c = ?
-
--- src/word.rt:594:13
-returns-2 : tie.Need-returns-2 Inv-loop μ-loop
-returns-2 c = ?
-
--- src/word.rt:596:9
-add-i : tie.Need-add-i Inv-loop μ-loop
-add-i c = ?
-
--- src/word.rt:597:9
-add-j : tie.Need-add-j Inv-loop μ-loop
-add-j c = ?
-
--- src/word.rt:592:5
-loop-less : tie.Need-loop-less Inv-loop μ-loop
-loop-less c = ?
-
--- src/word.rt:592:5
-loop-again : tie.Need-loop-again Inv-loop μ-loop
-loop-again c = ?
-
--- src/word.rt:581:1
-returns-3 : tie.Need-returns-3 Inv-loop μ-loop
-returns-3 c = ?
+returns-2 : tie.Need-returns-2
+unfolding spellings
+returns-2 c =
+    let s = c .before .before .before .before .before .before in
+    let a = s .args in
+    let from = c .before .before .before .before .spelling-start in
+    let to = c .before .before .before .spelling-start2 in
+    let n : to .result - from .result ≡ a .end - a .start = c .before .before .if1 .left in
+    let word : take (to .result - from .result) (drop (from .result) spellings) ≡ getD words (a .k) [] =
+        rw (from .ensures) (word-at (a .k) (to .result - startOf words (a .k)) (s .pre .2) (ap (λ (m : ℕ). m - startOf words (a .k)) (to .ensures))) in
+    c .same-part .ensures
+    ∙ ap (λ (m : ℕ). same (take m (drop (a .start) (a .text .now))) (take (to .result - from .result) (drop (from .result) spellings))) n
+    ∙ ap (λ (w : List ℕ). same (between (a .text .now) (a .start) (a .end)) w) word
 
 pub is-word-spec : {M : Type 1} → statement M
 is-word-spec =
     tie.close
     (tie.spec
-    Inv-loop
-    μ-loop
-    mul-from
-    array-read-from
-    add-to
-    mul-to
-    array-read-to
+    spelling-start-requires
+    add-spelling-start
+    spelling-start-requires-2
+    sub-n
     sub-if1
-    sub-if1-2
     returns
-    loop-holds
-    shared-slice-read-if2
-    array-read-if2
-    returns-2
-    add-i
-    add-j
-    loop-less
-    loop-again
-    returns-3)
+    slice-aggregate-same-part
+    same-part-requires
+    returns-2)

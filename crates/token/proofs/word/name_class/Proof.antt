@@ -1,38 +1,61 @@
+-- `name_class` is right because the word's place decides, and else the first letter's class, which is that of the text's byte at the start.
+-- Assumes nothing.
+use mathlib.Core.Path.{_≡_, refl, sym, ap, _∙_}
+use Prim.Native.Nat.{ℕ, _+_, _-_, _≤_, _<_}
+use native.Mathlib.Omega.{arith}
+use borrow.Author.Tests.{le-leb, lt-leb, lt-ltb, le-ltb, eq-eqb, ne-eqb}
+use lib.ListN.{length, getD, take, drop, length-drop}
+use lib.Seq.{getD-take}
+use Rattle.token.specs.Byte.{classOf}
+use Rattle.token.specs.Word.{words, same, placeIn, startOf, nameClass}
+use Rattle.token.specs.Table.{between}
+use Rattle.token.proofs.Places.{byte-there}
 use borrow.Author.Needs.{needs}
 use Rattle.token.proofs.word.name_class.Statement.{statement}
 use Rattle.token.proofs.word.name_class.Tie as tie
-use Rattle.token.proofs.word.name_class.Reads as reads
-use Rattle.token.proofs.word.name_class.Lts as lts
-use Rattle.token.proofs.byte.class_of.Reads as class-of-reads
-use Rattle.token.proofs.word.word_of.Reads as word-of-reads
 
--- src/word.rt:624:9
 word-of-requires : tie.Need-word-of-requires
 word-of-requires c κs = search needs
 
--- src/word.rt:626:16
 cast-result : tie.Need-cast-result
 cast-result c = search needs
 
--- src/word.rt:626:9
 returns : tie.Need-returns
-returns c = ?
+unfolding nameClass
+returns c =
+    let s = c .before .before .before in
+    let a = s .args in
+    let name = between (a .text .now) (a .start) (a .end) in
+    let place : placeIn name words ≡ c .before .word-of .result = sym (c .before .word-of .ensures) in
+    simp (place, lt-ltb _ _ (c .if1 .taken))
 
--- src/word.rt:628:32
 shared-slice-read-class-of : tie.Need-shared-slice-read-class-of
 shared-slice-read-class-of c = search needs
 
--- src/word.rt:628:23
 class-of-requires : tie.Need-class-of-requires
 class-of-requires c κs = search needs
 
--- src/word.rt:629:9
 returns-2 : tie.Need-returns-2
-returns-2 c = ?
+unfolding nameClass
+returns-2 c =
+    let s = c .before .before .before .before .before .before in
+    let a = s .args in
+    let name = between (a .text .now) (a .start) (a .end) in
+    let place : placeIn name words ≡ c .before .before .before .before .word-of .result = sym (c .before .before .before .before .word-of .ensures) in
+    let first : classOf (getD name 0 0) ≡ c .before .class-of .result =
+        ap classOf (getD-take (a .end - a .start) (drop (a .start) (a .text .now)) 0 0 (omega arith) ∙ byte-there (a .text .now) (a .start) 0 (a .start) (omega arith)) ∙ sym (c .before .class-of .ensures) in
+    simp (place, le-ltb _ _ (c .before .before .before .if1 .left), first, le-leb _ _ (c .if2 .taken))
 
--- src/word.rt:620:1
 returns-3 : tie.Need-returns-3
-returns-3 c = ?
+unfolding nameClass
+returns-3 c =
+    let s = c .before .before .before .before .before .before in
+    let a = s .args in
+    let name = between (a .text .now) (a .start) (a .end) in
+    let place : placeIn name words ≡ c .before .before .before .before .word-of .result = sym (c .before .before .before .before .word-of .ensures) in
+    let first : classOf (getD name 0 0) ≡ c .before .class-of .result =
+        ap classOf (getD-take (a .end - a .start) (drop (a .start) (a .text .now)) 0 0 (omega arith) ∙ byte-there (a .text .now) (a .start) 0 (a .start) (omega arith)) ∙ sym (c .before .class-of .ensures) in
+    simp (place, le-ltb _ _ (c .before .before .before .if1 .left), first, lt-leb _ _ (c .if2 .left))
 
 pub name-class-spec : {M : Type 1} → statement M
 name-class-spec =

@@ -1,77 +1,91 @@
+-- `word_of` is right because the slot that the code reads is the name's, by the law of the look-up.
+-- Assumes nothing.
+use mathlib.Core.Path.{_≡_, refl, sym, ap, _∙_}
+use mathlib.Core.Bool.{Bool, true, false}
+use Prim.Native.Nat.{ℕ, _+_, _-_, _≤_, _<_}
+use native.Mathlib.Omega.{arith}
+use lib.ListN.{length, getD, take, drop, length-drop}
+use Rattle.token.specs.Word.{words, same, placeIn, startOf, nameClass}
+use Rattle.token.specs.Table.{between}
+use Rattle.token.proofs.Words.{slots, found, not-found, slot-part}
 use borrow.Author.Needs.{needs}
 use Rattle.token.proofs.word.word_of.Statement.{statement}
 use Rattle.token.proofs.word.word_of.Tie as tie
-use Rattle.token.proofs.word.word_of.Reads as reads
-use Rattle.token.proofs.word.word_of.Lts as lts
-use Rattle.token.proofs.word.is_word.Reads as is-word-reads
 
--- src/word.rt:607:17
 shared-slice-read-first : tie.Need-shared-slice-read-first
 shared-slice-read-first c = search needs
 
--- src/word.rt:607:17
 cast-first : tie.Need-cast-first
-cast-first c = ?
+cast-first c =
+    omega (arith, c .shared-slice-known2 .given (c .before .before .args .start))
 
--- src/word.rt:608:21
 sub-last : tie.Need-sub-last
 sub-last c = search needs
 
--- src/word.rt:608:16
 shared-slice-read-last : tie.Need-shared-slice-read-last
 shared-slice-read-last c = search needs
 
--- src/word.rt:608:16
 cast-last : tie.Need-cast-last
-cast-last c = ?
+cast-last c =
+    omega (arith, c .shared-slice-known3 .given (c .before .before .before .args .end - 1))
 
--- src/word.rt:609:20
 mul-k : tie.Need-mul-k
-mul-k c = ?
+mul-k c =
+    omega (arith, c .before .shared-slice-known2 .given (c .before .before .before .args .start), c .shared-slice-known3 .given (c .before .before .before .args .end - 1))
 
--- src/word.rt:609:32
 mul-k-2 : tie.Need-mul-k-2
-mul-k-2 c = ?
+mul-k-2 c =
+    omega (arith, c .before .shared-slice-known2 .given (c .before .before .before .args .start), c .shared-slice-known3 .given (c .before .before .before .args .end - 1))
 
--- src/word.rt:609:20
 add-k : tie.Need-add-k
-add-k c = ?
+add-k c =
+    omega (arith, c .before .shared-slice-known2 .given (c .before .before .before .args .start), c .shared-slice-known3 .given (c .before .before .before .args .end - 1))
 
--- src/word.rt:609:49
 sub-k : tie.Need-sub-k
 sub-k c = search needs
 
--- src/word.rt:609:44
 mul-k-3 : tie.Need-mul-k-3
 mul-k-3 c = search needs
 
--- src/word.rt:609:20
 add-k-2 : tie.Need-add-k-2
-add-k-2 c = ?
+add-k-2 c =
+    omega (arith, c .before .shared-slice-known2 .given (c .before .before .before .args .start), c .shared-slice-known3 .given (c .before .before .before .args .end - 1))
 
--- src/word.rt:609:13
 mul-k-4 : tie.Need-mul-k-4
 mul-k-4 c = search needs
 
--- src/word.rt:609:13
 array-read-k : tie.Need-array-read-k
 array-read-k c = search needs
 
--- src/word.rt:611:9
 returns : tie.Need-returns
-returns c = ?
+unfolding slots
+returns c =
+    let s = c .before .before .before .before in
+    let a = s .args in
+    let name = between (a .text .now) (a .start) (a .end) in
+    let slot = slot-part (a .text .now) (a .start) (a .end) (s .pre .0) (s .pre .1) in
+    not-found name _ (ap (λ (n : ℕ). getD slots n 0) slot) (λ h. absurd (omega arith))
 
--- src/word.rt:613:8
 is-word-requires : tie.Need-is-word-requires
 is-word-requires c κs = search needs
 
--- src/word.rt:614:9
 returns-2 : tie.Need-returns-2
-returns-2 c = ?
+unfolding slots
+returns-2 c =
+    let s = c .before .before .before .before .before .before in
+    let a = s .args in
+    let name = between (a .text .now) (a .start) (a .end) in
+    let slot = slot-part (a .text .now) (a .start) (a .end) (s .pre .0) (s .pre .1) in
+    found name _ (ap (λ (n : ℕ). getD slots n 0) slot) (omega arith) (sym (c .before .is-word .ensures) ∙ c .if2 .taken)
 
--- src/word.rt:603:1
 returns-3 : tie.Need-returns-3
-returns-3 c = ?
+unfolding slots
+returns-3 c =
+    let s = c .before .before .before .before .before .before in
+    let a = s .args in
+    let name = between (a .text .now) (a .start) (a .end) in
+    let slot = slot-part (a .text .now) (a .start) (a .end) (s .pre .0) (s .pre .1) in
+    not-found name _ (ap (λ (n : ℕ). getD slots n 0) slot) (λ h. sym (c .before .is-word .ensures) ∙ c .if2 .left)
 
 pub word-of-spec : {M : Type 1} → statement M
 word-of-spec =
