@@ -4,3 +4,4 @@ pub mod Span
 pub mod Decimal
 pub mod Places
 pub mod Words
+pub mod Pieces
