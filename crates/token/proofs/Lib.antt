@@ -5,3 +5,5 @@ pub mod Decimal
 pub mod Places
 pub mod Words
 pub mod Pieces
+pub mod Left
+pub mod Progress

@@ -55,3 +55,8 @@ abbrev pub foundAt : ℕ → Piece → Found
 foundAt at (gap n) = Found.Piece gapClass (at + n)
 foundAt at (token c n) = Found.Piece c (at + n)
 foundAt at (refusal r d) = Found.Refused r (record { 0 = at + d })
+
+-- the answer to what the code found, where that is a refusal
+abbrev pub refusalOf : Found → Answer
+refusalOf (Found.Piece c e) = Tokens 0
+refusalOf (Found.Refused n p) = Refused n p
