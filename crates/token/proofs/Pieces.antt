@@ -12,12 +12,13 @@ use lib.Seq.{length-take-le}
 use borrow.Author.Tests.{leb-true, leb-false, ltb-true, eqb-true, lt-leb, le-leb}
 use Rattle.terminal.specs.Terminal.{number, negative}
 use Rattle.token.specs.Byte.{Row, classOf, classIn, rows, quote, hyphen, apostrophe, digit, small, digitByte, hexByte, textByte, nameByte, commentByte, blankByte, twoHyphens, alphanumeric}
-use Rattle.token.specs.Word.{words, placeIn, nameClass}
+use Rattle.token.specs.Word.{words, wordClasses, placeIn, nameClass}
 use Rattle.token.specs.Token.{decimal, isName}
 use Rattle.token.specs.Cut.{Piece, gap, token, refusal, span, name, misfit, nonNegative, belowZero, closing, comment, afterHyphen, quoted, hexString, afterColon, afterDot, punctuation, piece}
 use Rattle.token.proofs.Bytes.{small-or-mark}
 use Rattle.token.proofs.Places.{inside, byte-inside}
 use Rattle.token.proofs.Span.{span-in}
+use Rattle.token.proofs.Words.{word-class}
 
 abbrev pub Fits : List ℕ → Piece → Type 0
 Fits s (gap n) = (1 ≤ n) × (n ≤ length s)
@@ -41,8 +42,10 @@ name-class-bound : (s : List ℕ) → nameClass s ≤ 44
 unfolding nameClass
 name-class-bound s = go (ltb (placeIn s words) 43) refl (leb 63 (classOf (getD s 0 0)))
   where
-    go : (a : Bool) → ltb (placeIn s words) 43 ≡ a → (b : Bool) → cond a (placeIn s words) (cond b 44 43) ≤ 44
-    go true e b = omega (arith, ltb-true (placeIn s words) 43 e)
+    go : (a : Bool) → ltb (placeIn s words) 43 ≡ a → (b : Bool) → cond a (getD wordClasses (placeIn s words) 0) (cond b 44 43) ≤ 44
+    go true e b =
+        let h : placeIn s words < 43 = ltb-true (placeIn s words) 43 e in
+        omega (arith, word-class (placeIn s words) h)
     go false e true = omega arith
     go false e false = omega arith
 

@@ -12,7 +12,7 @@ use lib.Dec.{T, eqb, eqb→eq, ltb}
 use lib.ListN.{length, getD, take, drop, length-append, length-take, length-drop}
 use lib.Seq.{drop-cons, take-append-seam, drop-append-seam, drop-append-add, getD-take, length-take-le}
 use borrow.Author.Tests.{eq-eqb, ne-eqb, eqb-true}
-use Rattle.token.specs.Word.{words, same, placeIn, joined, startOf}
+use Rattle.token.specs.Word.{words, wordTable, wordClasses, word, bytes, same, placeIn, joined, startOf}
 use Rattle.token.proofs.Places.{byte-there}
 use Rattle.token.proofs.Tables.{tested}
 
@@ -47,8 +47,16 @@ own-slot : ℕ → List ℕ → Bool
 own-slot k w = eqb (getD slots (slotOf w) 0) k
 
 pub word-slot : (k : ℕ) → k < 43 → getD slots (slotOf (getD words k [])) 0 ≡ k
-unfolding own-slot slots words
+unfolding own-slot slots words wordTable word bytes
 word-slot k h = eqb→eq _ _ (tested own-slot [] words tt k h)
+
+-- the words stand in the order of the terminals: the word at k has the class k
+own-class : ℕ → ℕ → Bool
+own-class k class = eqb class k
+
+pub word-class : (k : ℕ) → k < 43 → getD wordClasses k 0 ≡ k
+unfolding own-class wordClasses wordTable word
+word-class k h = eqb→eq (getD wordClasses k 0) k (tested own-class 0 wordClasses tt k h)
 
 -- a spelling's place is that of a word that is the same, or the list's length
 place-same : (s : List ℕ) (ws : List (List ℕ)) → placeIn s ws < length ws → same s (getD ws (placeIn s ws) []) ≡ true
@@ -81,19 +89,19 @@ place-first s (w ∷ ws) (suc k) h e = go (same s w) (place-first s ws k (omega 
 
 -- a word is found in its slot
 slot-of-place : (s : List ℕ) → placeIn s words < 43 → getD slots (slotOf s) 0 ≡ placeIn s words
-unfolding words
+unfolding words wordTable word bytes
 slot-of-place s h =
     let e : s ≡ getD words (placeIn s words) [] = same-equal s (getD words (placeIn s words) []) (place-same s words h) in
     ap (λ (w : List ℕ). getD slots (slotOf w) 0) e ∙ word-slot (placeIn s words) h
 
 pub found : (s : List ℕ) (k : ℕ) → getD slots (slotOf s) 0 ≡ k → k < 43 → same s (getD words k []) ≡ true → k ≡ placeIn s words
-unfolding words
+unfolding words wordTable word bytes
 found s k e h q =
     let first : placeIn s words ≤ k = place-first s words k h q in
     sym e ∙ slot-of-place s (omega arith)
 
 pub not-found : (s : List ℕ) (k : ℕ) → getD slots (slotOf s) 0 ≡ k → (k < 43 → same s (getD words k []) ≡ false) → 43 ≡ placeIn s words
-unfolding words
+unfolding words wordTable word bytes
 not-found s k e h = go (decLt (placeIn s words) 43)
   where
     go : Dec (placeIn s words < 43) → 43 ≡ placeIn s words
@@ -164,15 +172,15 @@ spellings =
     65 ∷ 85 ∷ 71 ∷ 77 ∷ 69 ∷ 78 ∷ 84 ∷ 83 ∷ 66 ∷ 69 ∷ 71 ∷ 73 ∷ 78 ∷ 66 ∷ 73 ∷ 84 ∷ 83 ∷ 67 ∷ 79 ∷ 78 ∷ 84 ∷ 65 ∷ 67 ∷ 84 ∷ 45 ∷ 73 ∷ 78 ∷ 70 ∷ 79 ∷ 68 ∷ 69 ∷ 70 ∷ 73 ∷ 78 ∷ 73 ∷ 84 ∷ 73 ∷ 79 ∷ 78 ∷ 83 ∷ 68 ∷ 69 ∷ 70 ∷ 86 ∷ 65 ∷ 76 ∷ 68 ∷ 69 ∷ 83 ∷ 67 ∷ 82 ∷ 73 ∷ 80 ∷ 84 ∷ 73 ∷ 79 ∷ 78 ∷ 68 ∷ 73 ∷ 83 ∷ 80 ∷ 76 ∷ 65 ∷ 89 ∷ 45 ∷ 72 ∷ 73 ∷ 78 ∷ 84 ∷ 69 ∷ 78 ∷ 68 ∷ 70 ∷ 82 ∷ 79 ∷ 77 ∷ 73 ∷ 68 ∷ 69 ∷ 78 ∷ 84 ∷ 73 ∷ 70 ∷ 73 ∷ 69 ∷ 82 ∷ 73 ∷ 77 ∷ 80 ∷ 76 ∷ 73 ∷ 69 ∷ 68 ∷ 73 ∷ 77 ∷ 80 ∷ 79 ∷ 82 ∷ 84 ∷ 83 ∷ 73 ∷ 78 ∷ 68 ∷ 69 ∷ 88 ∷ 73 ∷ 78 ∷ 84 ∷ 69 ∷ 71 ∷ 69 ∷ 82 ∷ 76 ∷ 65 ∷ 83 ∷ 84 ∷ 45 ∷ 85 ∷ 80 ∷ 68 ∷ 65 ∷ 84 ∷ 69 ∷ 68 ∷ 77 ∷ 65 ∷ 88 ∷ 45 ∷ 65 ∷ 67 ∷ 67 ∷ 69 ∷ 83 ∷ 83 ∷ 77 ∷ 79 ∷ 68 ∷ 85 ∷ 76 ∷ 69 ∷ 45 ∷ 73 ∷ 68 ∷ 69 ∷ 78 ∷ 84 ∷ 73 ∷ 84 ∷ 89 ∷ 78 ∷ 79 ∷ 84 ∷ 73 ∷ 70 ∷ 73 ∷ 67 ∷ 65 ∷ 84 ∷ 73 ∷ 79 ∷ 78 ∷ 45 ∷ 84 ∷ 89 ∷ 80 ∷ 69 ∷ 79 ∷ 66 ∷ 74 ∷ 69 ∷ 67 ∷ 84 ∷ 79 ∷ 66 ∷ 74 ∷ 69 ∷ 67 ∷ 84 ∷ 45 ∷ 73 ∷ 68 ∷ 69 ∷ 78 ∷ 84 ∷ 73 ∷ 84 ∷ 89 ∷ 79 ∷ 66 ∷ 74 ∷ 69 ∷ 67 ∷ 84 ∷ 45 ∷ 84 ∷ 89 ∷ 80 ∷ 69 ∷ 79 ∷ 66 ∷ 74 ∷ 69 ∷ 67 ∷ 84 ∷ 83 ∷ 79 ∷ 67 ∷ 84 ∷ 69 ∷ 84 ∷ 79 ∷ 70 ∷ 79 ∷ 82 ∷ 71 ∷ 65 ∷ 78 ∷ 73 ∷ 90 ∷ 65 ∷ 84 ∷ 73 ∷ 79 ∷ 78 ∷ 82 ∷ 69 ∷ 70 ∷ 69 ∷ 82 ∷ 69 ∷ 78 ∷ 67 ∷ 69 ∷ 82 ∷ 69 ∷ 86 ∷ 73 ∷ 83 ∷ 73 ∷ 79 ∷ 78 ∷ 83 ∷ 69 ∷ 81 ∷ 85 ∷ 69 ∷ 78 ∷ 67 ∷ 69 ∷ 83 ∷ 73 ∷ 90 ∷ 69 ∷ 83 ∷ 84 ∷ 65 ∷ 84 ∷ 85 ∷ 83 ∷ 83 ∷ 84 ∷ 82 ∷ 73 ∷ 78 ∷ 71 ∷ 83 ∷ 89 ∷ 78 ∷ 84 ∷ 65 ∷ 88 ∷ 84 ∷ 69 ∷ 88 ∷ 84 ∷ 85 ∷ 65 ∷ 76 ∷ 45 ∷ 67 ∷ 79 ∷ 78 ∷ 86 ∷ 69 ∷ 78 ∷ 84 ∷ 73 ∷ 79 ∷ 78 ∷ 85 ∷ 78 ∷ 73 ∷ 84 ∷ 83 ∷ 99 ∷ 117 ∷ 114 ∷ 114 ∷ 101 ∷ 110 ∷ 116 ∷ 100 ∷ 101 ∷ 112 ∷ 114 ∷ 101 ∷ 99 ∷ 97 ∷ 116 ∷ 101 ∷ 100 ∷ 111 ∷ 98 ∷ 115 ∷ 111 ∷ 108 ∷ 101 ∷ 116 ∷ 101 ∷ 110 ∷ 111 ∷ 116 ∷ 45 ∷ 97 ∷ 99 ∷ 99 ∷ 101 ∷ 115 ∷ 115 ∷ 105 ∷ 98 ∷ 108 ∷ 101 ∷ 97 ∷ 99 ∷ 99 ∷ 101 ∷ 115 ∷ 115 ∷ 105 ∷ 98 ∷ 108 ∷ 101 ∷ 45 ∷ 102 ∷ 111 ∷ 114 ∷ 45 ∷ 110 ∷ 111 ∷ 116 ∷ 105 ∷ 102 ∷ 121 ∷ 114 ∷ 101 ∷ 97 ∷ 100 ∷ 45 ∷ 111 ∷ 110 ∷ 108 ∷ 121 ∷ 114 ∷ 101 ∷ 97 ∷ 100 ∷ 45 ∷ 119 ∷ 114 ∷ 105 ∷ 116 ∷ 101 ∷ 114 ∷ 101 ∷ 97 ∷ 100 ∷ 45 ∷ 99 ∷ 114 ∷ 101 ∷ 97 ∷ 116 ∷ 101 ∷ []
 
 spellings-joined : joined words ≡ spellings
-unfolding words joined spellings
+unfolding words wordTable word bytes joined spellings
 spellings-joined = refl
 
 in-words : (k : ℕ) → k < 43 → k < length words
-unfolding words
+unfolding words wordTable word bytes
 in-words k h = h
 
 all-length : length (joined words) ≡ 384
-unfolding words joined
+unfolding words wordTable word bytes joined
 all-length = refl
 
 -- where the words stand among them

@@ -9,6 +9,7 @@ use lib.Seq.{getD-take}
 use Rattle.token.specs.Byte.{classOf}
 use Rattle.token.specs.Word.{words, same, placeIn, startOf, nameClass}
 use Rattle.token.specs.Table.{between}
+use Rattle.token.proofs.Words.{word-class}
 use Rattle.token.proofs.Places.{byte-there}
 use borrow.Author.Needs.{needs}
 use Rattle.token.proofs.word.name_class.Statement.{statement}
@@ -27,7 +28,7 @@ returns c =
     let a = s .args in
     let name = between (a .text .now) (a .start) (a .end) in
     let place : placeIn name words ≡ c .before .word-of .result = sym (c .before .word-of .ensures) in
-    simp (place, lt-ltb _ _ (c .if1 .taken))
+    simp (place, lt-ltb _ _ (c .if1 .taken), word-class _ (c .if1 .taken))
 
 shared-slice-read-class-of : tie.Need-shared-slice-read-class-of
 shared-slice-read-class-of c = search needs

@@ -7,7 +7,7 @@ use lib.Dec.{eqb, eqb→eq}
 use lib.ListN.{getD}
 use borrow.Author.Needs.{needs}
 use native.Mathlib.Omega.{arith}
-use Rattle.token.specs.Word.{words, joined, startOf}
+use Rattle.token.specs.Word.{words, wordTable, word, bytes, joined, startOf}
 use Rattle.token.proofs.Tables.{tested}
 use Rattle.token.proofs.word.spelling_start.Statement.{statement}
 use Rattle.token.proofs.word.spelling_start.Tie as tie
@@ -26,7 +26,7 @@ array-read-result : tie.Need-array-read-result
 array-read-result c = search needs
 
 returns : tie.Need-returns
-unfolding starts right words joined
+unfolding starts right words wordTable word bytes joined
 returns c = eqb→eq (getD starts (c .args .k) 0) (startOf words (c .args .k)) (tested right 0 starts tt (c .args .k) (omega arith))
 
 pub spelling-start-spec : {M : Type 1} → statement M
