@@ -6,4 +6,5 @@ pub mod Places
 pub mod Words
 pub mod Pieces
 pub mod Left
+pub mod Laws
 pub mod Progress

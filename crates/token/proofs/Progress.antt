@@ -15,6 +15,7 @@ use Rattle.token.specs.declared.Answer.{Answer}
 use Rattle.token.specs.declared.Place.{Place}
 use Rattle.token.specs.declared.piece.Found.{Found}
 use Rattle.token.proofs.Pieces.{Fit}
+use Rattle.token.proofs.Laws.{tabled}
 use Rattle.token.proofs.Left.{left, left-whole, step-gap, step-token, step-refusal, step-end, fit-at}
 
 -- an array that holds n entries, when `rest` has been stored after them
@@ -102,14 +103,18 @@ module _ (t classes₀ starts₀ ends₀ classes starts ends : List ℕ) (at n :
         ∙ sets-eq (map field (cut t .tokens)) array₀ 0 room
         ∙ ap (λ (k : ℕ). map field (cut t .tokens) ++ drop k array₀) (zero-add (length (map field (cut t .tokens))))
 
-    pub progress-done : (answer : Answer) → answer ≡ answerTo n ending → length classes₀ ≡ 65536 → length starts₀ ≡ 65536 → length ends₀ ≡ 65536 → Held (cut t) answer classes₀ starts₀ ends₀ classes starts ends
+    pub progress-done : (answer : Answer) → answer ≡ answerTo n ending → length classes₀ ≡ 65536 → length starts₀ ≡ 65536 → length ends₀ ≡ 65536 → Held t answer classes₀ starts₀ ends₀ classes starts ends
     progress-done answer e lc ls le =
         let end : ending ≡ cut t .ending = sym (ap (λ (x : Cut). x .ending) q) ∙ p .ending in
+        let cs = overlay classField classes classes₀ lc (p .classes-on) in
+        let ss = overlay startField starts starts₀ ls (p .starts-on) in
+        let es = overlay endField ends ends₀ le (p .ends-on) in
         record {
           answered = e ∙ ap (λ (k : ℕ). answerTo k ending) all ∙ ap (λ (x : Ending). answerTo (length (cut t .tokens)) x) end;
-          classes-held = overlay classField classes classes₀ lc (p .classes-on);
-          starts-held = overlay startField starts starts₀ ls (p .starts-on);
-          ends-held = overlay endField ends ends₀ le (p .ends-on) }
+          classes-held = cs;
+          starts-held = ss;
+          ends-held = es;
+          tabled = rw (cs, ss, es) (tabled t classes₀ starts₀ ends₀) }
 
 -- what the code found at a place says of the piece there
 module _ (t classes₀ starts₀ ends₀ classes starts ends : List ℕ) (at n : ℕ) (p : Progress t classes₀ starts₀ ends₀ classes starts ends at n) (h : at < length t) where
@@ -143,10 +148,10 @@ module _ (t classes₀ starts₀ ends₀ classes starts ends : List ℕ) (at n :
       go (refusal k d) r q f = let z : _≡_ {A = ℕ} 0 1 = cc in absurd (omega arith)
 
   -- a refusal is the answer, and the cut ends there
-  pub read-refusal : length t ≤ 65536 → length classes₀ ≡ 65536 → length starts₀ ≡ 65536 → length ends₀ ≡ 65536 → (found : Found) (k : ℕ) (place : Place) → found ≡ Found.Refused k place → found ≡ foundAt at (piece (drop at t)) → Held (cut t) (refusalOf found) classes₀ starts₀ ends₀ classes starts ends
+  pub read-refusal : length t ≤ 65536 → length classes₀ ≡ 65536 → length starts₀ ≡ 65536 → length ends₀ ≡ 65536 → (found : Found) (k : ℕ) (place : Place) → found ≡ Found.Refused k place → found ≡ foundAt at (piece (drop at t)) → Held t (refusalOf found) classes₀ starts₀ ends₀ classes starts ends
   read-refusal short lc ls le found k place is q = go (piece (drop at t)) refl q
     where
-      go : (x : Piece) → piece (drop at t) ≡ x → found ≡ foundAt at x → Held (cut t) (refusalOf found) classes₀ starts₀ ends₀ classes starts ends
+      go : (x : Piece) → piece (drop at t) ≡ x → found ≡ foundAt at x → Held t (refusalOf found) classes₀ starts₀ ends₀ classes starts ends
       go (gap m) r q = let z : _≡_ {A = ℕ} 0 1 = cc in absurd (omega arith)
       go (token c m) r q = let z : _≡_ {A = ℕ} 0 1 = cc in absurd (omega arith)
       go (refusal j d) r q =

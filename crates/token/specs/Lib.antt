@@ -3,3 +3,4 @@ pub mod Word
 pub mod Token
 pub mod Cut
 pub mod Table
+pub mod Law

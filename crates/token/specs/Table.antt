@@ -5,7 +5,7 @@ use mathlib.Core.List.{List, [], _∷_, _++_, map}
 use Prim.Native.Nat.{ℕ, zero, suc, _+_, _-_}
 use lib.ListN.{length, getD, take, drop}
 use Rattle.token.specs.Token.{Tok, tok}
-use Rattle.token.specs.Cut.{Cut, Ending, whole, refused, Piece, gap, token, refusal}
+use Rattle.token.specs.Cut.{Ending, whole, refused, Piece, gap, token, refusal, cut}
 use Rattle.token.specs.declared.Place.{Place}
 use Rattle.token.specs.declared.piece.Found.{Found}
 use Rattle.token.specs.declared.Answer.{Answer}
@@ -39,12 +39,14 @@ abbrev pub answerTo : ℕ → Ending → Answer
 answerTo count whole = Tokens count
 answerTo count (refused n p) = Refused n (record { 0 = p })
 
--- What the call leaves: its answer, and in each array the tokens up to where the cut ends, before what was there.
-pub record Held (c : Cut) (answer : Answer) (classes starts ends classes′ starts′ ends′ : List ℕ) : Type 0 where
-  pub answered : answer ≡ answerTo (length (c .tokens)) (c .ending)
-  pub classes-held : classes′ ≡ overlaid (map (λ (t : Tok). t .class) (c .tokens)) classes
-  pub starts-held : starts′ ≡ overlaid (map (λ (t : Tok). t .start) (c .tokens)) starts
-  pub ends-held : ends′ ≡ overlaid (map (λ (t : Tok). t .end) (c .tokens)) ends
+-- What the call leaves: its answer, and in each array the tokens up to where the cut ends, before what was there. So the
+-- arrays, read as a list, are the tokens.
+pub record Held (text : List ℕ) (answer : Answer) (classes starts ends classes′ starts′ ends′ : List ℕ) : Type 0 where
+  pub answered : answer ≡ answerTo (length (cut text .tokens)) (cut text .ending)
+  pub classes-held : classes′ ≡ overlaid (map (λ (t : Tok). t .class) (cut text .tokens)) classes
+  pub starts-held : starts′ ≡ overlaid (map (λ (t : Tok). t .start) (cut text .tokens)) starts
+  pub ends-held : ends′ ≡ overlaid (map (λ (t : Tok). t .end) (cut text .tokens)) ends
+  pub tabled : table text classes′ starts′ ends′ (length (cut text .tokens)) ≡ cut text .tokens
 
 -- the class that the code gives a gap: no terminal's
 abbrev pub gapClass : ℕ

@@ -2,7 +2,6 @@
 ghost use mathlib.Core.Path.{_≡_};
 ghost use Prim.Native.Nat.{_≤_};
 ghost use lib.ListN.{length};
-ghost use Rattle.token.specs.Cut.{cut};
 ghost use Rattle.token.specs.Table.{Held, refusalOf};
 
 mod byte;
@@ -40,7 +39,7 @@ pub fn cut(
     ends: &mut [u32; 65536],
 ) -> Answer
     requires { ⌜ (length (now text) ≤ 65536) × (length (now classes) ≡ 65536) × (length (now starts) ≡ 65536) × (length (now ends) ≡ 65536) ⌝ }
-    ensures { λ r. ⌜ Held (cut (now (text .entry))) r (now (classes .entry)) (now (starts .entry)) (now (ends .entry)) (now (classes .exit)) (now (starts .exit)) (now (ends .exit)) ⌝ }
+    ensures { λ r. ⌜ Held (now (text .entry)) r (now (classes .entry)) (now (starts .entry)) (now (ends .entry)) (now (classes .exit)) (now (starts .exit)) (now (ends .exit)) ⌝ }
 {
     let mut at = 0;
     let mut n = 0;
