@@ -16,13 +16,9 @@ unfoldable pub byteClasses : List ℕ
 byteClasses =
     0 ∷ 0 ∷ 0 ∷ 0 ∷ 0 ∷ 0 ∷ 0 ∷ 0 ∷ 0 ∷ 4 ∷ 3 ∷ 2 ∷ 2 ∷ 3 ∷ 0 ∷ 0 ∷ 0 ∷ 0 ∷ 0 ∷ 0 ∷ 0 ∷ 0 ∷ 0 ∷ 0 ∷ 0 ∷ 0 ∷ 0 ∷ 0 ∷ 0 ∷ 0 ∷ 0 ∷ 0 ∷ 4 ∷ 5 ∷ 1 ∷ 5 ∷ 5 ∷ 5 ∷ 5 ∷ 7 ∷ 53 ∷ 54 ∷ 5 ∷ 5 ∷ 55 ∷ 6 ∷ 9 ∷ 5 ∷ 62 ∷ 62 ∷ 62 ∷ 62 ∷ 62 ∷ 62 ∷ 62 ∷ 62 ∷ 62 ∷ 62 ∷ 8 ∷ 56 ∷ 5 ∷ 5 ∷ 5 ∷ 5 ∷ 5 ∷ 63 ∷ 63 ∷ 63 ∷ 63 ∷ 63 ∷ 63 ∷ 64 ∷ 64 ∷ 64 ∷ 64 ∷ 64 ∷ 64 ∷ 64 ∷ 64 ∷ 64 ∷ 64 ∷ 64 ∷ 64 ∷ 64 ∷ 64 ∷ 64 ∷ 64 ∷ 64 ∷ 64 ∷ 64 ∷ 64 ∷ 5 ∷ 5 ∷ 5 ∷ 5 ∷ 5 ∷ 5 ∷ 61 ∷ 61 ∷ 61 ∷ 61 ∷ 61 ∷ 61 ∷ 60 ∷ 60 ∷ 60 ∷ 60 ∷ 60 ∷ 60 ∷ 60 ∷ 60 ∷ 60 ∷ 60 ∷ 60 ∷ 60 ∷ 60 ∷ 60 ∷ 60 ∷ 60 ∷ 60 ∷ 60 ∷ 60 ∷ 60 ∷ 51 ∷ 57 ∷ 52 ∷ 5 ∷ 0 ∷ 0 ∷ 0 ∷ 0 ∷ 0 ∷ 0 ∷ 0 ∷ 0 ∷ 0 ∷ 0 ∷ 0 ∷ 0 ∷ 0 ∷ 0 ∷ 0 ∷ 0 ∷ 0 ∷ 0 ∷ 0 ∷ 0 ∷ 0 ∷ 0 ∷ 0 ∷ 0 ∷ 0 ∷ 0 ∷ 0 ∷ 0 ∷ 0 ∷ 0 ∷ 0 ∷ 0 ∷ 0 ∷ 0 ∷ 0 ∷ 0 ∷ 0 ∷ 0 ∷ 0 ∷ 0 ∷ 0 ∷ 0 ∷ 0 ∷ 0 ∷ 0 ∷ 0 ∷ 0 ∷ 0 ∷ 0 ∷ 0 ∷ 0 ∷ 0 ∷ 0 ∷ 0 ∷ 0 ∷ 0 ∷ 0 ∷ 0 ∷ 0 ∷ 0 ∷ 0 ∷ 0 ∷ 0 ∷ 0 ∷ 0 ∷ 0 ∷ 0 ∷ 0 ∷ 0 ∷ 0 ∷ 0 ∷ 0 ∷ 0 ∷ 0 ∷ 0 ∷ 0 ∷ 0 ∷ 0 ∷ 0 ∷ 0 ∷ 0 ∷ 0 ∷ 0 ∷ 0 ∷ 0 ∷ 0 ∷ 0 ∷ 0 ∷ 0 ∷ 0 ∷ 0 ∷ 0 ∷ 0 ∷ 0 ∷ 0 ∷ 0 ∷ 0 ∷ 0 ∷ 0 ∷ 0 ∷ 0 ∷ 0 ∷ 0 ∷ 0 ∷ 0 ∷ 0 ∷ 0 ∷ 0 ∷ 0 ∷ 0 ∷ 0 ∷ 0 ∷ 0 ∷ 0 ∷ 0 ∷ 0 ∷ 0 ∷ 0 ∷ 0 ∷ 0 ∷ 0 ∷ 0 ∷ 0 ∷ 0 ∷ 0 ∷ 0 ∷ 0 ∷ 0 ∷ 0 ∷ []
 
--- the class of digits is the entry of 48 to 57 alone
-abbrev digitsOnly : ℕ → ℕ → Bool
-digitsOnly b class = not (eqb class digit) || (leb 48 b && leb b 57)
-
 -- an entry is its byte's class
 right : ℕ → ℕ → Bool
-right b class = eqb class (classOf b) && digitsOnly b class
+right b class = eqb class (classOf b)
 
 rule : (b : ℕ) → b < 256 → T (right b (getD byteClasses b 0))
 unfolding right classOf classIn rows byteClasses
@@ -31,16 +27,7 @@ rule b h = tested right 0 byteClasses tt b h
 -- the entry of a byte is its class
 pub entry-class : (b : ℕ) → b < 256 → getD byteClasses b 0 ≡ classOf b
 unfolding right
-entry-class b h = eqb→eq (getD byteClasses b 0) (classOf b) (first-of (eqb (getD byteClasses b 0) (classOf b)) (digitsOnly b (getD byteClasses b 0)) (rule b h))
-
--- a digit is one of the bytes 48 to 57
-pub digit-range : (b : ℕ) → b < 256 → classOf b ≡ digit → (48 ≤ b) × (b ≤ 57)
-unfolding right
-digit-range b h e =
-    let t : T (digitsOnly b (getD byteClasses b 0)) =
-        second-of (eqb (getD byteClasses b 0) (classOf b)) (digitsOnly b (getD byteClasses b 0)) (rule b h) in
-    let r : T (leb 48 b && leb b 57) = subst (λ (k : ℕ). T (digitsOnly b k)) (entry-class b h ∙ e) t in
-    (leb→le 48 b (first-of (leb 48 b) (leb b 57) r), leb→le b 57 (second-of (leb 48 b) (leb b 57) r))
+entry-class b h = eqb→eq (getD byteClasses b 0) (classOf b) (rule b h)
 
 -- a byte has a class k, or it has not
 pub classed-as : (k b next : ℕ) → classOf b ≡ k → classed k k b next ≡ true

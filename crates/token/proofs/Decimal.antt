@@ -14,7 +14,7 @@ decimal-snoc n [] d = refl
 decimal-snoc n (x ∷ ds) d = decimal-snoc (10 * n + (x - 48)) ds d
 
 -- the digits from `at` up to and with the one at i
-pub decimal-more : (t : List ℕ) (at i : ℕ) → at ≤ i → i < length t → decimal (take (i + 1 - at) (drop at t)) ≡ 10 * decimal (take (i - at) (drop at t)) + (getD t i 0 - 48)
+decimal-more : (t : List ℕ) (at i : ℕ) → at ≤ i → i < length t → decimal (take (i + 1 - at) (drop at t)) ≡ 10 * decimal (take (i - at) (drop at t)) + (getD t i 0 - 48)
 decimal-more t at i h l =
     let k : i + 1 - at ≡ suc (i - at) = omega arith in
     let inside : i - at < length (drop at t) = omega (arith, length-drop at t) in
@@ -23,6 +23,10 @@ decimal-more t at i h l =
     rw (k, take-suc (drop at t) (i - at) 0 inside, here)
     (decimal-snoc 0 (take (i - at) (drop at t)) (getD t i 0))
 
--- cutting off above the largest number may be done at each digit
-pub capped-more : (m d : ℕ) → min (10 * min m 4294967296 + d) 4294967296 ≡ min (10 * m + d) 4294967296
-capped-more m d = omega arith
+-- the value cut off above the largest number, of no digit and of one digit more
+pub capped-none : (t : List ℕ) (at : ℕ) → 0 ≡ min (decimal (take (at - at) (drop at t))) 4294967296
+unfolding decimalAfter
+capped-none t at = let none : at - at ≡ 0 = omega arith in rw none
+
+pub capped-more : (t : List ℕ) (at i : ℕ) {value next : ℕ} → at ≤ i → i < length t → value ≡ min (decimal (take (i - at) (drop at t))) 4294967296 → next ≡ min (10 * value + (getD t i 0 - 48)) 4294967296 → next ≡ min (decimal (take (i + 1 - at) (drop at t))) 4294967296
+capped-more t at i h l e q = omega (arith, decimal-more t at i h l)

@@ -9,10 +9,10 @@ use native.Mathlib.Nat.{add-zero, zero-add}
 use native.Mathlib.Decide.{decLt}
 use native.Mathlib.Omega.{arith}
 use lib.Dec.{T, eqb}
-use lib.IntN.{ℤ, pos, negℤ}
+use lib.IntN.{ℤ, pos, negℤ, natAbs, negℤ-negℤ}
 use lib.ListN.{length, getD, take, drop, length-drop, length-map, List·getD-append, List·getD-map}
-use lib.Seq.{length-take-le}
-use borrow.Author.Tests.{eq-eqb}
+use lib.Seq.{length-take-le, drop-cons}
+use borrow.Author.Tests.{ne-eqb}
 use Rattle.terminal.specs.Terminal.{number, negative}
 use Rattle.token.specs.Token.{Tok, tok, isName, spellingOf, valueOf, decimal}
 use Rattle.token.specs.Cut.{Piece, gap, token, refusal, piece, Ending, whole, refused, Cut, cut}
@@ -145,3 +145,40 @@ tabled t cs ss es =
       let s = held-at (λ (x : Tok). x .start) ts ss i no-token refl h in
       let e = held-at (λ (x : Tok). x .end) ts es i no-token refl h in
       rw (j, c, s, e) (sym (sound-at t 0 ts (rising t) i no-token h .made)))
+
+-- numbers below zero of the same value have the same magnitude
+magnitude : (m n : ℕ) → negℤ (pos m) ≡ negℤ (pos n) → m ≡ n
+magnitude m n e = ap natAbs (sym (negℤ-negℤ (pos m)) ∙ ap negℤ e ∙ negℤ-negℤ (pos n))
+
+-- a token that its place in the text makes: its place and its value
+module _ (t : List ℕ) (class start end : ℕ) (sound : Sound t (tok class start end (between t start end))) where
+  pub token-place : (start < end) × (end ≤ length t)
+  unfolding tok
+  token-place = (sound .nonempty, sound .inside)
+
+  pub number-is : class ≡ number → (tok class start end (between t start end) .value ≡ pos (decimal (between t start end))) × (decimal (between t start end) ≤ 4294967295)
+  unfolding tok
+  number-is e =
+      let v = number-value class (between t start end) e in
+      let r = sound .number-range e in
+      let same : decimal (between t start end) ≡ r .0 = ap natAbs (sym v ∙ r .1) in
+      (v, omega (arith, r .2))
+
+  after-hyphen : drop 1 (between t start end) ≡ between t (start + 1) end
+  after-hyphen =
+      let a : end - start ≡ suc (end - (start + 1)) = omega (arith, token-place) in
+      let b : suc start ≡ start + 1 = omega arith in
+      rw (a, drop-cons t start 0 (omega (arith, token-place)), b)
+
+  pub negative-is : class ≡ negative → (tok class start end (between t start end) .value ≡ negℤ (pos (decimal (between t (start + 1) end)))) × (decimal (between t (start + 1) end) ≤ 2147483648)
+  unfolding tok
+  negative-is e =
+      let v : valueOf class (between t start end) ≡ negℤ (pos (decimal (between t (start + 1) end))) =
+          negative-value class (between t start end) e ∙ ap (λ (bs : List ℕ). negℤ (pos (decimal bs))) after-hyphen in
+      let r = sound .negative-range e in
+      let same : decimal (between t (start + 1) end) ≡ r .0 = magnitude (decimal (between t (start + 1) end)) (r .0) (sym v ∙ r .1) in
+      (v, omega (arith, r .2))
+
+  pub other-is : (class ≡ number → ⊥) → (class ≡ negative → ⊥) → tok class start end (between t start end) .value ≡ pos 0
+  unfolding tok valueOf
+  other-is p q = simp (ne-eqb class number p, ne-eqb class negative q)

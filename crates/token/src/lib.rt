@@ -7,6 +7,7 @@ ghost use Rattle.token.specs.Table.{Held, refusalOf};
 mod byte;
 mod piece;
 mod scan;
+pub mod value;
 mod word;
 
 use crate::piece::{Found, GAP, piece_at};

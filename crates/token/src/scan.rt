@@ -125,12 +125,22 @@ pub struct Digits {
     pub value: u64,
 }
 
-// The value of digits after one more digit, or 4294967296 where it is larger. The byte is a digit's.
-fn more(value: u64, byte: u8) -> u64
-    requires { ⌜ (value ≤ 4294967296) × (48 ≤ byte) × (byte ≤ 57) ⌝ }
+// The value of a digit's byte; 0 of a byte below the digits.
+fn digit_value(byte: u8) -> u64
+    ensures { λ r. ⌜ r ≡ byte - 48 ⌝ }
+{
+    if byte < b'0' {
+        return 0;
+    }
+    (byte - b'0') as u64
+}
+
+// The value of digits with one digit more, or 4294967296 where it is larger.
+pub fn more(value: u64, byte: u8) -> u64
+    requires { ⌜ value ≤ 4294967296 ⌝ }
     ensures { λ r. ⌜ r ≡ min (10 * value + (byte - 48)) 4294967296 ⌝ }
 {
-    let next = 10 * value + (byte - 48) as u64;
+    let next = 10 * value + digit_value(byte);
     if next < 4294967296 {
         return next;
     }

@@ -1,14 +1,14 @@
 -- `digit_run` is right because the bytes passed are digits, and the value is cut off at each of them as the definition cuts it
 -- off at the end.
 -- Assumes nothing.
-use mathlib.Core.Path.{_≡_, refl, sym, ap, _∙_}
-use Prim.Native.Nat.{ℕ, _+_, _*_, _-_, _≤_, min}
+use mathlib.Core.Path.{_≡_, sym, _∙_}
+use Prim.Native.Nat.{_+_, _-_, min}
 use native.Mathlib.Omega.{arith}
 use lib.ListN.{length, getD, take, drop}
 use Rattle.token.specs.Byte.{digitByte}
-use Rattle.token.specs.Token.{decimal, decimalAfter}
-use Rattle.token.proofs.Bytes.{digit-range, classed-as, classed-not}
-use Rattle.token.proofs.Decimal.{decimal-more, capped-more}
+use Rattle.token.specs.Token.{decimal}
+use Rattle.token.proofs.Bytes.{classed-as, classed-not}
+use Rattle.token.proofs.Decimal.{capped-none, capped-more}
 use Rattle.token.proofs.Span.{Reached, reached-more, reached-stop, reached-end}
 use Rattle.token.proofs.scan.digit_run.Statement.{statement}
 use Rattle.token.proofs.scan.digit_run.Tie as tie
@@ -21,11 +21,7 @@ abbrev μ-loop : tie.MeasureT-loop
 μ-loop text at i₀ value₀ i value = length text - i
 
 loop-holds : tie.Need-loop-holds Inv-loop μ-loop
-unfolding decimalAfter
-loop-holds c =
-    let a = c .before .args in
-    let none : a .at - a .at ≡ 0 = omega arith in
-    (omega arith, rw none refl)
+loop-holds c = (omega arith, capped-none (c .before .args .text .now) (c .before .args .at))
 
 shared-slice-read-byte : tie.Need-shared-slice-read-byte Inv-loop μ-loop
 shared-slice-read-byte c = omega arith
@@ -43,13 +39,7 @@ returns c =
       l .loop .inv .1)
 
 more-requires : tie.Need-more-requires Inv-loop μ-loop
-more-requires c κs =
-    let l = c .before .before .before .before in
-    let a = l .before .before in
-    let known = c .before .before .shared-slice-known2 .given (l .loop .i) in
-    let d : (48 ≤ getD (a .args .text .now) (l .loop .i) 0) × (getD (a .args .text .now) (l .loop .i) 0 ≤ 57) =
-        digit-range (getD (a .args .text .now) (l .loop .i) 0) (omega arith) (sym (c .before .class-of .ensures) ∙ c .if1 .taken) in
-    omega arith
+more-requires c κs = omega arith
 
 add-i : tie.Need-add-i Inv-loop μ-loop
 add-i c = omega arith
@@ -64,11 +54,7 @@ loop-again c =
     (reached-more digitByte (a .args .text .now) (a .args .at) (l .loop .i) (l .loop .inv .0) (c .before .before .before .before .loop-test .taken)
       (classed-as 62 (getD (a .args .text .now) (l .loop .i) 0) (getD (a .args .text .now) (l .loop .i + 1) 0)
         (sym (c .before .before .class-of .ensures) ∙ c .before .if1 .taken)),
-      c .more .ensures
-      ∙ ap (λ (v : ℕ). min (10 * v + (getD (a .args .text .now) (l .loop .i) 0 - 48)) 4294967296) (l .loop .inv .1)
-      ∙ capped-more (decimal (take (l .loop .i - a .args .at) (drop (a .args .at) (a .args .text .now)))) (getD (a .args .text .now) (l .loop .i) 0 - 48)
-      ∙ ap (λ (v : ℕ). min v 4294967296)
-        (sym (decimal-more (a .args .text .now) (a .args .at) (l .loop .i) (omega arith) (c .before .before .before .before .loop-test .taken))))
+      capped-more (a .args .text .now) (a .args .at) (l .loop .i) (l .loop .inv .0 .0) (c .before .before .before .before .loop-test .taken) (l .loop .inv .1) (c .more .ensures))
 
 returns-2 : tie.Need-returns-2 Inv-loop μ-loop
 returns-2 c =
