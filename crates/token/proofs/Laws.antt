@@ -113,7 +113,7 @@ sound-at t from (x ∷ ts) r zero d h = r .1
 sound-at t from (x ∷ ts) r (suc i) d h = sound-at t (x .end) ts (r .2) i d (omega arith)
 
 -- any token, where a list has none
-abbrev no-token : Tok
+abbrev pub no-token : Tok
 no-token = tok 0 0 0 []
 
 -- an array that holds a field of each token, at the index of one

@@ -7,4 +7,5 @@ pub mod Words
 pub mod Pieces
 pub mod Left
 pub mod Laws
+pub mod Entries
 pub mod Progress
