@@ -1,0 +1,184 @@
+-- The laws of the cut for the layers above: its tokens are sound and rise, there are at most as many as bytes, and arrays that
+-- hold them are read as the list of them.
+-- Assumes nothing.
+use mathlib.Core.Path.{_≡_, refl, sym, ap, subst, _∙_}
+use mathlib.Core.Bool.{Bool, true, false, cond}
+use mathlib.Core.List.{List, [], _∷_, _++_, map}
+use Prim.Native.Nat.{ℕ, zero, suc, _+_, _-_, _≤_, _<_}
+use native.Mathlib.Nat.{add-zero, zero-add}
+use native.Mathlib.Decide.{decLt}
+use native.Mathlib.Omega.{arith}
+use lib.Dec.{T, eqb}
+use lib.IntN.{ℤ, pos, negℤ, natAbs, negℤ-negℤ}
+use lib.ListN.{length, getD, take, drop, length-drop, length-map, List·getD-append, List·getD-map}
+use lib.Seq.{length-take-le, drop-cons}
+use borrow.Author.Tests.{ne-eqb}
+use Rattle.terminal.specs.Terminal.{number, negative}
+use Rattle.token.specs.Token.{Tok, tok, isName, spellingOf, valueOf, decimal}
+use Rattle.token.specs.Cut.{Piece, gap, token, refusal, piece, Ending, whole, refused, Cut, cut}
+use Rattle.token.specs.Table.{between, entry, entries, table, overlaid}
+use Rattle.token.specs.Law.{Sound, Rising}
+use Rattle.token.proofs.Pieces.{Fits, Fit}
+use Rattle.token.proofs.Left.{left, left-whole, step-gap, step-token, step-refusal, step-end, fit-at}
+
+-- what holds at the end and at a refusal, and is kept by a gap and by a token before, holds of the cut of what is left
+module _
+  (t : List ℕ) (P : ℕ → Cut → Type 0)
+  (at-end : (at : ℕ) → length t ≤ at → P at (record { tokens = []; ending = whole }))
+  (at-refusal : (at r d : ℕ) → at < length t → piece (drop at t) ≡ refusal r d → P at (record { tokens = []; ending = refused r (at + d) }))
+  (at-gap : (at m : ℕ) → at < length t → piece (drop at t) ≡ gap m → Fits (drop at t) (gap m) → P (at + m) (left t (at + m)) → P at (left t (at + m)))
+  (at-token : (at c m : ℕ) → at < length t → piece (drop at t) ≡ token c m → Fits (drop at t) (token c m) → P (at + m) (left t (at + m)) → P at (record { tokens = tok c at (at + m) (take m (drop at t)) ∷ left t (at + m) .tokens; ending = left t (at + m) .ending }))
+  where
+  bounded : (k at : ℕ) → length t ≤ at + k → P at (left t at)
+  bounded zero at h = subst (λ (x : Cut). P at x) (sym (step-end t at (omega arith))) (at-end at (omega arith))
+  bounded (suc k) at h = go (decLt at (length t)) (bounded k)
+    where
+      next : at < length t → (x : Piece) → piece (drop at t) ≡ x → Fit (drop at t) x → ((j : ℕ) → length t ≤ j + k → P j (left t j)) → P at (left t at)
+      next l (gap m) e f ih =
+          subst (λ (x : Cut). P at x) (sym (step-gap t at m l e (f .fits .0)))
+          (at-gap at m l e (f .fits) (ih (at + m) (omega (arith, f .fits .0))))
+      next l (token c m) e f ih =
+          subst (λ (x : Cut). P at x) (sym (step-token t at c m l e (f .fits .0)))
+          (at-token at c m l e (f .fits) (ih (at + m) (omega (arith, f .fits .0))))
+      next l (refusal r d) e f ih = subst (λ (x : Cut). P at x) (sym (step-refusal t at r d l e)) (at-refusal at r d l e)
+      go : Dec (at < length t) → ((j : ℕ) → length t ≤ j + k → P j (left t j)) → P at (left t at)
+      go (yes l) ih = next l (piece (drop at t)) refl (fit-at t at l) ih
+      go (no l) ih = subst (λ (x : Cut). P at x) (sym (step-end t at (omega arith))) (at-end at (omega arith))
+
+  pub cut-induction : (at : ℕ) → P at (left t at)
+  cut-induction at = bounded (length t) at (omega arith)
+
+spelling-length : (c : ℕ) (bs : List ℕ) → T (isName c) → length (spellingOf c bs) ≡ length bs
+unfolding spellingOf
+spelling-length c bs h = go (isName c) h
+  where
+    go : (b : Bool) → T b → length (cond b bs []) ≡ length bs
+    go true q = refl
+    go false q = absurd q
+
+number-value : (c : ℕ) (bs : List ℕ) → c ≡ number → valueOf c bs ≡ pos (decimal bs)
+unfolding valueOf
+number-value c bs e = rw e
+
+negative-value : (c : ℕ) (bs : List ℕ) → c ≡ negative → valueOf c bs ≡ negℤ (pos (decimal (drop 1 bs)))
+unfolding valueOf
+negative-value c bs e = rw e
+
+sound-token : (t : List ℕ) (at c m : ℕ) → at < length t → Fits (drop at t) (token c m) → Sound t (tok c at (at + m) (take m (drop at t)))
+unfolding tok
+sound-token t at c m h f =
+    let n : at + m - at ≡ m = omega arith in
+    let long : length (take m (drop at t)) ≡ m = length-take-le m (drop at t) (f .1) in
+    record {
+      made = rw n;
+      nonempty = omega (arith, f .0);
+      inside = omega (arith, f .1, length-drop at t);
+      terminal = f .2;
+      name-bytes = λ q. let s = spelling-length c (take m (drop at t)) q in (omega (arith, s, f .0), omega (arith, s, f .3 q));
+      number-range = λ q. (decimal (take m (drop at t)), number-value c (take m (drop at t)) q, f .4 q);
+      negative-range = λ q. (decimal (drop 1 (take m (drop at t))), negative-value c (take m (drop at t)) q, f .5 q) }
+
+-- tokens that start at a place or later start after any place before it
+later : (t : List ℕ) (from to : ℕ) (ts : List Tok) → from ≤ to → Rising t to ts → Rising t from ts
+later t from to [] h r = tt
+later t from to (x ∷ ts) h r = (omega (arith, r .0), r .1, r .2)
+
+-- the tokens of a text are sound, and rise
+pub rising : (t : List ℕ) → Rising t 0 (cut t .tokens)
+unfolding tok
+rising t =
+    subst (λ (x : Cut). Rising t 0 (x .tokens)) (left-whole t)
+    (cut-induction t (λ (at : ℕ) (x : Cut). Rising t at (x .tokens))
+      (λ at h. tt)
+      (λ at r d h e. tt)
+      (λ at m h e f r. later t at (at + m) (left t (at + m) .tokens) (omega arith) r)
+      (λ at c m h e f r. go at c m h f r)
+      0)
+  where
+    go : (at c m : ℕ) → at < length t → Fits (drop at t) (token c m) → Rising t (at + m) (left t (at + m) .tokens) → Rising t at (tok c at (at + m) (take m (drop at t)) ∷ left t (at + m) .tokens)
+    go at c m h f r = (omega arith, sound-token t at c m h f, r)
+
+-- there are at most as many tokens as bytes
+rising-few : (t : List ℕ) (from : ℕ) (ts : List Tok) → Rising t from ts → from ≤ length t → from + length ts ≤ length t
+rising-few t from [] r h = omega arith
+rising-few t from (x ∷ ts) r h = omega (arith, r .0, r .1 .nonempty, rising-few t (x .end) ts (r .2) (r .1 .inside))
+
+pub few : (t : List ℕ) → length (cut t .tokens) ≤ length t
+few t = omega (arith, rising-few t 0 (cut t .tokens) (rising t) (omega arith))
+
+-- the token at an index
+pub sound-at : (t : List ℕ) (from : ℕ) (ts : List Tok) → Rising t from ts → (i : ℕ) (d : Tok) → i < length ts → Sound t (getD ts i d)
+sound-at t from [] r i d h = absurd (omega arith)
+sound-at t from (x ∷ ts) r zero d h = r .1
+sound-at t from (x ∷ ts) r (suc i) d h = sound-at t (x .end) ts (r .2) i d (omega arith)
+
+-- any token, where a list has none
+abbrev pub no-token : Tok
+no-token = tok 0 0 0 []
+
+-- an array that holds a field of each token, at the index of one
+pub held-at : (field : Tok → ℕ) (ts : List Tok) (old : List ℕ) (i : ℕ) (d : Tok) → field d ≡ 0 → i < length ts → getD (overlaid (map field ts) old) i 0 ≡ field (getD ts i d)
+held-at field ts old i d z h =
+    List·getD-append (map field ts) (drop (length (map field ts)) old) 0 i (rw length-map h)
+    ∙ ap (λ (y : ℕ). getD (map field ts) i y) (sym z)
+    ∙ List·getD-map field ts i d
+
+entries-are : (t classes starts ends : List ℕ) (k : ℕ) (ts : List Tok) (d : Tok) → ((i : ℕ) → i < length ts → entry t classes starts ends (k + i) ≡ getD ts i d) → entries t classes starts ends k (length ts) ≡ ts
+unfolding entries
+entries-are t classes starts ends k [] d h = refl
+entries-are t classes starts ends k (x ∷ ts) d h =
+    let first : entry t classes starts ends k ≡ x = rw (add-zero k) at (h 0 (omega arith)) in
+    let rest : entries t classes starts ends (suc k) (length ts) ≡ ts =
+        entries-are t classes starts ends (suc k) ts d
+        (λ i l. ap (λ (j : ℕ). entry t classes starts ends j) (omega arith) ∙ h (suc i) (omega arith)) in
+    λ i. first i ∷ rest i
+
+-- arrays that hold the tokens' classes, starts and ends are read as the list of the tokens
+pub tabled : (t old-classes old-starts old-ends : List ℕ) → table t (overlaid (map (λ (x : Tok). x .class) (cut t .tokens)) old-classes) (overlaid (map (λ (x : Tok). x .start) (cut t .tokens)) old-starts) (overlaid (map (λ (x : Tok). x .end) (cut t .tokens)) old-ends) (length (cut t .tokens)) ≡ cut t .tokens
+unfolding table entry tok
+tabled t cs ss es =
+    let ts = cut t .tokens in
+    entries-are t (overlaid (map (λ (x : Tok). x .class) ts) cs) (overlaid (map (λ (x : Tok). x .start) ts) ss) (overlaid (map (λ (x : Tok). x .end) ts) es) 0 ts no-token
+    (λ i h.
+      let j : 0 + i ≡ i = zero-add i in
+      let c = held-at (λ (x : Tok). x .class) ts cs i no-token refl h in
+      let s = held-at (λ (x : Tok). x .start) ts ss i no-token refl h in
+      let e = held-at (λ (x : Tok). x .end) ts es i no-token refl h in
+      rw (j, c, s, e) (sym (sound-at t 0 ts (rising t) i no-token h .made)))
+
+-- numbers below zero of the same value have the same magnitude
+magnitude : (m n : ℕ) → negℤ (pos m) ≡ negℤ (pos n) → m ≡ n
+magnitude m n e = ap natAbs (sym (negℤ-negℤ (pos m)) ∙ ap negℤ e ∙ negℤ-negℤ (pos n))
+
+-- a token that its place in the text makes: its place and its value
+module _ (t : List ℕ) (class start end : ℕ) (sound : Sound t (tok class start end (between t start end))) where
+  pub token-place : (start < end) × (end ≤ length t)
+  unfolding tok
+  token-place = (sound .nonempty, sound .inside)
+
+  pub number-is : class ≡ number → (tok class start end (between t start end) .value ≡ pos (decimal (between t start end))) × (decimal (between t start end) ≤ 4294967295)
+  unfolding tok
+  number-is e =
+      let v = number-value class (between t start end) e in
+      let r = sound .number-range e in
+      let same : decimal (between t start end) ≡ r .0 = ap natAbs (sym v ∙ r .1) in
+      (v, omega (arith, r .2))
+
+  after-hyphen : drop 1 (between t start end) ≡ between t (start + 1) end
+  after-hyphen =
+      let a : end - start ≡ suc (end - (start + 1)) = omega (arith, token-place) in
+      let b : suc start ≡ start + 1 = omega arith in
+      rw (a, drop-cons t start 0 (omega (arith, token-place)), b)
+
+  pub negative-is : class ≡ negative → (tok class start end (between t start end) .value ≡ negℤ (pos (decimal (between t (start + 1) end)))) × (decimal (between t (start + 1) end) ≤ 2147483648)
+  unfolding tok
+  negative-is e =
+      let v : valueOf class (between t start end) ≡ negℤ (pos (decimal (between t (start + 1) end))) =
+          negative-value class (between t start end) e ∙ ap (λ (bs : List ℕ). negℤ (pos (decimal bs))) after-hyphen in
+      let r = sound .negative-range e in
+      let same : decimal (between t (start + 1) end) ≡ r .0 = magnitude (decimal (between t (start + 1) end)) (r .0) (sym v ∙ r .1) in
+      (v, omega (arith, r .2))
+
+  pub other-is : (class ≡ number → ⊥) → (class ≡ negative → ⊥) → tok class start end (between t start end) .value ≡ pos 0
+  unfolding tok valueOf
+  other-is p q = simp (ne-eqb class number p, ne-eqb class negative q)

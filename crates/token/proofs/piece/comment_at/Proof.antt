@@ -1,0 +1,87 @@
+-- `comment_at` is right because what ends the comment's bytes is taken in if it is two hyphens, by the definition's two tests.
+-- Assumes nothing.
+use mathlib.Core.Path.{_≡_, refl, sym, ap, _∙_}
+use Prim.Native.Nat.{ℕ, _+_, _-_, _≤_, _<_}
+use native.Mathlib.Omega.{arith}
+use lib.ListN.{length, getD, take, drop, length-drop}
+use Rattle.token.specs.Cut.{span, comment}
+use Rattle.token.specs.declared.piece.Found.{Found}
+use Rattle.token.specs.Byte.{classOf, digitByte, nameByte, commentByte, textByte, hexByte, blankByte}
+use Rattle.token.proofs.Places.{rest-at, class-is, class-not, inside}
+use Rattle.token.proofs.Span.{span-end-in, span-more}
+use borrow.Author.Needs.{needs}
+use Rattle.token.proofs.piece.comment_at.Statement.{statement}
+use Rattle.token.proofs.piece.comment_at.Tie as tie
+
+add-comment-end : tie.Need-add-comment-end
+add-comment-end c = search needs
+
+comment-end-requires : tie.Need-comment-end-requires
+comment-end-requires c κs = search needs
+
+class-at-requires : tie.Need-class-at-requires
+class-at-requires c κs = search needs
+
+add-class-at : tie.Need-add-class-at
+add-class-at c =
+    let s = c .before .before .before .before in
+    let t = s .args .text .now in
+    let at = s .args .at in
+    omega (arith, inside t (c .before .before .comment-end .result) 6 (sym (c .before .class-at .ensures) ∙ c .if1 .taken) (omega arith))
+
+class-at-requires-2 : tie.Need-class-at-requires-2
+class-at-requires-2 c κs = search needs
+
+add-t10 : tie.Need-add-t10
+add-t10 c =
+    let s = c .before .before .before .before .before .before in
+    let t = s .args .text .now in
+    let at = s .args .at in
+    omega (arith, inside t (c .before .before .before .before .comment-end .result + 1) 6 (sym (c .before .class-at2 .ensures) ∙ c .if2 .taken) (omega arith))
+
+returns : tie.Need-returns
+unfolding comment
+returns c =
+    let s = c .before .before .before .before .before .before in
+    let t = s .args .text .now in
+    let at = s .args .at in
+    let end = c .before .before .before .before .comment-end .result in
+    let ends : end ≡ at + 2 + span commentByte (drop (at + 2) t) = c .before .before .before .before .comment-end .ensures in
+    simp (rest-at t (at + 2) (span commentByte (drop (at + 2) t)) end (sym ends), class-is t end 0 end (omega arith) (c .before .before .before .class-at .ensures) (c .before .before .if1 .taken), class-is t end 1 (end + 1) refl (c .before .class-at2 .ensures) (c .if2 .taken))
+    (ap (λ (e : ℕ). Found.Piece 58 e) (omega arith))
+
+returns-2 : tie.Need-returns-2
+unfolding comment
+returns-2 c =
+    let s = c .before .before .before .before .before .before in
+    let t = s .args .text .now in
+    let at = s .args .at in
+    let end = c .before .before .before .before .comment-end .result in
+    let ends : end ≡ at + 2 + span commentByte (drop (at + 2) t) = c .before .before .before .before .comment-end .ensures in
+    simp (rest-at t (at + 2) (span commentByte (drop (at + 2) t)) end (sym ends), class-is t end 0 end (omega arith) (c .before .before .before .class-at .ensures) (c .before .before .if1 .taken), class-not t end 1 (end + 1) refl (c .before .class-at2 .ensures) (c .if2 .left))
+    (ap (λ (e : ℕ). Found.Piece 58 e) (omega arith))
+
+returns-3 : tie.Need-returns-3
+unfolding comment
+returns-3 c =
+    let s = c .before .before .before .before in
+    let t = s .args .text .now in
+    let at = s .args .at in
+    let end = c .before .before .comment-end .result in
+    let ends : end ≡ at + 2 + span commentByte (drop (at + 2) t) = c .before .before .comment-end .ensures in
+    simp (rest-at t (at + 2) (span commentByte (drop (at + 2) t)) end (sym ends), class-not t end 0 end (omega arith) (c .before .class-at .ensures) (c .if1 .left))
+    (ap (λ (e : ℕ). Found.Piece 58 e) (omega arith))
+
+pub comment-at-spec : {M : Type 1} → statement M
+comment-at-spec =
+    tie.close
+    (tie.spec
+    add-comment-end
+    comment-end-requires
+    class-at-requires
+    add-class-at
+    class-at-requires-2
+    add-t10
+    returns
+    returns-2
+    returns-3)

@@ -1,0 +1,85 @@
+-- `hex_at` is right because what follows the hex digits is tested as in the definition.
+-- Assumes nothing.
+use mathlib.Core.Path.{_≡_, refl, sym, ap, _∙_}
+use Prim.Native.Nat.{ℕ, _+_, _-_, _≤_, _<_}
+use native.Mathlib.Omega.{arith}
+use native.Mathlib.Nat.{add-zero}
+use lib.ListN.{length, getD, take, drop, length-drop}
+use Rattle.token.specs.Cut.{span, hexString}
+use Rattle.token.specs.declared.piece.Found.{Found}
+use Rattle.token.specs.Byte.{classOf, digitByte, nameByte, commentByte, textByte, hexByte, blankByte}
+use Rattle.token.proofs.Places.{byte-is, byte-not, class-is, class-not, inside, byte-inside}
+use borrow.Author.Needs.{needs}
+use Rattle.token.proofs.piece.hex_at.Statement.{statement}
+use Rattle.token.proofs.piece.hex_at.Tie as tie
+
+add-run-end : tie.Need-add-run-end
+add-run-end c = search needs
+
+run-end-requires : tie.Need-run-end-requires
+run-end-requires c κs = search needs
+
+class-at-requires : tie.Need-class-at-requires
+class-at-requires c κs = search needs
+
+add-byte-at : tie.Need-add-byte-at
+add-byte-at c =
+    let s = c .before .before .before .before in
+    let t = s .args .text .now in
+    let at = s .args .at in
+    omega (arith, inside t (c .before .before .run-end .result) 7 (sym (c .before .class-at .ensures) ∙ c .if1 .taken) (omega arith))
+
+byte-at-requires : tie.Need-byte-at-requires
+byte-at-requires c κs = search needs
+
+add-t10 : tie.Need-add-t10
+add-t10 c =
+    let s = c .before .before .before .before .before .before in
+    let t = s .args .text .now in
+    let at = s .args .at in
+    omega (arith, byte-inside t (c .before .before .before .before .run-end .result + 1) 72 (sym (c .before .byte-at .ensures) ∙ c .if2 .taken) (omega arith))
+
+returns : tie.Need-returns
+unfolding hexString
+returns c =
+    let s = c .before .before .before .before .before .before in
+    let t = s .args .text .now in
+    let at = s .args .at in
+    let end = c .before .before .before .before .run-end .result in
+    let ends : end ≡ at + 1 + span hexByte (drop (at + 1) t) = c .before .before .before .before .run-end .ensures in
+    simp (class-is t (at + 1) (span hexByte (drop (at + 1) t)) end (sym ends) (c .before .before .before .class-at .ensures) (c .before .before .if1 .taken), byte-is t (at + 1) (span hexByte (drop (at + 1) t) + 1) (end + 1) (omega arith) (c .before .byte-at .ensures) (c .if2 .taken))
+    (ap (λ (e : ℕ). Found.Piece 48 e) (omega arith))
+
+returns-2 : tie.Need-returns-2
+unfolding hexString
+returns-2 c =
+    let s = c .before .before .before .before .before .before in
+    let t = s .args .text .now in
+    let at = s .args .at in
+    let end = c .before .before .before .before .run-end .result in
+    let ends : end ≡ at + 1 + span hexByte (drop (at + 1) t) = c .before .before .before .before .run-end .ensures in
+    simp (class-is t (at + 1) (span hexByte (drop (at + 1) t)) end (sym ends) (c .before .before .before .class-at .ensures) (c .before .before .if1 .taken), byte-not t (at + 1) (span hexByte (drop (at + 1) t) + 1) (end + 1) (omega arith) (c .before .byte-at .ensures) (c .if2 .left), add-zero)
+
+returns-3 : tie.Need-returns-3
+unfolding hexString
+returns-3 c =
+    let s = c .before .before .before .before in
+    let t = s .args .text .now in
+    let at = s .args .at in
+    let end = c .before .before .run-end .result in
+    let ends : end ≡ at + 1 + span hexByte (drop (at + 1) t) = c .before .before .run-end .ensures in
+    simp (class-not t (at + 1) (span hexByte (drop (at + 1) t)) end (sym ends) (c .before .class-at .ensures) (c .if1 .left), add-zero)
+
+pub hex-at-spec : {M : Type 1} → statement M
+hex-at-spec =
+    tie.close
+    (tie.spec
+    add-run-end
+    run-end-requires
+    class-at-requires
+    add-byte-at
+    byte-at-requires
+    add-t10
+    returns
+    returns-2
+    returns-3)

@@ -1,0 +1,23 @@
+-- `class_at` is right because it is the class of the byte there.
+-- Assumes nothing.
+use mathlib.Core.Path.{ap, _∙_}
+use Rattle.token.specs.Byte.{classOf}
+use borrow.Author.Needs.{needs}
+use Rattle.token.proofs.scan.class_at.Statement.{statement}
+use Rattle.token.proofs.scan.class_at.Tie as tie
+use Rattle.token.proofs.scan.class_at.Reads as reads
+use Rattle.token.proofs.scan.class_at.Lts as lts
+use Rattle.token.proofs.byte.class_of.Reads as class-of-reads
+use Rattle.token.proofs.scan.byte_at.Reads as byte-at-reads
+
+byte-at-requires : tie.Need-byte-at-requires
+byte-at-requires c κs = search needs
+
+class-of-requires : tie.Need-class-of-requires
+class-of-requires c κs = search needs
+
+returns : tie.Need-returns
+returns c = c .class-of .ensures ∙ ap classOf (c .before .byte-at .ensures)
+
+pub class-at-spec : {M : Type 1} → statement M
+class-at-spec = tie.close (tie.spec byte-at-requires class-of-requires returns)

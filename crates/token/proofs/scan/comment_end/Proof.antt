@@ -1,0 +1,55 @@
+-- `comment_end` is right because the bytes passed are bytes of a comment, and the first that is not, or the text's end, ends the span.
+-- Assumes nothing.
+use mathlib.Core.Path.{sym, _∙_}
+use mathlib.Core.Bool.{true, false}
+use Prim.Native.Nat.{_-_}
+use native.Mathlib.Omega.{arith}
+use borrow.Author.Needs.{needs}
+use lib.ListN.{length}
+use Rattle.token.specs.Byte.{commentByte}
+use Rattle.token.proofs.Span.{Reached, reached-more, reached-stop, reached-end}
+use Rattle.token.proofs.scan.comment_end.Statement.{statement}
+use Rattle.token.proofs.scan.comment_end.Tie as tie
+
+abbrev Inv-loop : tie.InvT-loop
+Inv-loop text at i₀ i = Reached commentByte text at i
+
+abbrev μ-loop : tie.MeasureT-loop
+μ-loop text at i₀ i = length text - i
+
+loop-holds : tie.Need-loop-holds Inv-loop μ-loop
+loop-holds c = omega arith
+
+in-comment-requires : tie.Need-in-comment-requires Inv-loop μ-loop
+in-comment-requires c κs = omega arith
+
+add-i : tie.Need-add-i Inv-loop μ-loop
+add-i c = omega arith
+
+loop-less : tie.Need-loop-less Inv-loop μ-loop
+loop-less c = omega arith
+
+loop-again : tie.Need-loop-again Inv-loop μ-loop
+loop-again c =
+    let l = c .before .before .before in
+    let a = l .before .before in
+    reached-more commentByte (a .args .text .now) (a .args .at) (l .loop .i) (l .loop .inv) (c .before .before .loop-test .taken)
+    (sym (c .before .in-comment .ensures) ∙ c .if1 .taken)
+
+returns : tie.Need-returns Inv-loop μ-loop
+returns c =
+    let l = c .before .before .before in
+    let a = l .before .before in
+    reached-stop commentByte (a .args .text .now) (a .args .at) (l .loop .i) (l .loop .inv) (c .before .before .loop-test .taken)
+    (sym (c .before .in-comment .ensures) ∙ c .if1 .left)
+
+returns-2 : tie.Need-returns-2 Inv-loop μ-loop
+returns-2 c =
+    let l = c .before in
+    let a = l .before .before in
+    reached-end commentByte (a .args .text .now) (a .args .at) (l .loop .i) (l .loop .inv) (c .loop-test .left)
+
+pub comment-end-spec : {M : Type 1} → statement M
+comment-end-spec =
+    tie.close
+    (tie.spec Inv-loop μ-loop loop-holds in-comment-requires add-i loop-less loop-again returns returns-2)

@@ -1,0 +1,61 @@
+-- `digits_value` is right because the value is cut off at each digit as the definition cuts it off at the end.
+-- Assumes nothing.
+use mathlib.Core.Path.{_≡_, ap, _∙_}
+use Prim.Native.Nat.{ℕ, _-_, _≤_, min}
+use native.Mathlib.Omega.{arith}
+use lib.ListN.{take, drop}
+use Rattle.token.specs.Token.{decimal}
+use Rattle.token.proofs.Decimal.{capped-none, capped-more}
+use Rattle.token.proofs.value.digits_value.Statement.{statement}
+use Rattle.token.proofs.value.digits_value.Tie as tie
+
+abbrev Inv-loop : tie.InvT-loop
+Inv-loop text start end i₀ value₀ i value =
+    (start ≤ i) × (i ≤ end) × (value ≡ min (decimal (take (i - start) (drop start text))) 4294967296)
+
+abbrev μ-loop : tie.MeasureT-loop
+μ-loop text start end i₀ value₀ i value = end - i
+
+loop-holds : tie.Need-loop-holds Inv-loop μ-loop
+loop-holds c =
+    let s = c .before in
+    (omega arith, omega arith, capped-none (s .args .text .now) (s .args .start))
+
+shared-slice-read-more : tie.Need-shared-slice-read-more Inv-loop μ-loop
+shared-slice-read-more c = omega arith
+
+more-requires : tie.Need-more-requires Inv-loop μ-loop
+more-requires c κs = omega arith
+
+add-i : tie.Need-add-i Inv-loop μ-loop
+add-i c = omega arith
+
+loop-less : tie.Need-loop-less Inv-loop μ-loop
+loop-less c = omega arith
+
+loop-again : tie.Need-loop-again Inv-loop μ-loop
+loop-again c =
+    let l = c .before .before .before in
+    let s = l .before .before in
+    (omega arith, omega arith, capped-more (s .args .text .now) (s .args .start) (l .loop .i) (l .loop .inv .0) (omega arith) (l .loop .inv .2) (c .more .ensures))
+
+returns : tie.Need-returns Inv-loop μ-loop
+returns c =
+    let l = c .before in
+    let s = l .before .before in
+    let all : l .loop .i ≡ s .args .end = omega arith in
+    l .loop .inv .2 ∙ ap (λ (k : ℕ). min (decimal (take (k - s .args .start) (drop (s .args .start) (s .args .text .now)))) 4294967296) all
+
+pub digits-value-spec : {M : Type 1} → statement M
+digits-value-spec =
+    tie.close
+    (tie.spec
+    Inv-loop
+    μ-loop
+    loop-holds
+    shared-slice-read-more
+    more-requires
+    add-i
+    loop-less
+    loop-again
+    returns)

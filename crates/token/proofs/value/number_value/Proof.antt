@@ -1,0 +1,84 @@
+-- `number_value` is right because a sound number is in range, so that its value is not cut off and fits with either sign.
+-- Assumes nothing.
+use mathlib.Core.Path.{_≡_, refl, sym, ap, subst, _∙_}
+use Prim.Native.Nat.{ℕ, zero, suc, _+_, _≤_, _<_, min, _^_}
+use native.Mathlib.Omega.{arith}
+use borrow.Author.Needs.{needs}
+use lib.Dec.{lit<}
+use lib.IntN.{ℤ, pos, negℤ, _-ℤ_, +ℤ-idl}
+use mir.Syntax.{w64}
+use mir.Val.{SFits, toZ, ofZ}
+use mir.Facts.{toZ-ofZ}
+use mir.ValLaws.{toZ-pos}
+use Rattle.token.specs.Token.{decimal}
+use Rattle.token.specs.Table.{between}
+use Rattle.token.proofs.Laws.{token-place, number-is, negative-is, other-is}
+use Rattle.token.proofs.value.number_value.Statement.{statement}
+use Rattle.token.proofs.value.number_value.Tie as tie
+
+-- a value that is in range is not cut off, and is a signed number as it stands
+whole-value : (r d : ℕ) → r ≡ min d 4294967296 → d ≤ 4294967295 → toZ w64 r ≡ pos d
+whole-value r d e h =
+    let same : r ≡ d = omega arith in
+    toZ-pos w64 r (omega arith) ∙ ap pos same
+
+negated : (r d : ℕ) → toZ w64 r ≡ pos d → pos 0 -ℤ toZ w64 r ≡ negℤ (pos d)
+negated r d e = ap (λ (z : ℤ). pos 0 -ℤ z) e ∙ +ℤ-idl (negℤ (pos d))
+
+negated-fits : (d : ℕ) → d ≤ 2147483648 → SFits w64 (negℤ (pos d))
+negated-fits zero h = record { sfits = lit< tt }
+negated-fits (suc k) h = record { sfits = omega arith }
+
+digits-value-requires : tie.Need-digits-value-requires
+digits-value-requires c κs =
+    let s = c .before .before in
+    omega (arith, token-place (s .args .text .now) (s .args .class) (s .args .start) (s .args .end) (s .pre))
+
+cast-result : tie.Need-cast-result
+cast-result c = search needs
+
+returns : tie.Need-returns
+returns c =
+    let s = c .before .before .before in
+    let is = number-is (s .args .text .now) (s .args .class) (s .args .start) (s .args .end) (s .pre) (c .before .if1 .taken) in
+    whole-value (c .digits-value .result) (decimal (between (s .args .text .now) (s .args .start) (s .args .end))) (c .digits-value .ensures) (is .1)
+    ∙ sym (is .0)
+
+add-digits-value : tie.Need-add-digits-value
+add-digits-value c =
+    let s = c .before .before .before in
+    omega (arith, token-place (s .args .text .now) (s .args .class) (s .args .start) (s .args .end) (s .pre))
+
+digits-value-requires-2 : tie.Need-digits-value-requires-2
+digits-value-requires-2 c κs =
+    let s = c .before .before .before in
+    omega (arith, token-place (s .args .text .now) (s .args .class) (s .args .start) (s .args .end) (s .pre))
+
+cast-result-2 : tie.Need-cast-result-2
+cast-result-2 c = search needs
+
+sub-result : tie.Need-sub-result
+sub-result c =
+    let s = c .before .before .before .before in
+    let is = negative-is (s .args .text .now) (s .args .class) (s .args .start) (s .args .end) (s .pre) (c .before .if2 .taken) in
+    let d = decimal (between (s .args .text .now) (s .args .start + 1) (s .args .end)) in
+    let v = whole-value (c .digits-value2 .result) d (c .digits-value2 .ensures) (omega (arith, is .1)) in
+    rw (negated (c .digits-value2 .result) d v) (negated-fits d (is .1))
+
+returns-2 : tie.Need-returns-2
+returns-2 c =
+    let s = c .before .before .before .before in
+    let is = negative-is (s .args .text .now) (s .args .class) (s .args .start) (s .args .end) (s .pre) (c .before .if2 .taken) in
+    let d = decimal (between (s .args .text .now) (s .args .start + 1) (s .args .end)) in
+    let v = whole-value (c .digits-value2 .result) d (c .digits-value2 .ensures) (omega (arith, is .1)) in
+    rw (negated (c .digits-value2 .result) d v) (toZ-ofZ (negated-fits d (is .1)) ∙ sym (is .0))
+
+returns-3 : tie.Need-returns-3
+returns-3 c =
+    let s = c .before .before .before in
+    sym (other-is (s .args .text .now) (s .args .class) (s .args .start) (s .args .end) (s .pre) (c .before .if1 .left) (c .if2 .left))
+
+pub number-value-spec : {M : Type 1} → statement M
+number-value-spec =
+    tie.close
+    (tie.spec digits-value-requires cast-result returns add-digits-value digits-value-requires-2 cast-result-2 sub-result returns-2 returns-3)

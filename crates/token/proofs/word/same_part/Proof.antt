@@ -1,0 +1,79 @@
+-- `same_part` is right because the bytes passed are equal, so that what is left decides.
+-- Assumes nothing.
+use mathlib.Core.Path.{_≡_, refl, sym, _∙_}
+use Prim.Native.Nat.{_+_, _-_, _≤_}
+use native.Mathlib.Nat.{add-zero, sub-zero}
+use native.Mathlib.Omega.{arith}
+use lib.ListN.{take, drop}
+use Rattle.token.specs.Word.{same}
+use Rattle.token.proofs.Words.{same-more, same-stops, same-ends}
+use Rattle.token.proofs.word.same_part.Statement.{statement}
+use Rattle.token.proofs.word.same_part.Tie as tie
+
+abbrev Inv-loop : tie.InvT-loop
+Inv-loop a i b j n k₀ k =
+    (k ≤ n)
+    × (same (take n (drop i a)) (take n (drop j b)) ≡ same (take (n - k) (drop (i + k) a)) (take (n - k) (drop (j + k) b)))
+
+abbrev μ-loop : tie.MeasureT-loop
+μ-loop a i b j n k₀ k = n - k
+
+loop-holds : tie.Need-loop-holds Inv-loop μ-loop
+loop-holds c = (omega arith, simp (add-zero, sub-zero))
+
+add-if1 : tie.Need-add-if1 Inv-loop μ-loop
+add-if1 c = omega arith
+
+shared-slice-read-if1 : tie.Need-shared-slice-read-if1 Inv-loop μ-loop
+shared-slice-read-if1 c = omega arith
+
+add-if1-2 : tie.Need-add-if1-2 Inv-loop μ-loop
+add-if1-2 c = omega arith
+
+shared-slice-read-if1-2 : tie.Need-shared-slice-read-if1-2 Inv-loop μ-loop
+shared-slice-read-if1-2 c = omega arith
+
+add-k : tie.Need-add-k Inv-loop μ-loop
+add-k c = omega arith
+
+loop-less : tie.Need-loop-less Inv-loop μ-loop
+loop-less c = omega arith
+
+loop-again : tie.Need-loop-again Inv-loop μ-loop
+loop-again c =
+    let l = c .before .before .before .before in
+    let s = l .before in
+    (omega arith,
+      l .loop .inv .1
+      ∙ same-more (s .args .a .now) (s .args .b .now) (s .args .i) (s .args .j) (s .args .n) (l .loop .k) (s .pre .0) (s .pre .1) (c .before .before .before .loop-test .taken) (c .if1 .taken))
+
+returns : tie.Need-returns Inv-loop μ-loop
+returns c =
+    let l = c .before .before .before .before in
+    let s = l .before in
+    sym
+    (l .loop .inv .1
+      ∙ same-stops (s .args .a .now) (s .args .b .now) (s .args .i) (s .args .j) (s .args .n) (l .loop .k) (s .pre .0) (s .pre .1) (c .before .before .before .loop-test .taken) (c .if1 .left))
+
+returns-2 : tie.Need-returns-2 Inv-loop μ-loop
+returns-2 c =
+    let l = c .before in
+    let s = l .before in
+    sym (l .loop .inv .1 ∙ same-ends (s .args .a .now) (s .args .b .now) (s .args .i) (s .args .j) (s .args .n) (l .loop .k) (s .pre .0) (s .pre .1) (c .loop-test .left))
+
+pub same-part-spec : {M : Type 1} → statement M
+same-part-spec =
+    tie.close
+    (tie.spec
+    Inv-loop
+    μ-loop
+    loop-holds
+    add-if1
+    shared-slice-read-if1
+    add-if1-2
+    shared-slice-read-if1-2
+    add-k
+    loop-less
+    loop-again
+    returns
+    returns-2)

@@ -1,0 +1,6 @@
+pub mod Byte
+pub mod Word
+pub mod Token
+pub mod Cut
+pub mod Table
+pub mod Law

@@ -1,0 +1,84 @@
+-- `list_tokens` is safe because each entry that it prints lies in the text.
+-- Assumes nothing.
+use Prim.Native.Nat.{_-_, _≤_}
+use native.Mathlib.Omega.{arith}
+use borrow.Author.Needs.{needs}
+use Rattle.tokens.proofs.list_tokens.Statement.{statement}
+use Rattle.tokens.proofs.list_tokens.Tie as tie
+
+abbrev Inv-loop : tie.InvT-loop
+Inv-loop text classes starts ends count i₀ i = i ≤ count
+
+abbrev μ-loop : tie.MeasureT-loop
+μ-loop text classes starts ends count i₀ i = count - i
+
+loop-holds : tie.Need-loop-holds Inv-loop μ-loop
+loop-holds c = search needs
+
+element-copy-out-print-token : tie.Need-element-copy-out-print-token Inv-loop μ-loop
+element-copy-out-print-token c = search needs
+
+mul-print-token : tie.Need-mul-print-token Inv-loop μ-loop
+mul-print-token c = search needs
+
+element-copy-out-print-token-2 : tie.Need-element-copy-out-print-token-2 Inv-loop μ-loop
+element-copy-out-print-token-2 c = search needs
+
+cast-print-token : tie.Need-cast-print-token Inv-loop μ-loop
+cast-print-token c =
+    let l = c .before .before .before in
+    let s = l .before .before in
+    let inside = s .pre .inside (l .loop .i) (c .before .before .loop-test .taken) in
+    omega (arith, inside, s .good .0 .0)
+
+mul-print-token-2 : tie.Need-mul-print-token-2 Inv-loop μ-loop
+mul-print-token-2 c = search needs
+
+element-copy-out-print-token-3 : tie.Need-element-copy-out-print-token-3 Inv-loop μ-loop
+element-copy-out-print-token-3 c = search needs
+
+cast-print-token-2 : tie.Need-cast-print-token-2 Inv-loop μ-loop
+cast-print-token-2 c =
+    let l = c .before .before .before .before in
+    let s = l .before .before in
+    let inside = s .pre .inside (l .loop .i) (c .before .before .before .loop-test .taken) in
+    omega (arith, inside, s .good .0 .0)
+
+print-token-requires : tie.Need-print-token-requires Inv-loop μ-loop
+print-token-requires c κs =
+    let l = c .before .before .before .before in
+    let s = l .before .before in
+    let inside = s .pre .inside (l .loop .i) (c .before .before .before .loop-test .taken) in
+    inside
+
+add-i : tie.Need-add-i Inv-loop μ-loop
+add-i c = search needs
+
+loop-less : tie.Need-loop-less Inv-loop μ-loop
+loop-less c = search needs
+
+loop-again : tie.Need-loop-again Inv-loop μ-loop
+loop-again c = search needs
+
+returns : tie.Need-returns Inv-loop μ-loop
+returns c = search needs
+
+pub list-tokens-spec : {M : Type 1} → statement M
+list-tokens-spec =
+    tie.close
+    (tie.spec
+    Inv-loop
+    μ-loop
+    loop-holds
+    element-copy-out-print-token
+    mul-print-token
+    element-copy-out-print-token-2
+    cast-print-token
+    mul-print-token-2
+    element-copy-out-print-token-3
+    cast-print-token-2
+    print-token-requires
+    add-i
+    loop-less
+    loop-again
+    returns)

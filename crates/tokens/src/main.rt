@@ -1,0 +1,164 @@
+// Prints the tokens of module files.
+//
+// tokens FILE prints a line for each token: its start, its end and its class, with tabs between them; or, where the text is
+// refused, one line: refused, the number and the place. With several files, a line with the file's name heads each listing.
+ghost use Prim.Native.Nat.{ℕ, _≤_, _<_};
+ghost use mathlib.Core.Path.{_≡_};
+ghost use lib.ListN.{length, getD};
+ghost use Rattle.tokens.specs.Listed.{Listed};
+
+use libc::STDOUT_FILENO;
+use token::Answer;
+
+// A text may have this many bytes. One byte more is read, to tell a longer file.
+const LONGEST: usize = 65536;
+
+// What a file holds: so many bytes; or it cannot be read.
+enum Content {
+    Bytes(usize),
+    Failed,
+}
+
+fn main() {
+    let mut space = io::large_buffer();
+    let n = command::arguments(&mut space);
+    if space.len() < n {
+        command::complain(b"tokens", 0, b"..", b"is too long", b"tokens FILE..");
+        return;
+    }
+    if os::arg_count() <= 1 {
+        command::complain(b"tokens", 0, b"", b"is no file", b"tokens FILE..");
+        return;
+    }
+    list_files(&space[..n]);
+}
+
+// Lists the files whose names stand in `names` with a byte 0 between them.
+fn list_files(names: &[u8]) {
+    let count = command::count_words(names, 0);
+    let mut k = 0;
+    while k < count {
+        let name = command::part(names, 0, k);
+        if 1 < count {
+            print_line(name);
+        }
+        list_file(name);
+        k += 1;
+    }
+}
+
+fn print_line(line: &[u8]) {
+    io::write_all(STDOUT_FILENO, line);
+    io::write_all(STDOUT_FILENO, b"\n");
+}
+
+// Lists one file, or says why it cannot be opened or read.
+fn list_file(name: &[u8]) {
+    let fd = os::open_read(name);
+    if fd < 0 {
+        os::fail(name);
+        return;
+    }
+    let mut space = [0u8; 65537];
+    let content = read_file(fd, &mut space);
+    let Content::Bytes(n) = content else {
+        os::fail(name);
+        libc::close(fd);
+        return;
+    };
+    libc::close(fd);
+    if LONGEST < n {
+        print_refusal(2, 0);
+        return;
+    }
+    list_text(&space[..n]);
+}
+
+// Reads until the file ends or buf is full.
+fn read_file(fd: i32, buf: &mut [u8]) -> Content {
+    let mut n = 0;
+    while n < buf.len() {
+        let rest = &mut buf[n..];
+        let got = libc::read(fd, rest);
+        if got < 0 {
+            return Content::Failed;
+        }
+        let more = io::count(got, rest);
+        if more == 0 {
+            return Content::Bytes(n);
+        }
+        n += more;
+    }
+    Content::Bytes(n)
+}
+
+fn print_refusal(number: u64, place: u64) {
+    io::write_all(STDOUT_FILENO, b"refused\t");
+    io::print_decimal(STDOUT_FILENO, number);
+    io::write_all(STDOUT_FILENO, b"\t");
+    io::print_decimal(STDOUT_FILENO, place);
+    io::write_all(STDOUT_FILENO, b"\n");
+}
+
+// Lists the tokens of a text, or prints its refusal.
+fn list_text(text: &[u8])
+    requires { ⌜ length (now text) ≤ 65536 ⌝ }
+{
+    let mut classes = [0u8; 65536];
+    let mut starts = [0u32; 65536];
+    let mut ends = [0u32; 65536];
+    let answer = token::cut(text, &mut classes, &mut starts, &mut ends);
+    match answer {
+        Answer::Tokens(count) => list_tokens(text, &classes, &starts, &ends, count),
+        Answer::Refused(number, place) => print_refusal(number as u64, place.0 as u64),
+    }
+}
+
+// A line for each of the first `count` entries of the table.
+fn list_tokens(
+    text: &[u8],
+    classes: &[u8; 65536],
+    starts: &[u32; 65536],
+    ends: &[u32; 65536],
+    count: usize,
+)
+    requires { ⌜ Listed (length (now text)) (now starts) (now ends) count ⌝ }
+{
+    let mut i = 0;
+    while i < count {
+        print_token(text, classes[i], starts[i] as usize, ends[i] as usize);
+        i += 1;
+    }
+}
+
+fn print_token(text: &[u8], class: u8, start: usize, end: usize)
+    requires { ⌜ (start ≤ end) × (end ≤ length (now text)) ⌝ }
+{
+    io::print_decimal(STDOUT_FILENO, start as u64);
+    io::write_all(STDOUT_FILENO, b"\t");
+    io::print_decimal(STDOUT_FILENO, end as u64);
+    io::write_all(STDOUT_FILENO, b"\t");
+    print_class(text, class, start, end);
+    io::write_all(STDOUT_FILENO, b"\n");
+}
+
+// A capital word or a mark as itself, and any other token by its class; the status and access words are lower too.
+fn print_class(text: &[u8], class: u8, start: usize, end: usize)
+    requires { ⌜ (start ≤ end) × (end ≤ length (now text)) ⌝ }
+{
+    if class <= terminal::UNITS {
+        io::write_all(STDOUT_FILENO, &text[start..end]);
+    } else if class <= terminal::LOWER {
+        io::write_all(STDOUT_FILENO, b"lower");
+    } else if class == terminal::UPPER {
+        io::write_all(STDOUT_FILENO, b"Upper");
+    } else if class <= terminal::NEGATIVE {
+        io::write_all(STDOUT_FILENO, b"number");
+    } else if class == terminal::TEXT {
+        io::write_all(STDOUT_FILENO, b"text");
+    } else if class == terminal::HEX {
+        io::write_all(STDOUT_FILENO, b"hex");
+    } else {
+        io::write_all(STDOUT_FILENO, &text[start..end]);
+    }
+}
