@@ -214,16 +214,21 @@ only-first s a none =
       onto = λ t. elim t [ inl x ↦ λ h. (a .onto x h .0, ap inl (a .onto x h .1)) | inr y ↦ λ h. absurd (none y h) ]
     }
 
-both-blank : {r s p q : Rule} → Blank r p → Blank s q → Blank (r ⨾ s) (p ⨾ q)
-both-blank {r} {s} a b =
+-- parts of two rules are one of their sequence, where a yield is in the part if and only if both halves are
+both : {P : List ℕ → Type 0} {r s p q : Rule} → ((l m : List ℕ) → P (l ++ m) → P l × P m) → Part P (λ l. l) r p → Part P (λ l. l) s q → Part P (λ l. l) (r ⨾ s) (p ⨾ q)
+both {r} {s} halves a b =
     record {
       back = λ d. (a .back (d .0), b .back (d .1));
       yields = λ d. ap₂ (λ l m. l ++ m) (a .yields (d .0)) (b .yields (d .1));
       onto = λ t h.
-        let x = a .onto (t .0) (front-nil (yield r (t .0)) (yield s (t .1)) h) in
-        let y = b .onto (t .1) (back-nil (yield r (t .0)) (yield s (t .1)) h) in
+        let e = halves (yield r (t .0)) (yield s (t .1)) h in
+        let x = a .onto (t .0) (e .0) in
+        let y = b .onto (t .1) (e .1) in
         ((x .0, y .0), ap₂ (λ u v. (u, v)) (x .1) (y .1))
     }
+
+blank-halves : (l m : List ℕ) → l ++ m ≡ [] → (l ≡ []) × (m ≡ [])
+blank-halves l m e = (front-nil l m e, back-nil l m e)
 
 -- a step that yields a token is no blank start
 starts : {r p : Rule} (s : Rule) → Blank r p → T (is-never p) → (t : Tree (r ⨾ s)) → yield (r ⨾ s) t ≡ [] → ⊥
@@ -242,7 +247,7 @@ blank-part never h = record { back = λ d. d; yields = λ d. refl; onto = λ t e
 blank-part empty h = record { back = λ d. d; yields = λ d. refl; onto = λ t e. (t, refl) }
 blank-part (token c) h = record { back = λ d. absurd d; yields = λ d. absurd d; onto = λ t e. absurd (cons-ne-nil c [] e) }
 blank-part (r ⨾ s) h =
-    renamed (both-blank (blank-part r (and-left (proper r) (proper s) h)) (blank-part s (and-right (proper r) (proper s) h)))
+    renamed (both blank-halves (blank-part r (and-left (proper r) (proper s) h)) (blank-part s (and-right (proper r) (proper s) h)))
     (sequence-same (blank r) (blank s))
 blank-part (r or s) h =
     renamed (either (blank-part r (and-left (proper r) (proper s) h)) (blank-part s (and-right (proper r) (proper s) h)))
@@ -342,3 +347,42 @@ derivative-part c (repeated r s) h =
     (either (derivative-part c s ps) (after-first (repeated r s) c (derivative-part c r pr) (blank-part r pr) (and-left (is-never (blank r)) (proper r && proper s) h)))
     (renamed (either (unchanged (derivative c s)) (sequence-same (derivative c r) (repeated r s)))
     (choice-same (derivative c s) (sequence (derivative c r) (repeated r s)))))
+
+-- the rule, simplified throughout
+abbrev pub simplified : Rule → Rule
+simplified never = never
+simplified empty = empty
+simplified (token c) = token c
+simplified (r ⨾ s) = sequence (simplified r) (simplified s)
+simplified (r or s) = choice (simplified r) (simplified s)
+simplified (repeated r s) = repeated (simplified r) (simplified s)
+
+module _ {r s p q : Rule} (a : Same r p) (b : Same s q) where
+  again-back : Tree (repeated p q) → Tree (repeated r s)
+  again-back (last t) = last (b .back t)
+  again-back (step x more) = step (a .back x) (again-back more)
+
+  again-yields : (d : Tree (repeated p q)) → yield (repeated r s) (again-back d) ≡ yield (repeated p q) d
+  unfolding again-back
+  again-yields (last t) = b .yields t
+  again-yields (step x more) = ap₂ (λ l m. l ++ m) (a .yields x) (again-yields more)
+
+  again-onto : (t : Tree (repeated r s)) → (d : Tree (repeated p q)) × (again-back d ≡ t)
+  unfolding again-back
+  again-onto (last t) = let e = b .onto t tt in (last (e .0), ap last (e .1))
+  again-onto (step x more) =
+      let e = a .onto x tt in
+      let m = again-onto more in
+      (step (e .0) (m .0), ap₂ step (e .1) (m .1))
+
+  again : Same (repeated r s) (repeated p q)
+  again = record { back = again-back; yields = again-yields; onto = λ t h. again-onto t }
+
+pub simplified-same : (r : Rule) → Same r (simplified r)
+simplified-same never = unchanged never
+simplified-same empty = unchanged empty
+simplified-same (token c) = unchanged (token c)
+simplified-same (r ⨾ s) =
+    renamed (both (λ l m h. (tt, tt)) (simplified-same r) (simplified-same s)) (sequence-same (simplified r) (simplified s))
+simplified-same (r or s) = renamed (either (simplified-same r) (simplified-same s)) (choice-same (simplified r) (simplified s))
+simplified-same (repeated r s) = again (simplified-same r) (simplified-same s)
