@@ -203,6 +203,17 @@ def derivative(c, r):
     return NEVER
 
 
+def simplified(r):
+    kind = r[0]
+    if kind == "then":
+        return sequence(simplified(r[1]), simplified(r[2]))
+    if kind == "or":
+        return choice(simplified(r[1]), simplified(r[2]))
+    if kind == "repeated":
+        return ("repeated", simplified(r[1]), simplified(r[2]))
+    return r
+
+
 def plain(r):
     """The rule without the definitions that its tokens stand in."""
     if r[0] == "token":
@@ -260,7 +271,7 @@ class Automaton:
 
 def main():
     grammar = Grammar()
-    start = grammar.apply("smi-module", [], {}, "smi-module")
+    start = simplified(grammar.apply("smi-module", [], {}, "smi-module"))
     a = Automaton(grammar, start)
     print(len(a.rules), "states", sum(1 for row in a.rows for x in row if x), "live", "accepting", a.accepting)
     for s in range(2, len(a.rules)):

@@ -8,6 +8,7 @@ use mathlib.Core.List.{List, [], _∷_, _++_, append-assoc, cons-ne-nil, head-eq
 use Prim.Native.Nat.{ℕ}
 use lib.Dec.{T, eqb}
 use borrow.Author.Tests.{eqb-true, eqb-false}
+use Rattle.grammar.proofs.Every.{and-left, and-right}
 use Rattle.grammar.specs.Rule.{Rule, never, empty, token, _⨾_, _or_, repeated, Steps, last, step, Tree, in-order, yield}
 
 -- the one, then the other: ∅ and ε are dropped, and a sequence is associated to the right
@@ -234,14 +235,6 @@ blank-halves l m e = (front-nil l m e, back-nil l m e)
 starts : {r p : Rule} (s : Rule) → Blank r p → T (is-never p) → (t : Tree (r ⨾ s)) → yield (r ⨾ s) t ≡ [] → ⊥
 starts {r} {p} s a h t e = is-never-empty p h (a .onto (t .0) (front-nil (yield r (t .0)) (yield s (t .1)) e) .0)
 
-and-left : (a b : Bool) → T (a && b) → T a
-and-left true b h = tt
-and-left false b h = h
-
-and-right : (a b : Bool) → T (a && b) → T b
-and-right true b h = h
-and-right false b h = absurd h
-
 pub blank-part : (r : Rule) → T (proper r) → Blank r (blank r)
 blank-part never h = record { back = λ d. d; yields = λ d. refl; onto = λ t e. (t, refl) }
 blank-part empty h = record { back = λ d. d; yields = λ d. refl; onto = λ t e. (t, refl) }
@@ -276,7 +269,7 @@ blank-silent (r or s) =
 blank-silent (repeated r s) = blank-silent s
 
 -- the first token of two lists, one after the other, is the second's where the first is empty, and else the first's
-first-token : (l m : List ℕ) (c : ℕ) (more : List ℕ) → l ++ m ≡ c ∷ more → ((l ≡ []) × (m ≡ c ∷ more)) ⊎ ((xs : List ℕ) × (l ≡ c ∷ xs))
+pub first-token : (l m : List ℕ) (c : ℕ) (more : List ℕ) → l ++ m ≡ c ∷ more → ((l ≡ []) × (m ≡ c ∷ more)) ⊎ ((xs : List ℕ) × (l ≡ c ∷ xs))
 first-token [] m c more e = inl (refl, e)
 first-token (x ∷ xs) m c more e = inr (xs, ap (λ y. y ∷ xs) (head-eq-of-cons-eq e))
 

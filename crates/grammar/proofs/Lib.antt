@@ -1,1 +1,4 @@
 pub mod Derivative
+pub mod Every
+pub mod Passes
+pub mod States

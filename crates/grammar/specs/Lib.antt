@@ -1,3 +1,5 @@
 pub mod Rule
 pub mod Grammar
 pub mod Answer
+pub mod Automaton
+pub mod Table
