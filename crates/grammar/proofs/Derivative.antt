@@ -254,7 +254,7 @@ blank-part (repeated r s) h =
 silent-same : {r q : Rule} → Same r q → Silent r → Silent q
 silent-same a h d = sym (a .yields d) ∙ h (a .back d)
 
-blank-silent : (r : Rule) → Silent (blank r)
+pub blank-silent : (r : Rule) → Silent (blank r)
 blank-silent never = λ t. absurd t
 blank-silent empty = λ t. refl
 blank-silent (token c) = λ t. absurd t

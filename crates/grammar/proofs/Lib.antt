@@ -1,4 +1,5 @@
 pub mod Derivative
 pub mod Every
 pub mod Passes
+pub mod Run
 pub mod States
