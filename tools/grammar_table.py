@@ -240,9 +240,7 @@ class Automaton:
 
     def __init__(self, grammar, start):
         self.width = grammar.numbers["terminals"]
-        self.words = {n: name for name, n in grammar.numbers.items() if name != "terminals"}
         self.rules = [NEVER, start]
-        self.trail = []
         self.entered = [set(), set()]
         index = {plain(NEVER): 0, plain(start): 1}
         self.rows = [[0] * self.width]
@@ -255,7 +253,6 @@ class Automaton:
                 if key not in index:
                     index[key] = len(self.rules)
                     self.rules.append(rest)
-                    self.trail.append((state, c))
                     self.entered.append(set())
                 row.append(index[key])
                 if index[key]:
@@ -269,13 +266,141 @@ class Automaton:
         self.accepting = accepting[0]
 
 
+# ---- printing --------------------------------------------------------------------------------
+
+
+class Printer:
+    """The states as the two files have them, a line or a block for each."""
+
+    GROUPS = {
+        "lowers": ["lower", "current", "deprecated", "obsolete", "not-accessible", "accessible-for-notify"]
+        + ["read-only", "read-write", "read-create"],
+        "macro-words": ["MODULE-IDENTITY", "OBJECT-IDENTITY", "OBJECT-TYPE", "NOTIFICATION-TYPE", "TEXTUAL-CONVENTION"],
+        "numbers": ["number", "negative"],
+    }
+
+    def __init__(self, grammar, automaton):
+        self.automaton = automaton
+        self.words = {n: name for name, n in grammar.numbers.items() if name != "terminals"}
+        self.groups = {name: [grammar.numbers[word] for word in words] for name, words in self.GROUPS.items()}
+
+    def grouped(self, classes):
+        """The names of the classes: a group's where all of it is there, then those of the rest."""
+        left = sorted(classes)
+        names = []
+        for name, group in self.groups.items():
+            if set(group) <= set(left):
+                names.append(name)
+                left = [c for c in left if c not in group]
+        return names, [self.words[c] for c in left]
+
+    def where(self, state):
+        """Where in the grammar the state is: the tokens that lead to it and their definitions."""
+        if state == 0:
+            return "dead: no derived sequence goes on so"
+        if state == 1:
+            return "the start"
+        owners = {}
+        for owner, number in self.automaton.entered[state]:
+            owners.setdefault(owner, []).append(number)
+        parts = []
+        for owner in sorted(owners):
+            groups, words = self.grouped(owners[owner])
+            parts.append(", ".join(groups + words) + " of " + owner)
+        return "after " + "; ".join(parts)
+
+    def targets(self, state):
+        found = {}
+        for c, x in enumerate(self.automaton.rows[state]):
+            if x:
+                found.setdefault(x, []).append(c)
+        return found
+
+    def row(self, state):
+        """The state's row in antt, in the order of the states that it leads to."""
+        text, ends = "", False
+        for x, classes in sorted(self.targets(state).items()):
+            names, words = self.grouped(classes)
+            for name in names:
+                text, ends = text + (" ++ " if ends else "") + f"{name} {x}", True
+            for word in words:
+                text, ends = text + (" ++ " if ends else "") + f"({word}, {x}) ∷ ", False
+        return text if ends else text + "[]"
+
+    def antt(self):
+        a = self.automaton
+        words = [w for n, w in sorted(self.words.items())]
+        lines = [
+            "-- The automaton of the grammar, printed by tools/grammar_table.py: a line for each state, with the states that the",
+            "-- classes lead to. Nothing rests on how it was made: the proofs test each state and each class.",
+            "-- Assumes nothing.",
+            "use mathlib.Core.List.{List, [], _∷_, _++_}",
+            "use Prim.Native.Nat.{ℕ}",
+            "use Rattle.grammar.specs.Automaton.{Automaton, dense}",
+            "use Rattle.terminal.specs.Terminal.{" + ", ".join(words + ["terminals"]) + "}",
+            "",
+        ]
+        for name, words in self.GROUPS.items():
+            pairs = " ∷ ".join([f"({word}, x)" for word in words] + ["[]"])
+            lines += [f"abbrev {name} : ℕ → List (ℕ × ℕ)", f"{name} x = {pairs}", ""]
+        lines += [
+            "-- for each state the classes that lead on, and the state that each of them leads to",
+            "unfoldable pub transitions : List (List (ℕ × ℕ))",
+            "transitions =",
+        ]
+        for state in range(len(a.rules)):
+            row = self.row(state)
+            lines += [f"    -- {state}, {self.where(state)}", f"    {row if row == '[]' else '(' + row + ')'} ∷"]
+        lines += [
+            "    []",
+            "",
+            "unfoldable pub module-automaton : Automaton",
+            "unfolding transitions",
+            "module-automaton =",
+            f"    record {{ states = {len(a.rules)}; width = terminals; table = dense terminals transitions; start = 1; accepting = {a.accepting} }}",
+            "",
+        ]
+        return "\n".join(lines)
+
+    def rattle(self):
+        a = self.automaton
+        size = len(a.rules) * a.width
+        lines = [
+            "// The transition table of the grammar, printed by tools/grammar_table.py: the state after a token of class c in state s,",
+            "// at s * 58 + c. specs/Table.antt has the same, a line for each state; the proof of `next` holds the two together.",
+            "",
+            "// No derived sequence goes on from here.",
+            "pub const DEAD: u8 = 0;",
+            "",
+            "// Before the first token.",
+            "pub const START: u8 = 1;",
+            "",
+            "// The module is whole.",
+            f"pub const ACCEPTING: u8 = {a.accepting};",
+            "",
+            f"pub const TABLE: [u8; {size}] = [",
+        ]
+        for state, row in enumerate(a.rows):
+            lines.append(f"    // state {state}, {self.where(state)}")
+            lines += [f"    {x}," for x in row]
+        lines += ["];", ""]
+        return "\n".join(lines)
+
+
 def main():
     grammar = Grammar()
-    start = simplified(grammar.apply("smi-module", [], {}, "smi-module"))
-    a = Automaton(grammar, start)
-    print(len(a.rules), "states", sum(1 for row in a.rows for x in row if x), "live", "accepting", a.accepting)
-    for s in range(2, len(a.rules)):
-        print(s, sorted(a.entered[s])[:12])
+    automaton = Automaton(grammar, simplified(grammar.apply("smi-module", [], {}, "smi-module")))
+    printer = Printer(grammar, automaton)
+    files = {TABLE_RT: printer.rattle(), TABLE_ANTT: printer.antt()}
+    if sys.argv[1:] == ["--check"]:
+        stale = [path for path, text in files.items() if not path.exists() or path.read_text() != text]
+        for path in stale:
+            print(f"{path.relative_to(ROOT)} is not what tools/grammar_table.py prints")
+        sys.exit(1 if stale else 0)
+    if sys.argv[1:]:
+        sys.exit("usage: tools/grammar_table.py [--check]")
+    for path, text in files.items():
+        path.write_text(text)
 
 
 if __name__ == "__main__":

@@ -107,7 +107,7 @@ module _ {P : List ℕ → Type 0} {f : List ℕ → List ℕ} {r q p : Rule} wh
       record {
         back = λ d. a .back (b .back d);
         yields = λ d. a .yields (b .back d) ∙ ap f (b .yields d);
-        onto = λ t h. let e = a .onto t h in let d = b .onto (e .0) tt in (d .0, ap (a .back) (d .1) ∙ e .1)
+        onto = λ t h. let e = a .onto t h in let d = b .onto (e .0) tt in (d .0, ap (a .back) (d .1) ∙ e .1);
       }
 
   -- the same trees under another rule, and a part of those
@@ -117,9 +117,9 @@ module _ {P : List ℕ → Type 0} {f : List ℕ → List ℕ} {r q p : Rule} wh
         back = λ d. a .back (b .back d);
         yields = λ d. a .yields (b .back d) ∙ b .yields d;
         onto = λ t h.
-          let e = a .onto t tt in
-          let d = b .onto (e .0) (subst P (ap (yield r) (sym (e .1)) ∙ a .yields (e .0)) h) in
-          (d .0, ap (a .back) (d .1) ∙ e .1)
+            let e = a .onto t tt in
+            let d = b .onto (e .0) (subst P (ap (yield r) (sym (e .1)) ∙ a .yields (e .0)) h) in
+            (d .0, ap (a .back) (d .1) ∙ e .1);
       }
 
 pub unchanged : (r : Rule) → Same r r
@@ -131,7 +131,7 @@ either a b =
     record {
       back = λ d. elim d [ inl x ↦ inl (a .back x) | inr y ↦ inr (b .back y) ];
       yields = λ d. elim d [ inl x ↦ a .yields x | inr y ↦ b .yields y ];
-      onto = λ t. elim t [ inl x ↦ λ h. (inl (a .onto x h .0), ap inl (a .onto x h .1)) | inr y ↦ λ h. (inr (b .onto y h .0), ap inr (b .onto y h .1)) ]
+      onto = λ t. elim t [ inl x ↦ λ h. (inl (a .onto x h .0), ap inl (a .onto x h .1)) | inr y ↦ λ h. (inr (b .onto y h .0), ap inr (b .onto y h .1)) ];
     }
 
 pub sequence-same : (r s : Rule) → Same (r ⨾ s) (sequence r s)
@@ -143,7 +143,7 @@ sequence-same (r ⨾ q) s =
     record {
       back = λ d. ((d .0, ih .back (d .1) .0), ih .back (d .1) .1);
       yields = λ d. append-assoc (yield r (d .0)) (yield q (ih .back (d .1) .0)) (yield s (ih .back (d .1) .1)) ∙ ap (λ l. yield r (d .0) ++ l) (ih .yields (d .1));
-      onto = λ t h. let e = ih .onto (t .0 .1, t .1) tt in ((t .0 .0, e .0), ap (λ x. ((t .0 .0, x .0), x .1)) (e .1))
+      onto = λ t h. let e = ih .onto (t .0 .1, t .1) tt in ((t .0 .0, e .0), ap (λ x. ((t .0 .0, x .0), x .1)) (e .1));
     }
 sequence-same (r or q) s = unchanged ((r or q) ⨾ s)
 sequence-same (repeated r q) s = unchanged (repeated r q ⨾ s)
@@ -154,7 +154,7 @@ left-alone r =
     record {
       back = λ d. inl d;
       yields = λ d. refl;
-      onto = λ t. elim t [ inl x ↦ λ h. (x, refl) | inr y ↦ λ h. absurd y ]
+      onto = λ t. elim t [ inl x ↦ λ h. (x, refl) | inr y ↦ λ h. absurd y ];
     }
 
 right-alone : (s : Rule) → Same (never or s) s
@@ -162,7 +162,7 @@ right-alone s =
     record {
       back = λ d. inr d;
       yields = λ d. refl;
-      onto = λ t. elim t [ inl x ↦ λ h. absurd x | inr y ↦ λ h. (y, refl) ]
+      onto = λ t. elim t [ inl x ↦ λ h. absurd x | inr y ↦ λ h. (y, refl) ];
     }
 
 beside-same : (r s : Rule) → Same (r or s) (beside r s)
@@ -187,7 +187,7 @@ unrolled r s =
     record {
       back = λ d. elim d [ inl t ↦ last t | inr u ↦ step (u .0) (u .1) ];
       yields = λ d. elim d [ inl t ↦ refl | inr u ↦ refl ];
-      onto = λ t h. elim t [ last x ↦ (inl x, refl) | step x more ↦ (inr (x, more), refl) ]
+      onto = λ t h. elim t [ last x ↦ (inl x, refl) | step x more ↦ (inr (x, more), refl) ];
     }
 
 is-never-empty : (r : Rule) → T (is-never r) → Tree r → ⊥
@@ -212,7 +212,7 @@ only-first s a none =
     record {
       back = λ d. inl (a .back d);
       yields = λ d. a .yields d;
-      onto = λ t. elim t [ inl x ↦ λ h. (a .onto x h .0, ap inl (a .onto x h .1)) | inr y ↦ λ h. absurd (none y h) ]
+      onto = λ t. elim t [ inl x ↦ λ h. (a .onto x h .0, ap inl (a .onto x h .1)) | inr y ↦ λ h. absurd (none y h) ];
     }
 
 -- parts of two rules are one of their sequence, where a yield is in the part if and only if both halves are
@@ -222,10 +222,10 @@ both {r} {s} halves a b =
       back = λ d. (a .back (d .0), b .back (d .1));
       yields = λ d. ap₂ (λ l m. l ++ m) (a .yields (d .0)) (b .yields (d .1));
       onto = λ t h.
-        let e = halves (yield r (t .0)) (yield s (t .1)) h in
-        let x = a .onto (t .0) (e .0) in
-        let y = b .onto (t .1) (e .1) in
-        ((x .0, y .0), ap₂ (λ u v. (u, v)) (x .1) (y .1))
+          let e = halves (yield r (t .0)) (yield s (t .1)) h in
+          let x = a .onto (t .0) (e .0) in
+          let y = b .onto (t .1) (e .1) in
+          ((x .0, y .0), ap₂ (λ u v. (u, v)) (x .1) (y .1));
     }
 
 blank-halves : (l m : List ℕ) → l ++ m ≡ [] → (l ≡ []) × (m ≡ [])
@@ -279,15 +279,15 @@ after-sequence {r} {s} {p} {e} {q} c a b mute g =
     record {
       back = λ d. elim d [ inl x ↦ (a .back (x .0), x .1) | inr y ↦ (b .back (y .0), g .back (y .1)) ];
       yields = λ d.
-        elim d [
-          inl x ↦ ap (λ l. l ++ yield s (x .1)) (a .yields (x .0))
-        | inr y ↦ ap₂ (λ l m. l ++ m) (b .yields (y .0) ∙ mute (y .0)) (g .yields (y .1)) ∙ ap (λ l. c ∷ (l ++ yield q (y .1))) (sym (mute (y .0)))
-        ];
+          elim d [
+            | inl x ↦ ap (λ l. l ++ yield s (x .1)) (a .yields (x .0))
+            | inr y ↦ ap₂ (λ l m. l ++ m) (b .yields (y .0) ∙ mute (y .0)) (g .yields (y .1)) ∙ ap (λ l. c ∷ (l ++ yield q (y .1))) (sym (mute (y .0)))
+          ];
       onto = λ t h.
-        ⊎-elim
-        (λ v. let x = b .onto (t .0) (v .0) in let y = g .onto (t .1) (h .0, v .1) in (inr (x .0, y .0), ap₂ (λ u w. (u, w)) (x .1) (y .1)))
-        (λ v. let x = a .onto (t .0) v in (inl (x .0, t .1), ap (λ u. (u, t .1)) (x .1)))
-        (first-token (yield r (t .0)) (yield s (t .1)) c (h .0) (h .1))
+          ⊎-elim
+          (λ v. let x = b .onto (t .0) (v .0) in let y = g .onto (t .1) (h .0, v .1) in (inr (x .0, y .0), ap₂ (λ u w. (u, w)) (x .1) (y .1)))
+          (λ v. let x = a .onto (t .0) v in (inl (x .0, t .1), ap (λ u. (u, t .1)) (x .1)))
+          (first-token (yield r (t .0)) (yield s (t .1)) c (h .0) (h .1));
     }
 
 -- of a sequence whose first rule is never blank, the first token is the first rule's
@@ -297,10 +297,10 @@ after-first {r} {p} {e} s c a b none =
       back = λ d. (a .back (d .0), d .1);
       yields = λ d. ap (λ l. l ++ yield s (d .1)) (a .yields (d .0));
       onto = λ t h.
-        ⊎-elim
-        (λ v. absurd (is-never-empty e none (b .onto (t .0) (v .0) .0)))
-        (λ v. let x = a .onto (t .0) v in ((x .0, t .1), ap (λ u. (u, t .1)) (x .1)))
-        (first-token (yield r (t .0)) (yield s (t .1)) c (h .0) (h .1))
+          ⊎-elim
+          (λ v. absurd (is-never-empty e none (b .onto (t .0) (v .0) .0)))
+          (λ v. let x = a .onto (t .0) v in ((x .0, t .1), ap (λ u. (u, t .1)) (x .1)))
+          (first-token (yield r (t .0)) (yield s (t .1)) c (h .0) (h .1));
     }
 
 after-token : (k c : ℕ) (b : Bool) → eqb k c ≡ b → After c (token k) (matched b)
@@ -308,13 +308,13 @@ after-token k c true e =
     record {
       back = λ d. tt;
       yields = λ d. ap (λ x. x ∷ []) (eqb-true k c e);
-      onto = λ t h. (tt, refl)
+      onto = λ t h. (tt, refl);
     }
 after-token k c false e =
     record {
       back = λ d. absurd d;
       yields = λ d. absurd d;
-      onto = λ t h. absurd (eqb-false k c e (head-eq-of-cons-eq (h .1)))
+      onto = λ t h. absurd (eqb-false k c e (head-eq-of-cons-eq (h .1)));
     }
 
 -- the derivative is what is left, for every rule whose repeats are proper

@@ -1,5 +1,7 @@
-pub mod Derivative
 pub mod Every
+pub mod Derivative
 pub mod Passes
 pub mod Run
 pub mod States
+pub mod Theorem
+pub mod Resumed

@@ -1,8 +1,8 @@
 -- The run of a transition table over a class sequence. No statement of what a right answer is rests on it.
 -- Assumes nothing.
 use mathlib.Core.Bool.{Bool, true, false, cond}
-use mathlib.Core.List.{List, [], _∷_}
-use Prim.Native.Nat.{ℕ, suc, _+_, _*_}
+use mathlib.Core.List.{List, [], _∷_, _++_}
+use Prim.Native.Nat.{ℕ, zero, suc, _+_, _*_}
 use lib.Dec.{eqb, ltb}
 use lib.ListN.{getD}
 use Rattle.grammar.specs.Answer.{Verdict, derived, refused}
@@ -17,6 +17,21 @@ pub record Automaton : Type 0 where
   pub start : ℕ
   -- the state in which the sequence may end
   pub accepting : ℕ
+
+-- the state that class c leads to, of the pairs of a class and a state: 0 where none has it
+abbrev pub entry : ℕ → List (ℕ × ℕ) → ℕ
+entry c [] = 0
+entry c (p ∷ more) = elim (eqb (p .0) c) [ true ↦ p .1 | false ↦ entry c more ]
+
+-- the states that n classes lead to, from class c on
+abbrev pub row : ℕ → ℕ → List (ℕ × ℕ) → List ℕ
+row zero c pairs = []
+row (suc n) c pairs = entry c pairs ∷ row n (suc c) pairs
+
+-- the table of n classes whose rows have these pairs
+abbrev pub dense : ℕ → List (List (ℕ × ℕ)) → List ℕ
+dense n [] = []
+dense n (pairs ∷ more) = row n 0 pairs ++ dense n more
 
 -- the state after a token of class c in state s
 abbrev pub next : Automaton → ℕ → ℕ → ℕ

@@ -3,3 +3,4 @@ pub mod Grammar
 pub mod Answer
 pub mod Automaton
 pub mod Table
+pub mod Reading
