@@ -1,12 +1,12 @@
 -- A run that has come past some tokens, and what one token more, or the end, makes of it.
 -- Assumes nothing.
 use mathlib.Core.Path.{_≡_, refl, sym, _∙_, ap, subst}
-use mathlib.Core.Bool.{Bool, true, false}
+use mathlib.Core.Bool.{Bool, true, false, cond}
 use mathlib.Core.List.{List, [], _∷_}
-use Prim.Native.Nat.{ℕ, zero, suc, _+_, _<_, _≤_}
+use Prim.Native.Nat.{ℕ, zero, suc, _+_, _*_, _<_, _≤_}
 use native.Mathlib.Nat.{add-zero, zero-add, add-suc, suc-add}
 use native.Mathlib.Numerals.{add-one}
-use borrow.Author.Tests.{eq-eqb, ne-eqb}
+use borrow.Author.Tests.{eq-eqb, ne-eqb, lt-ltb, le-ltb}
 use lib.Dec.{eqb}
 use lib.ListN.{length, take, drop, getD, drop-of-length-le}
 use lib.Seq.{drop-cons}
@@ -57,3 +57,11 @@ module _ (a : Automaton) (ts : List ℕ) where
   pub resumed-end : (s i : ℕ) → Resumed s i → length ts ≤ i → run a ts ≡ later-by i (at-the-end (eqb s (a .accepting)))
   unfolding run-from
   resumed-end s i h l = h ∙ ap (λ rest. later-by i (run-from a s rest)) (drop-of-length-le ts l)
+
+-- where a class leads: the table's entry for a class that the automaton has, and the dead state for any other
+module _ (a : Automaton) (s c : ℕ) where
+  pub next-inside : c < a .width → next a s c ≡ getD (a .table) (s * a .width + c) 0
+  next-inside h = ap (λ b. cond b (getD (a .table) (s * a .width + c) 0) 0) (lt-ltb c (a .width) h)
+
+  pub next-outside : a .width ≤ c → next a s c ≡ 0
+  next-outside h = ap (λ b. cond b (getD (a .table) (s * a .width + c) 0) 0) (le-ltb c (a .width) h)
