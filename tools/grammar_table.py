@@ -279,6 +279,10 @@ class Printer:
         "numbers": ["number", "negative"],
     }
 
+    # How the comments spell what is no word of a module.
+    SPELLED = {"assign": "::=", "dots": "..", "left-brace": "{", "right-brace": "}", "left-paren": "(", "right-paren": ")"}
+    SPELLED |= {"comma": ",", "semicolon": ";", "bar": "|", "lowers": "lower", "macro-words": "macro word", "numbers": "number"}
+
     def __init__(self, grammar, automaton):
         self.automaton = automaton
         self.words = {n: name for name, n in grammar.numbers.items() if name != "terminals"}
@@ -306,8 +310,8 @@ class Printer:
         parts = []
         for owner in sorted(owners):
             groups, words = self.grouped(owners[owner])
-            parts.append(", ".join(groups + words) + " of " + owner)
-        return "after " + "; ".join(parts)
+            parts.append(" or ".join(self.SPELLED.get(word, word) for word in groups + words) + " of " + owner)
+        return "after " + ", ".join(parts)
 
     def targets(self, state):
         found = {}
@@ -367,7 +371,8 @@ class Printer:
         size = len(a.rules) * a.width
         lines = [
             "// The transition table of the grammar, printed by tools/grammar_table.py: the state after a token of class c in state s,",
-            "// at s * 58 + c. specs/Table.antt has the same, a line for each state; the proof of `next` holds the two together.",
+            "// at s * 58 + c, with the class's name where it leads on. specs/Table.antt has the same, a line for each state, and the",
+            "// proof of `step` holds the two together.",
             "",
             "// No derived sequence goes on from here.",
             "pub const DEAD: u8 = 0;",
@@ -382,7 +387,9 @@ class Printer:
         ]
         for state, row in enumerate(a.rows):
             lines.append(f"    // state {state}, {self.where(state)}")
-            lines += [f"    {x}," for x in row]
+            for c, x in enumerate(row):
+                word = self.words[c]
+                lines.append(f"    {x}," + (f" // {self.SPELLED.get(word, word)}" if x else ""))
         lines += ["];", ""]
         return "\n".join(lines)
 

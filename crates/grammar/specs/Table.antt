@@ -26,15 +26,15 @@ transitions =
     ((DEFINITIONS, 3) ∷ []) ∷
     -- 3, after DEFINITIONS of smi-module
     ((assign, 4) ∷ []) ∷
-    -- 4, after assign of smi-module
+    -- 4, after ::= of smi-module
     ((BEGIN, 5) ∷ []) ∷
     -- 5, after BEGIN of smi-module
     ((IMPORTS, 6) ∷ lowers 7) ∷
-    -- 6, after comma of group; IMPORTS of smi-module
+    -- 6, after , of group, IMPORTS of smi-module
     (lowers 8 ++ macro-words 8 ++ (Upper, 8) ∷ []) ∷
-    -- 7, after lowers of identity
+    -- 7, after lower of identity
     ((MODULE-IDENTITY, 9) ∷ []) ∷
-    -- 8, after lowers, macro-words, Upper of group
+    -- 8, after lower or macro word or Upper of group
     ((comma, 6) ∷ (FROM, 10) ∷ []) ∷
     -- 9, after MODULE-IDENTITY of identity
     ((LAST-UPDATED, 11) ∷ []) ∷
@@ -46,13 +46,13 @@ transitions =
     (lowers 8 ++ macro-words 8 ++ (Upper, 8) ∷ (semicolon, 14) ∷ []) ∷
     -- 13, after text of identity
     ((ORGANIZATION, 15) ∷ []) ∷
-    -- 14, after semicolon of smi-module
+    -- 14, after ; of smi-module
     (lowers 7) ∷
     -- 15, after ORGANIZATION of identity
     ((text, 16) ∷ []) ∷
     -- 16, after text of identity
     ((CONTACT-INFO, 17) ∷ []) ∷
-    -- 17, after CONTACT-INFO, REVISION of identity
+    -- 17, after CONTACT-INFO or REVISION of identity
     ((text, 18) ∷ []) ∷
     -- 18, after text of identity
     ((DESCRIPTION, 19) ∷ []) ∷
@@ -60,43 +60,43 @@ transitions =
     ((text, 20) ∷ []) ∷
     -- 20, after text of identity
     ((REVISION, 17) ∷ (assign, 21) ∷ []) ∷
-    -- 21, after assign of identity; assign of notification-type; assign of object-identifier; assign of object-type
+    -- 21, after ::= of identity, ::= of notification-type, ::= of object-identifier, ::= of object-type
     ((left-brace, 22) ∷ []) ∷
-    -- 22, after left-brace of oid
+    -- 22, after { of oid
     (lowers 23) ∷
-    -- 23, after lowers of oid
+    -- 23, after lower of oid
     (lowers 24 ++ (number, 25) ∷ []) ∷
-    -- 24, after lowers of part
+    -- 24, after lower of part
     ((left-paren, 26) ∷ []) ∷
-    -- 25, after number, right-paren of part
+    -- 25, after number or ) of part
     (lowers 24 ++ (number, 25) ∷ (right-brace, 27) ∷ []) ∷
-    -- 26, after left-paren of part
+    -- 26, after ( of part
     ((number, 28) ∷ []) ∷
-    -- 27, after right-brace of enum; right-brace of oid; right-paren of ranges; right-brace of sequence-type; IDENTIFIER of simple; right-paren of sizes
+    -- 27, after } of enum, } of oid, ) of ranges, } of sequence-type, IDENTIFIER of simple, ) of sizes
     ((END, 29) ∷ lowers 30 ++ (Upper, 31) ∷ []) ∷
     -- 28, after number of part
     ((right-paren, 25) ∷ []) ∷
     -- 29, after END of smi-module
     [] ∷
-    -- 30, after lowers of notification-type; lowers of object-identifier; lowers of object-identity; lowers of object-type
+    -- 30, after lower of notification-type, lower of object-identifier, lower of object-identity, lower of object-type
     ((NOTIFICATION-TYPE, 32) ∷ (OBJECT, 33) ∷ (OBJECT-IDENTITY, 34) ∷ (OBJECT-TYPE, 35) ∷ []) ∷
-    -- 31, after Upper of sequence-type; Upper of textual-convention
+    -- 31, after Upper of sequence-type, Upper of textual-convention
     ((assign, 36) ∷ []) ∷
     -- 32, after NOTIFICATION-TYPE of notification-type
     ((OBJECTS, 37) ∷ (STATUS, 38) ∷ []) ∷
     -- 33, after OBJECT of object-identifier
     ((IDENTIFIER, 39) ∷ []) ∷
-    -- 34, after right-brace of notification-type; OBJECT-IDENTITY of object-identity
+    -- 34, after } of notification-type, OBJECT-IDENTITY of object-identity
     ((STATUS, 38) ∷ []) ∷
     -- 35, after OBJECT-TYPE of object-type
     ((SYNTAX, 40) ∷ []) ∷
-    -- 36, after assign of sequence-type; assign of textual-convention
+    -- 36, after ::= of sequence-type, ::= of textual-convention
     ((SEQUENCE, 41) ∷ (TEXTUAL-CONVENTION, 42) ∷ []) ∷
     -- 37, after OBJECTS of notification-type
     ((left-brace, 43) ∷ []) ∷
     -- 38, after STATUS of tail
     ((current, 44) ∷ (deprecated, 44) ∷ (obsolete, 44) ∷ []) ∷
-    -- 39, after IDENTIFIER of object-identifier; right-brace of object-type; text of tail
+    -- 39, after IDENTIFIER of object-identifier, } of object-type, text of tail
     ((assign, 21) ∷ []) ∷
     -- 40, after SYNTAX of object-type
     ((BITS, 45) ∷ (INTEGER, 46) ∷ (OBJECT, 47) ∷ (OCTET, 48) ∷ (SEQUENCE, 49) ∷ (Upper, 50) ∷ []) ∷
@@ -104,9 +104,9 @@ transitions =
     ((left-brace, 51) ∷ []) ∷
     -- 42, after TEXTUAL-CONVENTION of textual-convention
     ((DISPLAY-HINT, 52) ∷ (STATUS, 53) ∷ []) ∷
-    -- 43, after left-brace, comma of notification-type
+    -- 43, after { or , of notification-type
     (lowers 54) ∷
-    -- 44, after current, deprecated, obsolete of tail
+    -- 44, after current or deprecated or obsolete of tail
     ((DESCRIPTION, 55) ∷ []) ∷
     -- 45, after BITS of simple
     ((left-brace, 56) ∷ []) ∷
@@ -120,53 +120,53 @@ transitions =
     ((OF, 62) ∷ []) ∷
     -- 50, after Upper of simple
     ((MAX-ACCESS, 57) ∷ (UNITS, 58) ∷ (left-paren, 63) ∷ []) ∷
-    -- 51, after left-brace, comma of sequence-type
+    -- 51, after { or , of sequence-type
     (lowers 64) ∷
     -- 52, after DISPLAY-HINT of textual-convention
     ((text, 65) ∷ []) ∷
     -- 53, after STATUS of tail
     ((current, 66) ∷ (deprecated, 66) ∷ (obsolete, 66) ∷ []) ∷
-    -- 54, after lowers of notification-type
+    -- 54, after lower of notification-type
     ((right-brace, 34) ∷ (comma, 43) ∷ []) ∷
     -- 55, after DESCRIPTION of tail
     ((text, 67) ∷ []) ∷
-    -- 56, after left-brace, comma of enum
+    -- 56, after { or , of enum
     (lowers 68) ∷
     -- 57, after MAX-ACCESS of object-type
     ((not-accessible, 69) ∷ (accessible-for-notify, 69) ∷ (read-only, 69) ∷ (read-write, 69) ∷ (read-create, 69) ∷ []) ∷
     -- 58, after UNITS of object-type
     ((text, 70) ∷ []) ∷
-    -- 59, after left-paren, bar of ranges
+    -- 59, after ( or | of ranges
     (numbers 71) ∷
-    -- 60, after right-brace of enum; right-paren of ranges; IDENTIFIER of simple; right-paren of sizes; Upper of syntax
+    -- 60, after } of enum, ) of ranges, IDENTIFIER of simple, ) of sizes, Upper of syntax
     ((MAX-ACCESS, 57) ∷ (UNITS, 58) ∷ []) ∷
     -- 61, after STRING of simple
     ((MAX-ACCESS, 57) ∷ (UNITS, 58) ∷ (left-paren, 72) ∷ []) ∷
     -- 62, after OF of syntax
     ((Upper, 60) ∷ []) ∷
-    -- 63, after left-paren of ranges; left-paren of sizes
+    -- 63, after ( of ranges, ( of sizes
     (numbers 71 ++ (SIZE, 73) ∷ []) ∷
-    -- 64, after lowers of sequence-type
+    -- 64, after lower of sequence-type
     ((BITS, 74) ∷ (INTEGER, 74) ∷ (Upper, 74) ∷ (OBJECT, 75) ∷ (OCTET, 76) ∷ []) ∷
     -- 65, after text of textual-convention
     ((STATUS, 53) ∷ []) ∷
-    -- 66, after current, deprecated, obsolete of tail
+    -- 66, after current or deprecated or obsolete of tail
     ((DESCRIPTION, 77) ∷ []) ∷
     -- 67, after text of tail
     ((assign, 21) ∷ (REFERENCE, 78) ∷ []) ∷
-    -- 68, after lowers of enum
+    -- 68, after lower of enum
     ((left-paren, 79) ∷ []) ∷
-    -- 69, after not-accessible, accessible-for-notify, read-only, read-write, read-create of object-type
+    -- 69, after not-accessible or accessible-for-notify or read-only or read-write or read-create of object-type
     ((STATUS, 80) ∷ []) ∷
     -- 70, after text of object-type
     ((MAX-ACCESS, 57) ∷ []) ∷
-    -- 71, after numbers of ranges
+    -- 71, after number of ranges
     ((bar, 59) ∷ (right-paren, 60) ∷ (dots, 81) ∷ []) ∷
-    -- 72, after left-paren of sizes
+    -- 72, after ( of sizes
     ((SIZE, 73) ∷ []) ∷
     -- 73, after SIZE of sizes
     ((left-paren, 82) ∷ []) ∷
-    -- 74, after BITS, IDENTIFIER, INTEGER, STRING, Upper of coltype
+    -- 74, after BITS or IDENTIFIER or INTEGER or STRING or Upper of coltype
     ((right-brace, 27) ∷ (comma, 51) ∷ []) ∷
     -- 75, after OBJECT of coltype
     ((IDENTIFIER, 74) ∷ []) ∷
@@ -176,35 +176,35 @@ transitions =
     ((text, 83) ∷ []) ∷
     -- 78, after REFERENCE of tail
     ((text, 39) ∷ []) ∷
-    -- 79, after left-paren of enum
+    -- 79, after ( of enum
     (numbers 84) ∷
     -- 80, after STATUS of tail
     ((current, 85) ∷ (deprecated, 85) ∷ (obsolete, 85) ∷ []) ∷
-    -- 81, after dots of ranges
+    -- 81, after .. of ranges
     (numbers 86) ∷
-    -- 82, after left-paren, bar of ranges
+    -- 82, after ( or | of ranges
     (numbers 87) ∷
     -- 83, after text of tail
     ((REFERENCE, 88) ∷ (SYNTAX, 89) ∷ []) ∷
-    -- 84, after numbers of enum
+    -- 84, after number of enum
     ((right-paren, 90) ∷ []) ∷
-    -- 85, after current, deprecated, obsolete of tail
+    -- 85, after current or deprecated or obsolete of tail
     ((DESCRIPTION, 91) ∷ []) ∷
-    -- 86, after numbers of ranges
+    -- 86, after number of ranges
     ((bar, 59) ∷ (right-paren, 60) ∷ []) ∷
-    -- 87, after numbers of ranges
+    -- 87, after number of ranges
     ((bar, 82) ∷ (dots, 92) ∷ (right-paren, 93) ∷ []) ∷
     -- 88, after REFERENCE of tail
     ((text, 94) ∷ []) ∷
     -- 89, after SYNTAX of textual-convention
     ((BITS, 95) ∷ (INTEGER, 96) ∷ (OBJECT, 97) ∷ (OCTET, 98) ∷ (Upper, 99) ∷ []) ∷
-    -- 90, after right-paren of enum
+    -- 90, after ) of enum
     ((comma, 56) ∷ (right-brace, 60) ∷ []) ∷
     -- 91, after DESCRIPTION of tail
     ((text, 100) ∷ []) ∷
-    -- 92, after dots of ranges
+    -- 92, after .. of ranges
     (numbers 101) ∷
-    -- 93, after right-paren of ranges
+    -- 93, after ) of ranges
     ((right-paren, 60) ∷ []) ∷
     -- 94, after text of tail
     ((SYNTAX, 89) ∷ []) ∷
@@ -220,15 +220,15 @@ transitions =
     ((END, 29) ∷ lowers 30 ++ (Upper, 31) ∷ (left-paren, 105) ∷ []) ∷
     -- 100, after text of tail
     ((assign, 21) ∷ (AUGMENTS, 106) ∷ (DEFVAL, 107) ∷ (INDEX, 108) ∷ (REFERENCE, 109) ∷ []) ∷
-    -- 101, after numbers of ranges
+    -- 101, after number of ranges
     ((bar, 82) ∷ (right-paren, 93) ∷ []) ∷
-    -- 102, after left-brace, comma of enum
+    -- 102, after { or , of enum
     (lowers 110) ∷
-    -- 103, after left-paren, bar of ranges
+    -- 103, after ( or | of ranges
     (numbers 111) ∷
     -- 104, after STRING of simple
     ((END, 29) ∷ lowers 30 ++ (Upper, 31) ∷ (left-paren, 112) ∷ []) ∷
-    -- 105, after left-paren of ranges; left-paren of sizes
+    -- 105, after ( of ranges, ( of sizes
     (numbers 111 ++ (SIZE, 113) ∷ []) ∷
     -- 106, after AUGMENTS of object-type
     ((left-brace, 114) ∷ []) ∷
@@ -238,55 +238,55 @@ transitions =
     ((left-brace, 116) ∷ []) ∷
     -- 109, after REFERENCE of tail
     ((text, 117) ∷ []) ∷
-    -- 110, after lowers of enum
+    -- 110, after lower of enum
     ((left-paren, 118) ∷ []) ∷
-    -- 111, after numbers of ranges
+    -- 111, after number of ranges
     ((right-paren, 27) ∷ (bar, 103) ∷ (dots, 119) ∷ []) ∷
-    -- 112, after left-paren of sizes
+    -- 112, after ( of sizes
     ((SIZE, 113) ∷ []) ∷
     -- 113, after SIZE of sizes
     ((left-paren, 120) ∷ []) ∷
-    -- 114, after IMPLIED of ix; left-brace of object-type
+    -- 114, after IMPLIED of ix, { of object-type
     (lowers 121) ∷
-    -- 115, after left-brace of object-type
+    -- 115, after { of object-type
     (lowers 122 ++ numbers 122 ++ (text, 122) ∷ (hex, 122) ∷ (left-brace, 123) ∷ []) ∷
-    -- 116, after comma of ix; left-brace of object-type
+    -- 116, after , of ix, { of object-type
     ((IMPLIED, 114) ∷ lowers 124) ∷
     -- 117, after text of tail
     ((assign, 21) ∷ (AUGMENTS, 106) ∷ (DEFVAL, 107) ∷ (INDEX, 108) ∷ []) ∷
-    -- 118, after left-paren of enum
+    -- 118, after ( of enum
     (numbers 125) ∷
-    -- 119, after dots of ranges
+    -- 119, after .. of ranges
     (numbers 126) ∷
-    -- 120, after left-paren, bar of ranges
+    -- 120, after ( or | of ranges
     (numbers 127) ∷
-    -- 121, after lowers of object-type
+    -- 121, after lower of object-type
     ((right-brace, 128) ∷ []) ∷
-    -- 122, after lowers, numbers, text, hex, right-brace of value
+    -- 122, after lower or number or text or hex or } of value
     ((right-brace, 39) ∷ []) ∷
-    -- 123, after left-brace of value
+    -- 123, after { of value
     ((right-brace, 122) ∷ lowers 129) ∷
-    -- 124, after lowers of ix
+    -- 124, after lower of ix
     ((comma, 116) ∷ (right-brace, 128) ∷ []) ∷
-    -- 125, after numbers of enum
+    -- 125, after number of enum
     ((right-paren, 130) ∷ []) ∷
-    -- 126, after numbers of ranges
+    -- 126, after number of ranges
     ((right-paren, 27) ∷ (bar, 103) ∷ []) ∷
-    -- 127, after numbers of ranges
+    -- 127, after number of ranges
     ((bar, 120) ∷ (dots, 131) ∷ (right-paren, 132) ∷ []) ∷
-    -- 128, after right-brace of object-type
+    -- 128, after } of object-type
     ((assign, 21) ∷ (DEFVAL, 107) ∷ []) ∷
-    -- 129, after lowers of value
+    -- 129, after lower of value
     ((right-brace, 122) ∷ (comma, 133) ∷ []) ∷
-    -- 130, after right-paren of enum
+    -- 130, after ) of enum
     ((right-brace, 27) ∷ (comma, 102) ∷ []) ∷
-    -- 131, after dots of ranges
+    -- 131, after .. of ranges
     (numbers 134) ∷
-    -- 132, after right-paren of ranges
+    -- 132, after ) of ranges
     ((right-paren, 27) ∷ []) ∷
-    -- 133, after comma of value
+    -- 133, after , of value
     (lowers 129) ∷
-    -- 134, after numbers of ranges
+    -- 134, after number of ranges
     ((bar, 120) ∷ (right-paren, 132) ∷ []) ∷
     []
 

@@ -1,5 +1,6 @@
 // The transition table of the grammar, printed by tools/grammar_table.py: the state after a token of class c in state s,
-// at s * 58 + c. specs/Table.antt has the same, a line for each state; the proof of `next` holds the two together.
+// at s * 58 + c, with the class's name where it leads on. specs/Table.antt has the same, a line for each state, and the
+// proof of `step` holds the two together.
 
 // No derived sequence goes on from here.
 pub const DEAD: u8 = 0;
@@ -115,7 +116,7 @@ pub const TABLE: [u8; 7830] = [
     0,
     0,
     0,
-    2,
+    2, // Upper
     0,
     0,
     0,
@@ -134,7 +135,7 @@ pub const TABLE: [u8; 7830] = [
     0,
     0,
     0,
-    3,
+    3, // DEFINITIONS
     0,
     0,
     0,
@@ -238,7 +239,7 @@ pub const TABLE: [u8; 7830] = [
     0,
     0,
     0,
-    4,
+    4, // ::=
     0,
     0,
     0,
@@ -247,9 +248,9 @@ pub const TABLE: [u8; 7830] = [
     0,
     0,
     0,
-    // state 4, after assign of smi-module
+    // state 4, after ::= of smi-module
     0,
-    5,
+    5, // BEGIN
     0,
     0,
     0,
@@ -319,7 +320,7 @@ pub const TABLE: [u8; 7830] = [
     0,
     0,
     0,
-    6,
+    6, // IMPORTS
     0,
     0,
     0,
@@ -342,15 +343,15 @@ pub const TABLE: [u8; 7830] = [
     0,
     0,
     0,
-    7,
-    7,
-    7,
-    7,
-    7,
-    7,
-    7,
-    7,
-    7,
+    7, // current
+    7, // deprecated
+    7, // obsolete
+    7, // not-accessible
+    7, // accessible-for-notify
+    7, // read-only
+    7, // read-write
+    7, // read-create
+    7, // lower
     0,
     0,
     0,
@@ -365,7 +366,7 @@ pub const TABLE: [u8; 7830] = [
     0,
     0,
     0,
-    // state 6, after comma of group; IMPORTS of smi-module
+    // state 6, after , of group, IMPORTS of smi-module
     0,
     0,
     0,
@@ -383,11 +384,11 @@ pub const TABLE: [u8; 7830] = [
     0,
     0,
     0,
-    8,
-    8,
+    8, // MODULE-IDENTITY
+    8, // NOTIFICATION-TYPE
     0,
-    8,
-    8,
+    8, // OBJECT-IDENTITY
+    8, // OBJECT-TYPE
     0,
     0,
     0,
@@ -399,18 +400,18 @@ pub const TABLE: [u8; 7830] = [
     0,
     0,
     0,
-    8,
+    8, // TEXTUAL-CONVENTION
     0,
-    8,
-    8,
-    8,
-    8,
-    8,
-    8,
-    8,
-    8,
-    8,
-    8,
+    8, // current
+    8, // deprecated
+    8, // obsolete
+    8, // not-accessible
+    8, // accessible-for-notify
+    8, // read-only
+    8, // read-write
+    8, // read-create
+    8, // lower
+    8, // Upper
     0,
     0,
     0,
@@ -424,7 +425,7 @@ pub const TABLE: [u8; 7830] = [
     0,
     0,
     0,
-    // state 7, after lowers of identity
+    // state 7, after lower of identity
     0,
     0,
     0,
@@ -442,7 +443,7 @@ pub const TABLE: [u8; 7830] = [
     0,
     0,
     0,
-    9,
+    9, // MODULE-IDENTITY
     0,
     0,
     0,
@@ -483,7 +484,7 @@ pub const TABLE: [u8; 7830] = [
     0,
     0,
     0,
-    // state 8, after lowers, macro-words, Upper of group
+    // state 8, after lower or macro word or Upper of group
     0,
     0,
     0,
@@ -493,7 +494,7 @@ pub const TABLE: [u8; 7830] = [
     0,
     0,
     0,
-    10,
+    10, // FROM
     0,
     0,
     0,
@@ -539,7 +540,7 @@ pub const TABLE: [u8; 7830] = [
     0,
     0,
     0,
-    6,
+    6, // ,
     0,
     0,
     // state 9, after MODULE-IDENTITY of identity
@@ -558,7 +559,7 @@ pub const TABLE: [u8; 7830] = [
     0,
     0,
     0,
-    11,
+    11, // LAST-UPDATED
     0,
     0,
     0,
@@ -646,7 +647,7 @@ pub const TABLE: [u8; 7830] = [
     0,
     0,
     0,
-    12,
+    12, // Upper
     0,
     0,
     0,
@@ -708,7 +709,7 @@ pub const TABLE: [u8; 7830] = [
     0,
     0,
     0,
-    13,
+    13, // text
     0,
     0,
     0,
@@ -737,34 +738,11 @@ pub const TABLE: [u8; 7830] = [
     0,
     0,
     0,
-    8,
-    8,
+    8, // MODULE-IDENTITY
+    8, // NOTIFICATION-TYPE
     0,
-    8,
-    8,
-    0,
-    0,
-    0,
-    0,
-    0,
-    0,
-    0,
-    0,
-    0,
-    0,
-    0,
-    8,
-    0,
-    8,
-    8,
-    8,
-    8,
-    8,
-    8,
-    8,
-    8,
-    8,
-    8,
+    8, // OBJECT-IDENTITY
+    8, // OBJECT-TYPE
     0,
     0,
     0,
@@ -776,7 +754,30 @@ pub const TABLE: [u8; 7830] = [
     0,
     0,
     0,
-    14,
+    8, // TEXTUAL-CONVENTION
+    0,
+    8, // current
+    8, // deprecated
+    8, // obsolete
+    8, // not-accessible
+    8, // accessible-for-notify
+    8, // read-only
+    8, // read-write
+    8, // read-create
+    8, // lower
+    8, // Upper
+    0,
+    0,
+    0,
+    0,
+    0,
+    0,
+    0,
+    0,
+    0,
+    0,
+    0,
+    14, // ;
     0,
     // state 13, after text of identity
     0,
@@ -804,7 +805,7 @@ pub const TABLE: [u8; 7830] = [
     0,
     0,
     0,
-    15,
+    15, // ORGANIZATION
     0,
     0,
     0,
@@ -837,7 +838,7 @@ pub const TABLE: [u8; 7830] = [
     0,
     0,
     0,
-    // state 14, after semicolon of smi-module
+    // state 14, after ; of smi-module
     0,
     0,
     0,
@@ -873,15 +874,15 @@ pub const TABLE: [u8; 7830] = [
     0,
     0,
     0,
-    7,
-    7,
-    7,
-    7,
-    7,
-    7,
-    7,
-    7,
-    7,
+    7, // current
+    7, // deprecated
+    7, // obsolete
+    7, // not-accessible
+    7, // accessible-for-notify
+    7, // read-only
+    7, // read-write
+    7, // read-create
+    7, // lower
     0,
     0,
     0,
@@ -944,7 +945,7 @@ pub const TABLE: [u8; 7830] = [
     0,
     0,
     0,
-    16,
+    16, // text
     0,
     0,
     0,
@@ -959,7 +960,7 @@ pub const TABLE: [u8; 7830] = [
     0,
     0,
     0,
-    17,
+    17, // CONTACT-INFO
     0,
     0,
     0,
@@ -1014,7 +1015,7 @@ pub const TABLE: [u8; 7830] = [
     0,
     0,
     0,
-    // state 17, after CONTACT-INFO, REVISION of identity
+    // state 17, after CONTACT-INFO or REVISION of identity
     0,
     0,
     0,
@@ -1062,7 +1063,7 @@ pub const TABLE: [u8; 7830] = [
     0,
     0,
     0,
-    18,
+    18, // text
     0,
     0,
     0,
@@ -1080,7 +1081,7 @@ pub const TABLE: [u8; 7830] = [
     0,
     0,
     0,
-    19,
+    19, // DESCRIPTION
     0,
     0,
     0,
@@ -1180,7 +1181,7 @@ pub const TABLE: [u8; 7830] = [
     0,
     0,
     0,
-    20,
+    20, // text
     0,
     0,
     0,
@@ -1219,7 +1220,7 @@ pub const TABLE: [u8; 7830] = [
     0,
     0,
     0,
-    17,
+    17, // REVISION
     0,
     0,
     0,
@@ -1241,7 +1242,7 @@ pub const TABLE: [u8; 7830] = [
     0,
     0,
     0,
-    21,
+    21, // ::=
     0,
     0,
     0,
@@ -1250,7 +1251,7 @@ pub const TABLE: [u8; 7830] = [
     0,
     0,
     0,
-    // state 21, after assign of identity; assign of notification-type; assign of object-identifier; assign of object-type
+    // state 21, after ::= of identity, ::= of notification-type, ::= of object-identifier, ::= of object-type
     0,
     0,
     0,
@@ -1302,14 +1303,14 @@ pub const TABLE: [u8; 7830] = [
     0,
     0,
     0,
-    22,
+    22, // {
     0,
     0,
     0,
     0,
     0,
     0,
-    // state 22, after left-brace of oid
+    // state 22, after { of oid
     0,
     0,
     0,
@@ -1345,15 +1346,15 @@ pub const TABLE: [u8; 7830] = [
     0,
     0,
     0,
-    23,
-    23,
-    23,
-    23,
-    23,
-    23,
-    23,
-    23,
-    23,
+    23, // current
+    23, // deprecated
+    23, // obsolete
+    23, // not-accessible
+    23, // accessible-for-notify
+    23, // read-only
+    23, // read-write
+    23, // read-create
+    23, // lower
     0,
     0,
     0,
@@ -1368,7 +1369,7 @@ pub const TABLE: [u8; 7830] = [
     0,
     0,
     0,
-    // state 23, after lowers of oid
+    // state 23, after lower of oid
     0,
     0,
     0,
@@ -1404,17 +1405,17 @@ pub const TABLE: [u8; 7830] = [
     0,
     0,
     0,
-    24,
-    24,
-    24,
-    24,
-    24,
-    24,
-    24,
-    24,
-    24,
+    24, // current
+    24, // deprecated
+    24, // obsolete
+    24, // not-accessible
+    24, // accessible-for-notify
+    24, // read-only
+    24, // read-write
+    24, // read-create
+    24, // lower
     0,
-    25,
+    25, // number
     0,
     0,
     0,
@@ -1427,7 +1428,7 @@ pub const TABLE: [u8; 7830] = [
     0,
     0,
     0,
-    // state 24, after lowers of part
+    // state 24, after lower of part
     0,
     0,
     0,
@@ -1481,12 +1482,12 @@ pub const TABLE: [u8; 7830] = [
     0,
     0,
     0,
-    26,
+    26, // (
     0,
     0,
     0,
     0,
-    // state 25, after number, right-paren of part
+    // state 25, after number or ) of part
     0,
     0,
     0,
@@ -1522,30 +1523,30 @@ pub const TABLE: [u8; 7830] = [
     0,
     0,
     0,
-    24,
-    24,
-    24,
-    24,
-    24,
-    24,
-    24,
-    24,
-    24,
+    24, // current
+    24, // deprecated
+    24, // obsolete
+    24, // not-accessible
+    24, // accessible-for-notify
+    24, // read-only
+    24, // read-write
+    24, // read-create
+    24, // lower
     0,
-    25,
+    25, // number
     0,
     0,
     0,
     0,
     0,
     0,
-    27,
+    27, // }
     0,
     0,
     0,
     0,
     0,
-    // state 26, after left-paren of part
+    // state 26, after ( of part
     0,
     0,
     0,
@@ -1591,7 +1592,7 @@ pub const TABLE: [u8; 7830] = [
     0,
     0,
     0,
-    28,
+    28, // number
     0,
     0,
     0,
@@ -1604,7 +1605,7 @@ pub const TABLE: [u8; 7830] = [
     0,
     0,
     0,
-    // state 27, after right-brace of enum; right-brace of oid; right-paren of ranges; right-brace of sequence-type; IDENTIFIER of simple; right-paren of sizes
+    // state 27, after } of enum, } of oid, ) of ranges, } of sequence-type, IDENTIFIER of simple, ) of sizes
     0,
     0,
     0,
@@ -1613,7 +1614,7 @@ pub const TABLE: [u8; 7830] = [
     0,
     0,
     0,
-    29,
+    29, // END
     0,
     0,
     0,
@@ -1640,16 +1641,16 @@ pub const TABLE: [u8; 7830] = [
     0,
     0,
     0,
-    30,
-    30,
-    30,
-    30,
-    30,
-    30,
-    30,
-    30,
-    30,
-    31,
+    30, // current
+    30, // deprecated
+    30, // obsolete
+    30, // not-accessible
+    30, // accessible-for-notify
+    30, // read-only
+    30, // read-write
+    30, // read-create
+    30, // lower
+    31, // Upper
     0,
     0,
     0,
@@ -1718,7 +1719,7 @@ pub const TABLE: [u8; 7830] = [
     0,
     0,
     0,
-    25,
+    25, // )
     0,
     0,
     0,
@@ -1781,7 +1782,7 @@ pub const TABLE: [u8; 7830] = [
     0,
     0,
     0,
-    // state 30, after lowers of notification-type; lowers of object-identifier; lowers of object-identity; lowers of object-type
+    // state 30, after lower of notification-type, lower of object-identifier, lower of object-identity, lower of object-type
     0,
     0,
     0,
@@ -1800,10 +1801,10 @@ pub const TABLE: [u8; 7830] = [
     0,
     0,
     0,
-    32,
-    33,
-    34,
-    35,
+    32, // NOTIFICATION-TYPE
+    33, // OBJECT
+    34, // OBJECT-IDENTITY
+    35, // OBJECT-TYPE
     0,
     0,
     0,
@@ -1840,7 +1841,7 @@ pub const TABLE: [u8; 7830] = [
     0,
     0,
     0,
-    // state 31, after Upper of sequence-type; Upper of textual-convention
+    // state 31, after Upper of sequence-type, Upper of textual-convention
     0,
     0,
     0,
@@ -1890,7 +1891,7 @@ pub const TABLE: [u8; 7830] = [
     0,
     0,
     0,
-    36,
+    36, // ::=
     0,
     0,
     0,
@@ -1922,7 +1923,7 @@ pub const TABLE: [u8; 7830] = [
     0,
     0,
     0,
-    37,
+    37, // OBJECTS
     0,
     0,
     0,
@@ -1930,7 +1931,7 @@ pub const TABLE: [u8; 7830] = [
     0,
     0,
     0,
-    38,
+    38, // STATUS
     0,
     0,
     0,
@@ -1969,7 +1970,7 @@ pub const TABLE: [u8; 7830] = [
     0,
     0,
     0,
-    39,
+    39, // IDENTIFIER
     0,
     0,
     0,
@@ -2017,7 +2018,7 @@ pub const TABLE: [u8; 7830] = [
     0,
     0,
     0,
-    // state 34, after right-brace of notification-type; OBJECT-IDENTITY of object-identity
+    // state 34, after } of notification-type, OBJECT-IDENTITY of object-identity
     0,
     0,
     0,
@@ -2048,7 +2049,7 @@ pub const TABLE: [u8; 7830] = [
     0,
     0,
     0,
-    38,
+    38, // STATUS
     0,
     0,
     0,
@@ -2109,7 +2110,7 @@ pub const TABLE: [u8; 7830] = [
     0,
     0,
     0,
-    40,
+    40, // SYNTAX
     0,
     0,
     0,
@@ -2135,7 +2136,7 @@ pub const TABLE: [u8; 7830] = [
     0,
     0,
     0,
-    // state 36, after assign of sequence-type; assign of textual-convention
+    // state 36, after ::= of sequence-type, ::= of textual-convention
     0,
     0,
     0,
@@ -2164,12 +2165,12 @@ pub const TABLE: [u8; 7830] = [
     0,
     0,
     0,
-    41,
+    41, // SEQUENCE
     0,
     0,
     0,
     0,
-    42,
+    42, // TEXTUAL-CONVENTION
     0,
     0,
     0,
@@ -2246,7 +2247,7 @@ pub const TABLE: [u8; 7830] = [
     0,
     0,
     0,
-    43,
+    43, // {
     0,
     0,
     0,
@@ -2289,9 +2290,9 @@ pub const TABLE: [u8; 7830] = [
     0,
     0,
     0,
-    44,
-    44,
-    44,
+    44, // current
+    44, // deprecated
+    44, // obsolete
     0,
     0,
     0,
@@ -2312,7 +2313,7 @@ pub const TABLE: [u8; 7830] = [
     0,
     0,
     0,
-    // state 39, after IDENTIFIER of object-identifier; right-brace of object-type; text of tail
+    // state 39, after IDENTIFIER of object-identifier, } of object-type, text of tail
     0,
     0,
     0,
@@ -2362,7 +2363,7 @@ pub const TABLE: [u8; 7830] = [
     0,
     0,
     0,
-    21,
+    21, // ::=
     0,
     0,
     0,
@@ -2374,7 +2375,7 @@ pub const TABLE: [u8; 7830] = [
     // state 40, after SYNTAX of object-type
     0,
     0,
-    45,
+    45, // BITS
     0,
     0,
     0,
@@ -2386,26 +2387,21 @@ pub const TABLE: [u8; 7830] = [
     0,
     0,
     0,
-    46,
+    46, // INTEGER
     0,
     0,
     0,
     0,
-    47,
+    47, // OBJECT
     0,
     0,
     0,
-    48,
-    0,
-    0,
-    0,
-    0,
-    49,
+    48, // OCTET
     0,
     0,
     0,
     0,
-    0,
+    49, // SEQUENCE
     0,
     0,
     0,
@@ -2416,7 +2412,12 @@ pub const TABLE: [u8; 7830] = [
     0,
     0,
     0,
-    50,
+    0,
+    0,
+    0,
+    0,
+    0,
+    50, // Upper
     0,
     0,
     0,
@@ -2482,7 +2483,7 @@ pub const TABLE: [u8; 7830] = [
     0,
     0,
     0,
-    51,
+    51, // {
     0,
     0,
     0,
@@ -2497,7 +2498,7 @@ pub const TABLE: [u8; 7830] = [
     0,
     0,
     0,
-    52,
+    52, // DISPLAY-HINT
     0,
     0,
     0,
@@ -2520,7 +2521,7 @@ pub const TABLE: [u8; 7830] = [
     0,
     0,
     0,
-    53,
+    53, // STATUS
     0,
     0,
     0,
@@ -2548,7 +2549,7 @@ pub const TABLE: [u8; 7830] = [
     0,
     0,
     0,
-    // state 43, after left-brace, comma of notification-type
+    // state 43, after { or , of notification-type
     0,
     0,
     0,
@@ -2584,15 +2585,15 @@ pub const TABLE: [u8; 7830] = [
     0,
     0,
     0,
-    54,
-    54,
-    54,
-    54,
-    54,
-    54,
-    54,
-    54,
-    54,
+    54, // current
+    54, // deprecated
+    54, // obsolete
+    54, // not-accessible
+    54, // accessible-for-notify
+    54, // read-only
+    54, // read-write
+    54, // read-create
+    54, // lower
     0,
     0,
     0,
@@ -2607,14 +2608,14 @@ pub const TABLE: [u8; 7830] = [
     0,
     0,
     0,
-    // state 44, after current, deprecated, obsolete of tail
+    // state 44, after current or deprecated or obsolete of tail
     0,
     0,
     0,
     0,
     0,
     0,
-    55,
+    55, // DESCRIPTION
     0,
     0,
     0,
@@ -2718,7 +2719,7 @@ pub const TABLE: [u8; 7830] = [
     0,
     0,
     0,
-    56,
+    56, // {
     0,
     0,
     0,
@@ -2742,7 +2743,7 @@ pub const TABLE: [u8; 7830] = [
     0,
     0,
     0,
-    57,
+    57, // MAX-ACCESS
     0,
     0,
     0,
@@ -2760,7 +2761,7 @@ pub const TABLE: [u8; 7830] = [
     0,
     0,
     0,
-    58,
+    58, // UNITS
     0,
     0,
     0,
@@ -2777,9 +2778,9 @@ pub const TABLE: [u8; 7830] = [
     0,
     0,
     0,
-    56,
+    56, // {
     0,
-    59,
+    59, // (
     0,
     0,
     0,
@@ -2795,7 +2796,7 @@ pub const TABLE: [u8; 7830] = [
     0,
     0,
     0,
-    60,
+    60, // IDENTIFIER
     0,
     0,
     0,
@@ -2875,7 +2876,7 @@ pub const TABLE: [u8; 7830] = [
     0,
     0,
     0,
-    61,
+    61, // STRING
     0,
     0,
     0,
@@ -2927,7 +2928,7 @@ pub const TABLE: [u8; 7830] = [
     0,
     0,
     0,
-    62,
+    62, // OF
     0,
     0,
     0,
@@ -2978,7 +2979,7 @@ pub const TABLE: [u8; 7830] = [
     0,
     0,
     0,
-    57,
+    57, // MAX-ACCESS
     0,
     0,
     0,
@@ -2996,7 +2997,7 @@ pub const TABLE: [u8; 7830] = [
     0,
     0,
     0,
-    58,
+    58, // UNITS
     0,
     0,
     0,
@@ -3015,12 +3016,12 @@ pub const TABLE: [u8; 7830] = [
     0,
     0,
     0,
-    63,
+    63, // (
     0,
     0,
     0,
     0,
-    // state 51, after left-brace, comma of sequence-type
+    // state 51, after { or , of sequence-type
     0,
     0,
     0,
@@ -3056,15 +3057,15 @@ pub const TABLE: [u8; 7830] = [
     0,
     0,
     0,
-    64,
-    64,
-    64,
-    64,
-    64,
-    64,
-    64,
-    64,
-    64,
+    64, // current
+    64, // deprecated
+    64, // obsolete
+    64, // not-accessible
+    64, // accessible-for-notify
+    64, // read-only
+    64, // read-write
+    64, // read-create
+    64, // lower
     0,
     0,
     0,
@@ -3127,7 +3128,7 @@ pub const TABLE: [u8; 7830] = [
     0,
     0,
     0,
-    65,
+    65, // text
     0,
     0,
     0,
@@ -3174,9 +3175,9 @@ pub const TABLE: [u8; 7830] = [
     0,
     0,
     0,
-    66,
-    66,
-    66,
+    66, // current
+    66, // deprecated
+    66, // obsolete
     0,
     0,
     0,
@@ -3197,7 +3198,7 @@ pub const TABLE: [u8; 7830] = [
     0,
     0,
     0,
-    // state 54, after lowers of notification-type
+    // state 54, after lower of notification-type
     0,
     0,
     0,
@@ -3250,10 +3251,10 @@ pub const TABLE: [u8; 7830] = [
     0,
     0,
     0,
-    34,
+    34, // }
     0,
     0,
-    43,
+    43, // ,
     0,
     0,
     // state 55, after DESCRIPTION of tail
@@ -3304,7 +3305,7 @@ pub const TABLE: [u8; 7830] = [
     0,
     0,
     0,
-    67,
+    67, // text
     0,
     0,
     0,
@@ -3315,18 +3316,7 @@ pub const TABLE: [u8; 7830] = [
     0,
     0,
     0,
-    // state 56, after left-brace, comma of enum
-    0,
-    0,
-    0,
-    0,
-    0,
-    0,
-    0,
-    0,
-    0,
-    0,
-    0,
+    // state 56, after { or , of enum
     0,
     0,
     0,
@@ -3351,15 +3341,26 @@ pub const TABLE: [u8; 7830] = [
     0,
     0,
     0,
-    68,
-    68,
-    68,
-    68,
-    68,
-    68,
-    68,
-    68,
-    68,
+    0,
+    0,
+    0,
+    0,
+    0,
+    0,
+    0,
+    0,
+    0,
+    0,
+    0,
+    68, // current
+    68, // deprecated
+    68, // obsolete
+    68, // not-accessible
+    68, // accessible-for-notify
+    68, // read-only
+    68, // read-write
+    68, // read-create
+    68, // lower
     0,
     0,
     0,
@@ -3413,11 +3414,11 @@ pub const TABLE: [u8; 7830] = [
     0,
     0,
     0,
-    69,
-    69,
-    69,
-    69,
-    69,
+    69, // not-accessible
+    69, // accessible-for-notify
+    69, // read-only
+    69, // read-write
+    69, // read-create
     0,
     0,
     0,
@@ -3481,7 +3482,7 @@ pub const TABLE: [u8; 7830] = [
     0,
     0,
     0,
-    70,
+    70, // text
     0,
     0,
     0,
@@ -3492,7 +3493,7 @@ pub const TABLE: [u8; 7830] = [
     0,
     0,
     0,
-    // state 59, after left-paren, bar of ranges
+    // state 59, after ( or | of ranges
     0,
     0,
     0,
@@ -3538,8 +3539,8 @@ pub const TABLE: [u8; 7830] = [
     0,
     0,
     0,
-    71,
-    71,
+    71, // number
+    71, // negative
     0,
     0,
     0,
@@ -3551,7 +3552,7 @@ pub const TABLE: [u8; 7830] = [
     0,
     0,
     0,
-    // state 60, after right-brace of enum; right-paren of ranges; IDENTIFIER of simple; right-paren of sizes; Upper of syntax
+    // state 60, after } of enum, ) of ranges, IDENTIFIER of simple, ) of sizes, Upper of syntax
     0,
     0,
     0,
@@ -3568,7 +3569,7 @@ pub const TABLE: [u8; 7830] = [
     0,
     0,
     0,
-    57,
+    57, // MAX-ACCESS
     0,
     0,
     0,
@@ -3586,7 +3587,7 @@ pub const TABLE: [u8; 7830] = [
     0,
     0,
     0,
-    58,
+    58, // UNITS
     0,
     0,
     0,
@@ -3627,7 +3628,7 @@ pub const TABLE: [u8; 7830] = [
     0,
     0,
     0,
-    57,
+    57, // MAX-ACCESS
     0,
     0,
     0,
@@ -3645,7 +3646,7 @@ pub const TABLE: [u8; 7830] = [
     0,
     0,
     0,
-    58,
+    58, // UNITS
     0,
     0,
     0,
@@ -3664,7 +3665,7 @@ pub const TABLE: [u8; 7830] = [
     0,
     0,
     0,
-    72,
+    72, // (
     0,
     0,
     0,
@@ -3714,7 +3715,7 @@ pub const TABLE: [u8; 7830] = [
     0,
     0,
     0,
-    60,
+    60, // Upper
     0,
     0,
     0,
@@ -3728,7 +3729,7 @@ pub const TABLE: [u8; 7830] = [
     0,
     0,
     0,
-    // state 63, after left-paren of ranges; left-paren of sizes
+    // state 63, after ( of ranges, ( of sizes
     0,
     0,
     0,
@@ -3758,7 +3759,7 @@ pub const TABLE: [u8; 7830] = [
     0,
     0,
     0,
-    73,
+    73, // SIZE
     0,
     0,
     0,
@@ -3774,8 +3775,8 @@ pub const TABLE: [u8; 7830] = [
     0,
     0,
     0,
-    71,
-    71,
+    71, // number
+    71, // negative
     0,
     0,
     0,
@@ -3787,10 +3788,10 @@ pub const TABLE: [u8; 7830] = [
     0,
     0,
     0,
-    // state 64, after lowers of sequence-type
+    // state 64, after lower of sequence-type
     0,
     0,
-    74,
+    74, // BITS
     0,
     0,
     0,
@@ -3802,16 +3803,16 @@ pub const TABLE: [u8; 7830] = [
     0,
     0,
     0,
-    74,
+    74, // INTEGER
     0,
     0,
     0,
     0,
-    75,
+    75, // OBJECT
     0,
     0,
     0,
-    76,
+    76, // OCTET
     0,
     0,
     0,
@@ -3832,7 +3833,7 @@ pub const TABLE: [u8; 7830] = [
     0,
     0,
     0,
-    74,
+    74, // Upper
     0,
     0,
     0,
@@ -3877,7 +3878,7 @@ pub const TABLE: [u8; 7830] = [
     0,
     0,
     0,
-    53,
+    53, // STATUS
     0,
     0,
     0,
@@ -3905,14 +3906,14 @@ pub const TABLE: [u8; 7830] = [
     0,
     0,
     0,
-    // state 66, after current, deprecated, obsolete of tail
+    // state 66, after current or deprecated or obsolete of tail
     0,
     0,
     0,
     0,
     0,
     0,
-    77,
+    77, // DESCRIPTION
     0,
     0,
     0,
@@ -3991,7 +3992,7 @@ pub const TABLE: [u8; 7830] = [
     0,
     0,
     0,
-    78,
+    78, // REFERENCE
     0,
     0,
     0,
@@ -4014,7 +4015,7 @@ pub const TABLE: [u8; 7830] = [
     0,
     0,
     0,
-    21,
+    21, // ::=
     0,
     0,
     0,
@@ -4023,7 +4024,7 @@ pub const TABLE: [u8; 7830] = [
     0,
     0,
     0,
-    // state 68, after lowers of enum
+    // state 68, after lower of enum
     0,
     0,
     0,
@@ -4077,12 +4078,12 @@ pub const TABLE: [u8; 7830] = [
     0,
     0,
     0,
-    79,
+    79, // (
     0,
     0,
     0,
     0,
-    // state 69, after not-accessible, accessible-for-notify, read-only, read-write, read-create of object-type
+    // state 69, after not-accessible or accessible-for-notify or read-only or read-write or read-create of object-type
     0,
     0,
     0,
@@ -4113,7 +4114,7 @@ pub const TABLE: [u8; 7830] = [
     0,
     0,
     0,
-    80,
+    80, // STATUS
     0,
     0,
     0,
@@ -4158,7 +4159,7 @@ pub const TABLE: [u8; 7830] = [
     0,
     0,
     0,
-    57,
+    57, // MAX-ACCESS
     0,
     0,
     0,
@@ -4200,7 +4201,7 @@ pub const TABLE: [u8; 7830] = [
     0,
     0,
     0,
-    // state 71, after numbers of ranges
+    // state 71, after number of ranges
     0,
     0,
     0,
@@ -4251,15 +4252,15 @@ pub const TABLE: [u8; 7830] = [
     0,
     0,
     0,
-    81,
+    81, // ..
     0,
     0,
     0,
-    60,
+    60, // )
     0,
     0,
-    59,
-    // state 72, after left-paren of sizes
+    59, // |
+    // state 72, after ( of sizes
     0,
     0,
     0,
@@ -4289,7 +4290,7 @@ pub const TABLE: [u8; 7830] = [
     0,
     0,
     0,
-    73,
+    73, // SIZE
     0,
     0,
     0,
@@ -4372,17 +4373,12 @@ pub const TABLE: [u8; 7830] = [
     0,
     0,
     0,
-    82,
+    82, // (
     0,
     0,
     0,
     0,
-    // state 74, after BITS, IDENTIFIER, INTEGER, STRING, Upper of coltype
-    0,
-    0,
-    0,
-    0,
-    0,
+    // state 74, after BITS or IDENTIFIER or INTEGER or STRING or Upper of coltype
     0,
     0,
     0,
@@ -4430,10 +4426,15 @@ pub const TABLE: [u8; 7830] = [
     0,
     0,
     0,
-    27,
     0,
     0,
-    51,
+    0,
+    0,
+    0,
+    27, // }
+    0,
+    0,
+    51, // ,
     0,
     0,
     // state 75, after OBJECT of coltype
@@ -4447,7 +4448,7 @@ pub const TABLE: [u8; 7830] = [
     0,
     0,
     0,
-    74,
+    74, // IDENTIFIER
     0,
     0,
     0,
@@ -4527,7 +4528,7 @@ pub const TABLE: [u8; 7830] = [
     0,
     0,
     0,
-    74,
+    74, // STRING
     0,
     0,
     0,
@@ -4602,7 +4603,7 @@ pub const TABLE: [u8; 7830] = [
     0,
     0,
     0,
-    83,
+    83, // text
     0,
     0,
     0,
@@ -4661,7 +4662,7 @@ pub const TABLE: [u8; 7830] = [
     0,
     0,
     0,
-    39,
+    39, // text
     0,
     0,
     0,
@@ -4672,18 +4673,7 @@ pub const TABLE: [u8; 7830] = [
     0,
     0,
     0,
-    // state 79, after left-paren of enum
-    0,
-    0,
-    0,
-    0,
-    0,
-    0,
-    0,
-    0,
-    0,
-    0,
-    0,
+    // state 79, after ( of enum
     0,
     0,
     0,
@@ -4718,8 +4708,19 @@ pub const TABLE: [u8; 7830] = [
     0,
     0,
     0,
-    84,
-    84,
+    0,
+    0,
+    0,
+    0,
+    0,
+    0,
+    0,
+    0,
+    0,
+    0,
+    0,
+    84, // number
+    84, // negative
     0,
     0,
     0,
@@ -4767,9 +4768,9 @@ pub const TABLE: [u8; 7830] = [
     0,
     0,
     0,
-    85,
-    85,
-    85,
+    85, // current
+    85, // deprecated
+    85, // obsolete
     0,
     0,
     0,
@@ -4790,7 +4791,7 @@ pub const TABLE: [u8; 7830] = [
     0,
     0,
     0,
-    // state 81, after dots of ranges
+    // state 81, after .. of ranges
     0,
     0,
     0,
@@ -4836,8 +4837,8 @@ pub const TABLE: [u8; 7830] = [
     0,
     0,
     0,
-    86,
-    86,
+    86, // number
+    86, // negative
     0,
     0,
     0,
@@ -4849,7 +4850,7 @@ pub const TABLE: [u8; 7830] = [
     0,
     0,
     0,
-    // state 82, after left-paren, bar of ranges
+    // state 82, after ( or | of ranges
     0,
     0,
     0,
@@ -4895,8 +4896,8 @@ pub const TABLE: [u8; 7830] = [
     0,
     0,
     0,
-    87,
-    87,
+    87, // number
+    87, // negative
     0,
     0,
     0,
@@ -4935,13 +4936,13 @@ pub const TABLE: [u8; 7830] = [
     0,
     0,
     0,
-    88,
+    88, // REFERENCE
     0,
     0,
     0,
     0,
     0,
-    89,
+    89, // SYNTAX
     0,
     0,
     0,
@@ -4967,7 +4968,7 @@ pub const TABLE: [u8; 7830] = [
     0,
     0,
     0,
-    // state 84, after numbers of enum
+    // state 84, after number of enum
     0,
     0,
     0,
@@ -5022,18 +5023,18 @@ pub const TABLE: [u8; 7830] = [
     0,
     0,
     0,
-    90,
+    90, // )
     0,
     0,
     0,
-    // state 85, after current, deprecated, obsolete of tail
+    // state 85, after current or deprecated or obsolete of tail
     0,
     0,
     0,
     0,
     0,
     0,
-    91,
+    91, // DESCRIPTION
     0,
     0,
     0,
@@ -5085,7 +5086,7 @@ pub const TABLE: [u8; 7830] = [
     0,
     0,
     0,
-    // state 86, after numbers of ranges
+    // state 86, after number of ranges
     0,
     0,
     0,
@@ -5140,11 +5141,11 @@ pub const TABLE: [u8; 7830] = [
     0,
     0,
     0,
-    60,
+    60, // )
     0,
     0,
-    59,
-    // state 87, after numbers of ranges
+    59, // |
+    // state 87, after number of ranges
     0,
     0,
     0,
@@ -5195,14 +5196,14 @@ pub const TABLE: [u8; 7830] = [
     0,
     0,
     0,
-    92,
+    92, // ..
     0,
     0,
     0,
-    93,
+    93, // )
     0,
     0,
-    82,
+    82, // |
     // state 88, after REFERENCE of tail
     0,
     0,
@@ -5251,7 +5252,7 @@ pub const TABLE: [u8; 7830] = [
     0,
     0,
     0,
-    94,
+    94, // text
     0,
     0,
     0,
@@ -5265,7 +5266,7 @@ pub const TABLE: [u8; 7830] = [
     // state 89, after SYNTAX of textual-convention
     0,
     0,
-    95,
+    95, // BITS
     0,
     0,
     0,
@@ -5277,16 +5278,16 @@ pub const TABLE: [u8; 7830] = [
     0,
     0,
     0,
-    96,
+    96, // INTEGER
     0,
     0,
     0,
     0,
-    97,
+    97, // OBJECT
     0,
     0,
     0,
-    98,
+    98, // OCTET
     0,
     0,
     0,
@@ -5307,7 +5308,7 @@ pub const TABLE: [u8; 7830] = [
     0,
     0,
     0,
-    99,
+    99, // Upper
     0,
     0,
     0,
@@ -5321,7 +5322,7 @@ pub const TABLE: [u8; 7830] = [
     0,
     0,
     0,
-    // state 90, after right-paren of enum
+    // state 90, after ) of enum
     0,
     0,
     0,
@@ -5374,10 +5375,10 @@ pub const TABLE: [u8; 7830] = [
     0,
     0,
     0,
-    60,
+    60, // }
     0,
     0,
-    56,
+    56, // ,
     0,
     0,
     // state 91, after DESCRIPTION of tail
@@ -5428,7 +5429,7 @@ pub const TABLE: [u8; 7830] = [
     0,
     0,
     0,
-    100,
+    100, // text
     0,
     0,
     0,
@@ -5439,7 +5440,7 @@ pub const TABLE: [u8; 7830] = [
     0,
     0,
     0,
-    // state 92, after dots of ranges
+    // state 92, after .. of ranges
     0,
     0,
     0,
@@ -5485,8 +5486,8 @@ pub const TABLE: [u8; 7830] = [
     0,
     0,
     0,
-    101,
-    101,
+    101, // number
+    101, // negative
     0,
     0,
     0,
@@ -5498,7 +5499,7 @@ pub const TABLE: [u8; 7830] = [
     0,
     0,
     0,
-    // state 93, after right-paren of ranges
+    // state 93, after ) of ranges
     0,
     0,
     0,
@@ -5553,7 +5554,7 @@ pub const TABLE: [u8; 7830] = [
     0,
     0,
     0,
-    60,
+    60, // )
     0,
     0,
     0,
@@ -5590,7 +5591,7 @@ pub const TABLE: [u8; 7830] = [
     0,
     0,
     0,
-    89,
+    89, // SYNTAX
     0,
     0,
     0,
@@ -5668,7 +5669,7 @@ pub const TABLE: [u8; 7830] = [
     0,
     0,
     0,
-    102,
+    102, // {
     0,
     0,
     0,
@@ -5684,7 +5685,7 @@ pub const TABLE: [u8; 7830] = [
     0,
     0,
     0,
-    29,
+    29, // END
     0,
     0,
     0,
@@ -5711,25 +5712,25 @@ pub const TABLE: [u8; 7830] = [
     0,
     0,
     0,
-    30,
-    30,
-    30,
-    30,
-    30,
-    30,
-    30,
-    30,
-    30,
-    31,
+    30, // current
+    30, // deprecated
+    30, // obsolete
+    30, // not-accessible
+    30, // accessible-for-notify
+    30, // read-only
+    30, // read-write
+    30, // read-create
+    30, // lower
+    31, // Upper
     0,
     0,
     0,
     0,
     0,
     0,
-    102,
+    102, // {
     0,
-    103,
+    103, // (
     0,
     0,
     0,
@@ -5745,7 +5746,7 @@ pub const TABLE: [u8; 7830] = [
     0,
     0,
     0,
-    27,
+    27, // IDENTIFIER
     0,
     0,
     0,
@@ -5825,7 +5826,7 @@ pub const TABLE: [u8; 7830] = [
     0,
     0,
     0,
-    104,
+    104, // STRING
     0,
     0,
     0,
@@ -5861,7 +5862,7 @@ pub const TABLE: [u8; 7830] = [
     0,
     0,
     0,
-    29,
+    29, // END
     0,
     0,
     0,
@@ -5888,16 +5889,16 @@ pub const TABLE: [u8; 7830] = [
     0,
     0,
     0,
-    30,
-    30,
-    30,
-    30,
-    30,
-    30,
-    30,
-    30,
-    30,
-    31,
+    30, // current
+    30, // deprecated
+    30, // obsolete
+    30, // not-accessible
+    30, // accessible-for-notify
+    30, // read-only
+    30, // read-write
+    30, // read-create
+    30, // lower
+    31, // Upper
     0,
     0,
     0,
@@ -5906,18 +5907,18 @@ pub const TABLE: [u8; 7830] = [
     0,
     0,
     0,
-    105,
+    105, // (
     0,
     0,
     0,
     0,
     // state 100, after text of tail
-    106,
+    106, // AUGMENTS
     0,
     0,
     0,
     0,
-    107,
+    107, // DEFVAL
     0,
     0,
     0,
@@ -5925,7 +5926,7 @@ pub const TABLE: [u8; 7830] = [
     0,
     0,
     0,
-    108,
+    108, // INDEX
     0,
     0,
     0,
@@ -5938,7 +5939,7 @@ pub const TABLE: [u8; 7830] = [
     0,
     0,
     0,
-    109,
+    109, // REFERENCE
     0,
     0,
     0,
@@ -5961,7 +5962,7 @@ pub const TABLE: [u8; 7830] = [
     0,
     0,
     0,
-    21,
+    21, // ::=
     0,
     0,
     0,
@@ -5970,7 +5971,7 @@ pub const TABLE: [u8; 7830] = [
     0,
     0,
     0,
-    // state 101, after numbers of ranges
+    // state 101, after number of ranges
     0,
     0,
     0,
@@ -6025,11 +6026,11 @@ pub const TABLE: [u8; 7830] = [
     0,
     0,
     0,
-    93,
+    93, // )
     0,
     0,
-    82,
-    // state 102, after left-brace, comma of enum
+    82, // |
+    // state 102, after { or , of enum
     0,
     0,
     0,
@@ -6065,15 +6066,15 @@ pub const TABLE: [u8; 7830] = [
     0,
     0,
     0,
-    110,
-    110,
-    110,
-    110,
-    110,
-    110,
-    110,
-    110,
-    110,
+    110, // current
+    110, // deprecated
+    110, // obsolete
+    110, // not-accessible
+    110, // accessible-for-notify
+    110, // read-only
+    110, // read-write
+    110, // read-create
+    110, // lower
     0,
     0,
     0,
@@ -6088,7 +6089,7 @@ pub const TABLE: [u8; 7830] = [
     0,
     0,
     0,
-    // state 103, after left-paren, bar of ranges
+    // state 103, after ( or | of ranges
     0,
     0,
     0,
@@ -6134,8 +6135,8 @@ pub const TABLE: [u8; 7830] = [
     0,
     0,
     0,
-    111,
-    111,
+    111, // number
+    111, // negative
     0,
     0,
     0,
@@ -6156,7 +6157,7 @@ pub const TABLE: [u8; 7830] = [
     0,
     0,
     0,
-    29,
+    29, // END
     0,
     0,
     0,
@@ -6183,16 +6184,16 @@ pub const TABLE: [u8; 7830] = [
     0,
     0,
     0,
-    30,
-    30,
-    30,
-    30,
-    30,
-    30,
-    30,
-    30,
-    30,
-    31,
+    30, // current
+    30, // deprecated
+    30, // obsolete
+    30, // not-accessible
+    30, // accessible-for-notify
+    30, // read-only
+    30, // read-write
+    30, // read-create
+    30, // lower
+    31, // Upper
     0,
     0,
     0,
@@ -6201,12 +6202,12 @@ pub const TABLE: [u8; 7830] = [
     0,
     0,
     0,
-    112,
+    112, // (
     0,
     0,
     0,
     0,
-    // state 105, after left-paren of ranges; left-paren of sizes
+    // state 105, after ( of ranges, ( of sizes
     0,
     0,
     0,
@@ -6236,7 +6237,7 @@ pub const TABLE: [u8; 7830] = [
     0,
     0,
     0,
-    113,
+    113, // SIZE
     0,
     0,
     0,
@@ -6252,8 +6253,8 @@ pub const TABLE: [u8; 7830] = [
     0,
     0,
     0,
-    111,
-    111,
+    111, // number
+    111, // negative
     0,
     0,
     0,
@@ -6317,7 +6318,7 @@ pub const TABLE: [u8; 7830] = [
     0,
     0,
     0,
-    114,
+    114, // {
     0,
     0,
     0,
@@ -6376,7 +6377,7 @@ pub const TABLE: [u8; 7830] = [
     0,
     0,
     0,
-    115,
+    115, // {
     0,
     0,
     0,
@@ -6435,7 +6436,7 @@ pub const TABLE: [u8; 7830] = [
     0,
     0,
     0,
-    116,
+    116, // {
     0,
     0,
     0,
@@ -6490,7 +6491,7 @@ pub const TABLE: [u8; 7830] = [
     0,
     0,
     0,
-    117,
+    117, // text
     0,
     0,
     0,
@@ -6501,7 +6502,7 @@ pub const TABLE: [u8; 7830] = [
     0,
     0,
     0,
-    // state 110, after lowers of enum
+    // state 110, after lower of enum
     0,
     0,
     0,
@@ -6555,12 +6556,12 @@ pub const TABLE: [u8; 7830] = [
     0,
     0,
     0,
-    118,
+    118, // (
     0,
     0,
     0,
     0,
-    // state 111, after numbers of ranges
+    // state 111, after number of ranges
     0,
     0,
     0,
@@ -6611,15 +6612,15 @@ pub const TABLE: [u8; 7830] = [
     0,
     0,
     0,
-    119,
+    119, // ..
     0,
     0,
     0,
-    27,
+    27, // )
     0,
     0,
-    103,
-    // state 112, after left-paren of sizes
+    103, // |
+    // state 112, after ( of sizes
     0,
     0,
     0,
@@ -6649,7 +6650,7 @@ pub const TABLE: [u8; 7830] = [
     0,
     0,
     0,
-    113,
+    113, // SIZE
     0,
     0,
     0,
@@ -6732,12 +6733,12 @@ pub const TABLE: [u8; 7830] = [
     0,
     0,
     0,
-    120,
+    120, // (
     0,
     0,
     0,
     0,
-    // state 114, after IMPLIED of ix; left-brace of object-type
+    // state 114, after IMPLIED of ix, { of object-type
     0,
     0,
     0,
@@ -6773,15 +6774,15 @@ pub const TABLE: [u8; 7830] = [
     0,
     0,
     0,
-    121,
-    121,
-    121,
-    121,
-    121,
-    121,
-    121,
-    121,
-    121,
+    121, // current
+    121, // deprecated
+    121, // obsolete
+    121, // not-accessible
+    121, // accessible-for-notify
+    121, // read-only
+    121, // read-write
+    121, // read-create
+    121, // lower
     0,
     0,
     0,
@@ -6796,7 +6797,7 @@ pub const TABLE: [u8; 7830] = [
     0,
     0,
     0,
-    // state 115, after left-brace of object-type
+    // state 115, after { of object-type
     0,
     0,
     0,
@@ -6832,30 +6833,30 @@ pub const TABLE: [u8; 7830] = [
     0,
     0,
     0,
-    122,
-    122,
-    122,
-    122,
-    122,
-    122,
-    122,
-    122,
-    122,
+    122, // current
+    122, // deprecated
+    122, // obsolete
+    122, // not-accessible
+    122, // accessible-for-notify
+    122, // read-only
+    122, // read-write
+    122, // read-create
+    122, // lower
     0,
-    122,
-    122,
-    122,
-    122,
+    122, // number
+    122, // negative
+    122, // text
+    122, // hex
     0,
     0,
-    123,
+    123, // {
     0,
     0,
     0,
     0,
     0,
     0,
-    // state 116, after comma of ix; left-brace of object-type
+    // state 116, after , of ix, { of object-type
     0,
     0,
     0,
@@ -6867,7 +6868,7 @@ pub const TABLE: [u8; 7830] = [
     0,
     0,
     0,
-    114,
+    114, // IMPLIED
     0,
     0,
     0,
@@ -6891,15 +6892,15 @@ pub const TABLE: [u8; 7830] = [
     0,
     0,
     0,
-    124,
-    124,
-    124,
-    124,
-    124,
-    124,
-    124,
-    124,
-    124,
+    124, // current
+    124, // deprecated
+    124, // obsolete
+    124, // not-accessible
+    124, // accessible-for-notify
+    124, // read-only
+    124, // read-write
+    124, // read-create
+    124, // lower
     0,
     0,
     0,
@@ -6915,12 +6916,12 @@ pub const TABLE: [u8; 7830] = [
     0,
     0,
     // state 117, after text of tail
-    106,
+    106, // AUGMENTS
     0,
     0,
     0,
     0,
-    107,
+    107, // DEFVAL
     0,
     0,
     0,
@@ -6928,7 +6929,7 @@ pub const TABLE: [u8; 7830] = [
     0,
     0,
     0,
-    108,
+    108, // INDEX
     0,
     0,
     0,
@@ -6964,7 +6965,7 @@ pub const TABLE: [u8; 7830] = [
     0,
     0,
     0,
-    21,
+    21, // ::=
     0,
     0,
     0,
@@ -6973,7 +6974,7 @@ pub const TABLE: [u8; 7830] = [
     0,
     0,
     0,
-    // state 118, after left-paren of enum
+    // state 118, after ( of enum
     0,
     0,
     0,
@@ -7019,8 +7020,8 @@ pub const TABLE: [u8; 7830] = [
     0,
     0,
     0,
-    125,
-    125,
+    125, // number
+    125, // negative
     0,
     0,
     0,
@@ -7032,7 +7033,7 @@ pub const TABLE: [u8; 7830] = [
     0,
     0,
     0,
-    // state 119, after dots of ranges
+    // state 119, after .. of ranges
     0,
     0,
     0,
@@ -7078,8 +7079,8 @@ pub const TABLE: [u8; 7830] = [
     0,
     0,
     0,
-    126,
-    126,
+    126, // number
+    126, // negative
     0,
     0,
     0,
@@ -7091,7 +7092,7 @@ pub const TABLE: [u8; 7830] = [
     0,
     0,
     0,
-    // state 120, after left-paren, bar of ranges
+    // state 120, after ( or | of ranges
     0,
     0,
     0,
@@ -7137,8 +7138,8 @@ pub const TABLE: [u8; 7830] = [
     0,
     0,
     0,
-    127,
-    127,
+    127, // number
+    127, // negative
     0,
     0,
     0,
@@ -7150,7 +7151,7 @@ pub const TABLE: [u8; 7830] = [
     0,
     0,
     0,
-    // state 121, after lowers of object-type
+    // state 121, after lower of object-type
     0,
     0,
     0,
@@ -7203,13 +7204,13 @@ pub const TABLE: [u8; 7830] = [
     0,
     0,
     0,
-    128,
+    128, // }
     0,
     0,
     0,
     0,
     0,
-    // state 122, after lowers, numbers, text, hex, right-brace of value
+    // state 122, after lower or number or text or hex or } of value
     0,
     0,
     0,
@@ -7262,13 +7263,13 @@ pub const TABLE: [u8; 7830] = [
     0,
     0,
     0,
-    39,
+    39, // }
     0,
     0,
     0,
     0,
     0,
-    // state 123, after left-brace of value
+    // state 123, after { of value
     0,
     0,
     0,
@@ -7304,15 +7305,15 @@ pub const TABLE: [u8; 7830] = [
     0,
     0,
     0,
-    129,
-    129,
-    129,
-    129,
-    129,
-    129,
-    129,
-    129,
-    129,
+    129, // current
+    129, // deprecated
+    129, // obsolete
+    129, // not-accessible
+    129, // accessible-for-notify
+    129, // read-only
+    129, // read-write
+    129, // read-create
+    129, // lower
     0,
     0,
     0,
@@ -7321,13 +7322,13 @@ pub const TABLE: [u8; 7830] = [
     0,
     0,
     0,
-    122,
+    122, // }
     0,
     0,
     0,
     0,
     0,
-    // state 124, after lowers of ix
+    // state 124, after lower of ix
     0,
     0,
     0,
@@ -7380,13 +7381,13 @@ pub const TABLE: [u8; 7830] = [
     0,
     0,
     0,
-    128,
+    128, // }
     0,
     0,
-    116,
+    116, // ,
     0,
     0,
-    // state 125, after numbers of enum
+    // state 125, after number of enum
     0,
     0,
     0,
@@ -7441,11 +7442,11 @@ pub const TABLE: [u8; 7830] = [
     0,
     0,
     0,
-    130,
+    130, // )
     0,
     0,
     0,
-    // state 126, after numbers of ranges
+    // state 126, after number of ranges
     0,
     0,
     0,
@@ -7500,11 +7501,11 @@ pub const TABLE: [u8; 7830] = [
     0,
     0,
     0,
-    27,
+    27, // )
     0,
     0,
-    103,
-    // state 127, after numbers of ranges
+    103, // |
+    // state 127, after number of ranges
     0,
     0,
     0,
@@ -7555,21 +7556,21 @@ pub const TABLE: [u8; 7830] = [
     0,
     0,
     0,
-    131,
+    131, // ..
     0,
     0,
     0,
-    132,
+    132, // )
     0,
     0,
-    120,
-    // state 128, after right-brace of object-type
+    120, // |
+    // state 128, after } of object-type
     0,
     0,
     0,
     0,
     0,
-    107,
+    107, // DEFVAL
     0,
     0,
     0,
@@ -7613,7 +7614,7 @@ pub const TABLE: [u8; 7830] = [
     0,
     0,
     0,
-    21,
+    21, // ::=
     0,
     0,
     0,
@@ -7622,7 +7623,7 @@ pub const TABLE: [u8; 7830] = [
     0,
     0,
     0,
-    // state 129, after lowers of value
+    // state 129, after lower of value
     0,
     0,
     0,
@@ -7675,13 +7676,13 @@ pub const TABLE: [u8; 7830] = [
     0,
     0,
     0,
-    122,
+    122, // }
     0,
     0,
-    133,
+    133, // ,
     0,
     0,
-    // state 130, after right-paren of enum
+    // state 130, after ) of enum
     0,
     0,
     0,
@@ -7734,13 +7735,13 @@ pub const TABLE: [u8; 7830] = [
     0,
     0,
     0,
-    27,
+    27, // }
     0,
     0,
-    102,
+    102, // ,
     0,
     0,
-    // state 131, after dots of ranges
+    // state 131, after .. of ranges
     0,
     0,
     0,
@@ -7786,8 +7787,8 @@ pub const TABLE: [u8; 7830] = [
     0,
     0,
     0,
-    134,
-    134,
+    134, // number
+    134, // negative
     0,
     0,
     0,
@@ -7799,7 +7800,7 @@ pub const TABLE: [u8; 7830] = [
     0,
     0,
     0,
-    // state 132, after right-paren of ranges
+    // state 132, after ) of ranges
     0,
     0,
     0,
@@ -7854,11 +7855,11 @@ pub const TABLE: [u8; 7830] = [
     0,
     0,
     0,
-    27,
+    27, // )
     0,
     0,
     0,
-    // state 133, after comma of value
+    // state 133, after , of value
     0,
     0,
     0,
@@ -7894,15 +7895,15 @@ pub const TABLE: [u8; 7830] = [
     0,
     0,
     0,
-    129,
-    129,
-    129,
-    129,
-    129,
-    129,
-    129,
-    129,
-    129,
+    129, // current
+    129, // deprecated
+    129, // obsolete
+    129, // not-accessible
+    129, // accessible-for-notify
+    129, // read-only
+    129, // read-write
+    129, // read-create
+    129, // lower
     0,
     0,
     0,
@@ -7917,7 +7918,7 @@ pub const TABLE: [u8; 7830] = [
     0,
     0,
     0,
-    // state 134, after numbers of ranges
+    // state 134, after number of ranges
     0,
     0,
     0,
@@ -7972,8 +7973,8 @@ pub const TABLE: [u8; 7830] = [
     0,
     0,
     0,
-    132,
+    132, // )
     0,
     0,
-    120,
+    120, // |
 ];
