@@ -4,4 +4,5 @@ pub mod Passes
 pub mod Run
 pub mod States
 pub mod Theorem
+pub mod Settled
 pub mod Resumed
