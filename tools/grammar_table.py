@@ -34,7 +34,7 @@ def declarations(text):
     lines = [line for line in text.split("\n") if not line.startswith("--")]
     blocks = re.split(r"\n\s*\n", "\n".join(lines))
     for block in blocks:
-        got = re.match(r"(?:abbrev |unfoldable )?pub (\S+) : [^\n]*\n\1((?: \S+)*) =\s*(.*)", block, re.S)
+        got = re.match(r"(?:abbrev |unfoldable )?pub (\S+) : [^\n]*\n\1((?: [^\s=]+)*) =\s*(.*)", block, re.S)
         if got:
             yield got.group(1), got.group(2).split(), got.group(3)
 
@@ -146,11 +146,11 @@ class Grammar:
 
     # The definitions that name a part of the grammar; the others are classes of names and brackets,
     # whose tokens belong to the definition that uses them.
-    UNNAMED = {"lower", "Upper", "number", "text", "hex", "braced", "bracketed", "list", "macro-word", "range"}
+    UNNAMED = {"lower", "Upper", "number", "text", "hex", "braced", "bracketed", "list", "macro-word"}
     UNNAMED |= {"optional", "any", "parted", "access", "status", "def"}
 
     def owner_of(self, word, owner):
-        return owner if word in self.UNNAMED else word
+        return owner if word in self.UNNAMED else word.removesuffix("-line")
 
 
 # ---- derivatives, as proofs/Derivative.antt has them -----------------------------------------

@@ -3,6 +3,6 @@ pub mod Derivative
 pub mod Passes
 pub mod Run
 pub mod States
-pub mod Theorem
 pub mod Settled
+pub mod Theorem
 pub mod Resumed

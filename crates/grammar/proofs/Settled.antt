@@ -16,10 +16,9 @@ module _ (r : Rule) (ts : List ℕ) where
   begins-shorter : (k j : ℕ) → k ≤ j → Begins r (take j ts) → Begins r (take k ts)
   begins-shorter k j h b =
       let whole : take k ts ++ drop k (take j ts) ≡ take j ts =
-          ap (λ l. l ++ drop k (take j ts)) (sym (take-take k j ts h)) ∙ take-append-drop k (take j ts) in
-      (
+      ap (λ l. l ++ drop k (take j ts)) (sym (take-take k j ts h)) ∙ take-append-drop k (take j ts) in (
         drop k (take j ts) ++ b .0,
-        (b .1 .0, b .1 .1 ∙ ap (λ l. l ++ b .0) (sym whole) ∙ append-assoc (take k ts) (drop k (take j ts)) (b .0))
+        (b .1 .0, b .1 .1 ∙ ap (λ l. l ++ b .0) (sym whole) ∙ append-assoc (take k ts) (drop k (take j ts)) (b .0)),
       )
 
   begins-before : (j : ℕ) → Answers r ts (refused j) → Begins r (take j ts)

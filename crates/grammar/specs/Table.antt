@@ -22,15 +22,15 @@ transitions =
     [] ∷
     -- 1, the start
     ((Upper, 2) ∷ []) ∷
-    -- 2, after Upper of smi-module
+    -- 2, after Upper of module
     ((DEFINITIONS, 3) ∷ []) ∷
-    -- 3, after DEFINITIONS of smi-module
+    -- 3, after DEFINITIONS of module
     ((assign, 4) ∷ []) ∷
-    -- 4, after ::= of smi-module
+    -- 4, after ::= of module
     ((BEGIN, 5) ∷ []) ∷
-    -- 5, after BEGIN of smi-module
+    -- 5, after BEGIN of module
     ((IMPORTS, 6) ∷ lowers 7) ∷
-    -- 6, after , of group, IMPORTS of smi-module
+    -- 6, after , of group, IMPORTS of module
     (lowers 8 ++ macro-words 8 ++ (Upper, 8) ∷ []) ∷
     -- 7, after lower of identity
     ((MODULE-IDENTITY, 9) ∷ []) ∷
@@ -46,7 +46,7 @@ transitions =
     (lowers 8 ++ macro-words 8 ++ (Upper, 8) ∷ (semicolon, 14) ∷ []) ∷
     -- 13, after text of identity
     ((ORGANIZATION, 15) ∷ []) ∷
-    -- 14, after ; of smi-module
+    -- 14, after ; of module
     (lowers 7) ∷
     -- 15, after ORGANIZATION of identity
     ((text, 16) ∷ []) ∷
@@ -76,7 +76,7 @@ transitions =
     ((END, 29) ∷ lowers 30 ++ (Upper, 31) ∷ []) ∷
     -- 28, after number of part
     ((right-paren, 25) ∷ []) ∷
-    -- 29, after END of smi-module
+    -- 29, after END of module
     [] ∷
     -- 30, after lower of notification-type, lower of object-identifier, lower of object-identity, lower of object-type
     ((NOTIFICATION-TYPE, 32) ∷ (OBJECT, 33) ∷ (OBJECT-IDENTITY, 34) ∷ (OBJECT-TYPE, 35) ∷ []) ∷
@@ -156,7 +156,7 @@ transitions =
     ((assign, 21) ∷ (REFERENCE, 78) ∷ []) ∷
     -- 68, after lower of enum
     ((left-paren, 79) ∷ []) ∷
-    -- 69, after not-accessible or accessible-for-notify or read-only or read-write or read-create of object-type
+    -- 69, after not-accessible or accessible-for-notify or read-only or read-write or read-create of smi-module
     ((STATUS, 80) ∷ []) ∷
     -- 70, after text of object-type
     ((MAX-ACCESS, 57) ∷ []) ∷

@@ -130,7 +130,7 @@ pub const TABLE: [u8; 7830] = [
     0,
     0,
     0,
-    // state 2, after Upper of smi-module
+    // state 2, after Upper of module
     0,
     0,
     0,
@@ -189,7 +189,7 @@ pub const TABLE: [u8; 7830] = [
     0,
     0,
     0,
-    // state 3, after DEFINITIONS of smi-module
+    // state 3, after DEFINITIONS of module
     0,
     0,
     0,
@@ -248,7 +248,7 @@ pub const TABLE: [u8; 7830] = [
     0,
     0,
     0,
-    // state 4, after ::= of smi-module
+    // state 4, after ::= of module
     0,
     5, // BEGIN
     0,
@@ -307,7 +307,7 @@ pub const TABLE: [u8; 7830] = [
     0,
     0,
     0,
-    // state 5, after BEGIN of smi-module
+    // state 5, after BEGIN of module
     0,
     0,
     0,
@@ -366,7 +366,7 @@ pub const TABLE: [u8; 7830] = [
     0,
     0,
     0,
-    // state 6, after , of group, IMPORTS of smi-module
+    // state 6, after , of group, IMPORTS of module
     0,
     0,
     0,
@@ -838,7 +838,7 @@ pub const TABLE: [u8; 7830] = [
     0,
     0,
     0,
-    // state 14, after ; of smi-module
+    // state 14, after ; of module
     0,
     0,
     0,
@@ -1723,7 +1723,7 @@ pub const TABLE: [u8; 7830] = [
     0,
     0,
     0,
-    // state 29, after END of smi-module
+    // state 29, after END of module
     0,
     0,
     0,
@@ -4083,7 +4083,7 @@ pub const TABLE: [u8; 7830] = [
     0,
     0,
     0,
-    // state 69, after not-accessible or accessible-for-notify or read-only or read-write or read-create of object-type
+    // state 69, after not-accessible or accessible-for-notify or read-only or read-write or read-create of smi-module
     0,
     0,
     0,
