@@ -1,5 +1,7 @@
 pub mod Every
 pub mod Derivative
+pub mod Part
+pub mod Left
 pub mod Passes
 pub mod Run
 pub mod States

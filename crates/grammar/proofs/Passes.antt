@@ -12,7 +12,8 @@ use lib.Dec.{T, eqb, ltb, eqb→eq, ltb→lt}
 use lib.ListN.{length, getD}
 use Rattle.grammar.specs.Rule.{Rule, Rule-discrete, never, empty, token, _⨾_, _or_, repeated, Steps, last, step, Tree, in-order, yield}
 use Rattle.grammar.specs.Automaton.{Automaton}
-use Rattle.grammar.proofs.Derivative.{derivative, blank, proper, matched, simplified, first-token}
+use Rattle.grammar.proofs.Derivative.{derivative, blank, proper, matched, simplified}
+use Rattle.grammar.proofs.Left.{first-token}
 use Rattle.grammar.proofs.Every.{every, holds-at, and-left, and-right}
 
 abbrev pub decided : {A : Type 0} → Dec A → Bool

@@ -15,7 +15,9 @@ use lib.Seq.{take-length}
 use Rattle.grammar.specs.Rule.{Rule, never, empty, Tree, yield}
 use Rattle.grammar.specs.Answer.{Verdict, derived, refused, Derives, Begins, Answers}
 use Rattle.grammar.specs.Automaton.{Automaton, next, at-the-end, unless-dead, one-later, run-from, run}
-use Rattle.grammar.proofs.Derivative.{Part, Same, After, Blank, Silent, blank, blank-part, blank-silent, derivative, derivative-part, matched, simplified, simplified-same}
+use Rattle.grammar.proofs.Derivative.{blank, derivative, matched, simplified}
+use Rattle.grammar.proofs.Left.{Silent, blank-part, blank-silent, derivative-part}
+use Rattle.grammar.proofs.Part.{Same, After, Blank, simplified-same}
 use Rattle.grammar.proofs.Passes.{Passes, rule-proper, rule-below, rule-blank, rule-solid, entry-state, entry-rule, first-below, solid-tree}
 
 -- no two derivations of ts
