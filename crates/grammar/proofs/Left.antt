@@ -81,35 +81,35 @@ blank-silent (repeated r s) = blank-silent s
 
 -- the first token of two lists, one after the other, is the second's where the first is empty, and else the first's
 pub first-token : (l m : List ℕ) (c : ℕ) (more : List ℕ) → l ++ m ≡ c ∷ more
-  → ((l ≡ []) × (m ≡ c ∷ more)) ⊎ ((rest : List ℕ) × (l ≡ c ∷ rest))
+    → ((l ≡ []) × (m ≡ c ∷ more)) ⊎ ((rest : List ℕ) × (l ≡ c ∷ rest))
 first-token [] m c more e = inl (refl, e)
 first-token (x ∷ rest) m c more e = inr (rest, ap (λ y. y ∷ rest) (head-eq-of-cons-eq e))
 
 -- of a sequence, the first token is the first rule's, or the second's behind a blank tree of the first
-after-sequence : {r s p e q : Rule} (c : ℕ) → After c r p → Blank r e → Silent e → After c s q
-  → After c (r ⨾ s) (p ⨾ s or e ⨾ q)
+after-sequence : {r s p e q : Rule} (c : ℕ) → After (c ∷ []) r p → Blank r e → Silent e → After (c ∷ []) s q
+    → After (c ∷ []) (r ⨾ s) (p ⨾ s or e ⨾ q)
 after-sequence {r} {s} {p} {e} {q} c a b mute g =
     record {
       back = λ d. elim d [ inl x ↦ (a .back (x .0), x .1) | inr y ↦ (b .back (y .0), g .back (y .1)) ];
       yields = λ d.
           elim d [
-          | inl x ↦ ap (λ l. l ++ yield s (x .1)) (a .yields (x .0))
-          | inr y ↦
-              ap₂ (λ l m. l ++ m) (b .yields (y .0) ∙ mute (y .0)) (g .yields (y .1))
-              ∙ ap (λ l. c ∷ (l ++ yield q (y .1))) (sym (mute (y .0)))
+            | inl x ↦ ap (λ l. l ++ yield s (x .1)) (a .yields (x .0))
+            | inr y ↦
+                ap₂ (λ l m. l ++ m) (b .yields (y .0) ∙ mute (y .0)) (g .yields (y .1))
+                ∙ ap (λ l. c ∷ (l ++ yield q (y .1))) (sym (mute (y .0)))
           ];
       onto = λ t h.
           ⊎-elim
           (λ v.
-            let x = b .onto (t .0) (v .0) in
-            let y = g .onto (t .1) (h .0, v .1) in
-            (inr (x .0, y .0), ap₂ (λ u w. (u, w)) (x .1) (y .1)))
+          let x = b .onto (t .0) (v .0) in
+          let y = g .onto (t .1) (h .0, v .1) in
+          (inr (x .0, y .0), ap₂ (λ u w. (u, w)) (x .1) (y .1)))
           (λ v. let x = a .onto (t .0) v in (inl (x .0, t .1), ap (λ u. (u, t .1)) (x .1)))
           (first-token (yield r (t .0)) (yield s (t .1)) c (h .0) (h .1));
     }
 
 -- of a sequence whose first rule is never blank, the first token is the first rule's
-after-first : {r p e : Rule} (s : Rule) (c : ℕ) → After c r p → Blank r e → T (is-never e) → After c (r ⨾ s) (p ⨾ s)
+after-first : {r p e : Rule} (s : Rule) (c : ℕ) → After (c ∷ []) r p → Blank r e → T (is-never e) → After (c ∷ []) (r ⨾ s) (p ⨾ s)
 after-first {r} {p} {e} s c a b none =
     record {
       back = λ d. (a .back (d .0), d .1);
@@ -121,7 +121,7 @@ after-first {r} {p} {e} s c a b none =
           (first-token (yield r (t .0)) (yield s (t .1)) c (h .0) (h .1));
     }
 
-after-token : (k c : ℕ) (b : Bool) → eqb k c ≡ b → After c (token k) (matched b)
+after-token : (k c : ℕ) (b : Bool) → eqb k c ≡ b → After (c ∷ []) (token k) (matched b)
 after-token k c true e =
     record {
       back = λ d. tt;
@@ -135,7 +135,7 @@ after-token k c false e =
       onto = λ t h. absurd (eqb-false k c e (head-eq-of-cons-eq (h .1)));
     }
 
-pub derivative-part : (c : ℕ) (r : Rule) → T (proper r) → After c r (derivative c r)
+pub derivative-part : (c : ℕ) (r : Rule) → T (proper r) → After (c ∷ []) r (derivative c r)
 derivative-part c never h = record { back = λ d. absurd d; yields = λ d. absurd d; onto = λ t e. absurd t }
 derivative-part c empty h =
     record {

@@ -3,8 +3,9 @@ pub mod Derivative
 pub mod Part
 pub mod Left
 pub mod Passes
+pub mod Right
 pub mod Run
 pub mod States
-pub mod Settled
+pub mod OneVerdict
 pub mod Theorem
 pub mod Resumed

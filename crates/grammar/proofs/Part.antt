@@ -15,17 +15,17 @@ pub record Part (P : List ℕ → Type 0) (f : List ℕ → List ℕ) (r q : Rul
   pub yields : (d : Tree q) → yield r (back d) ≡ f (yield q d)
   pub onto : (t : Tree r) → P (yield r t) → (d : Tree q) × (back d ≡ t)
 
--- all trees, with the yields they have
+-- the trees that yield these classes first, less them
+abbrev pub After : List ℕ → Rule → Rule → Type 0
+After w r q = Part (λ l. (more : List ℕ) × (l ≡ w ++ more)) (λ l. w ++ l) r q
+
+-- all trees
 abbrev pub Same : Rule → Rule → Type 0
-Same r q = Part (λ l. Unit {0}) (λ l. l) r q
+Same r q = After [] r q
 
 -- the trees that yield no token
 abbrev pub Blank : Rule → Rule → Type 0
 Blank r q = Part (λ l. l ≡ []) (λ l. l) r q
-
--- the trees that yield a token of class c first, less that token
-abbrev pub After : ℕ → Rule → Rule → Type 0
-After c r q = Part (λ l. (more : List ℕ) × (l ≡ c ∷ more)) (λ l. c ∷ l) r q
 
 module _ {P : List ℕ → Type 0} {f : List ℕ → List ℕ} where
   -- a part, and the same trees under another rule
@@ -36,7 +36,7 @@ module _ {P : List ℕ → Type 0} {f : List ℕ → List ℕ} where
         yields = λ d. a .yields (b .back d) ∙ ap f (b .yields d);
         onto = λ t h.
             let e = a .onto t h in
-            let d = b .onto (e .0) tt in
+            let d = b .onto (e .0) (_, refl) in
             (d .0, ap (a .back) (d .1) ∙ e .1);
       }
 
@@ -47,7 +47,7 @@ module _ {P : List ℕ → Type 0} {f : List ℕ → List ℕ} where
         back = λ d. a .back (b .back d);
         yields = λ d. a .yields (b .back d) ∙ b .yields d;
         onto = λ t h.
-            let e = a .onto t tt in
+            let e = a .onto t (_, refl) in
             let d = b .onto (e .0) (subst P (ap (yield r) (sym (e .1)) ∙ a .yields (e .0)) h) in
             (d .0, ap (a .back) (d .1) ∙ e .1);
       }
@@ -60,8 +60,8 @@ module _ {P : List ℕ → Type 0} {f : List ℕ → List ℕ} where
         yields = λ d. elim d [ inl x ↦ a .yields x | inr y ↦ b .yields y ];
         onto = λ t.
             elim t [
-            | inl x ↦ λ h. let e = a .onto x h in (inl (e .0), ap inl (e .1))
-            | inr y ↦ λ h. let e = b .onto y h in (inr (e .0), ap inr (e .1))
+              | inl x ↦ λ h. let e = a .onto x h in (inl (e .0), ap inl (e .1))
+              | inr y ↦ λ h. let e = b .onto y h in (inr (e .0), ap inr (e .1))
             ];
       }
 
@@ -73,14 +73,14 @@ module _ {P : List ℕ → Type 0} {f : List ℕ → List ℕ} where
         yields = λ d. a .yields d;
         onto = λ t.
             elim t [
-            | inl x ↦ λ h. let e = a .onto x h in (e .0, ap inl (e .1))
-            | inr y ↦ λ h. absurd (none y h)
+              | inl x ↦ λ h. let e = a .onto x h in (e .0, ap inl (e .1))
+              | inr y ↦ λ h. absurd (none y h)
             ];
       }
 
 -- parts of two rules are one of their sequence, where both halves of a yield of the part are of the part
 pub both : {P : List ℕ → Type 0} {r s p q : Rule} → ((l m : List ℕ) → P (l ++ m) → P l × P m)
-  → Part P (λ l. l) r p → Part P (λ l. l) s q → Part P (λ l. l) (r ⨾ s) (p ⨾ q)
+    → Part P (λ l. l) r p → Part P (λ l. l) s q → Part P (λ l. l) (r ⨾ s) (p ⨾ q)
 both {r} {s} halves a b =
     record {
       back = λ d. (a .back (d .0), b .back (d .1));
@@ -107,7 +107,7 @@ sequence-same (r ⨾ q) s =
           let e = same .back (d .1) in
           append-assoc (yield r (d .0)) (yield q (e .0)) (yield s (e .1)) ∙ ap (λ l. yield r (d .0) ++ l) (same .yields (d .1));
       onto = λ t h.
-          let e = same .onto (t .0 .1, t .1) tt in
+          let e = same .onto (t .0 .1, t .1) (_, refl) in
           ((t .0 .0, e .0), ap (λ x. ((t .0 .0, x .0), x .1)) (e .1));
     }
 sequence-same (r or q) s = unchanged ((r or q) ⨾ s)
@@ -158,9 +158,9 @@ module _ {r s p q : Rule} (a : Same r p) (b : Same s q) where
 
   again-onto : (t : Tree (repeated r s)) → (d : Tree (repeated p q)) × (again-back d ≡ t)
   unfolding again-back
-  again-onto (last t) = let e = b .onto t tt in (last (e .0), ap last (e .1))
+  again-onto (last t) = let e = b .onto t (_, refl) in (last (e .0), ap last (e .1))
   again-onto (step x more) =
-      let e = a .onto x tt in
+      let e = a .onto x (_, refl) in
       let m = again-onto more in
       (step (e .0) (m .0), ap₂ step (e .1) (m .1))
 
@@ -172,6 +172,6 @@ simplified-same never = unchanged never
 simplified-same empty = unchanged empty
 simplified-same (token c) = unchanged (token c)
 simplified-same (r ⨾ s) =
-    renamed (both (λ l m h. (tt, tt)) (simplified-same r) (simplified-same s)) (sequence-same (simplified r) (simplified s))
+    renamed (both (λ l m h. ((l, refl), (m, refl))) (simplified-same r) (simplified-same s)) (sequence-same (simplified r) (simplified s))
 simplified-same (r or s) = renamed (either (simplified-same r) (simplified-same s)) (choice-same (simplified r) (simplified s))
 simplified-same (repeated r s) = again (simplified-same r) (simplified-same s)

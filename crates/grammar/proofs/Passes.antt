@@ -11,7 +11,7 @@ use lib.Arith.{digits-lt, digits-div, digits-mod}
 use lib.Dec.{T, eqb, ltb, eqb→eq, ltb→lt}
 use lib.ListN.{length, getD}
 use Rattle.grammar.specs.Rule.{Rule, Rule-discrete, never, empty, token, _⨾_, _or_, repeated, Steps, last, step, Tree, in-order, yield}
-use Rattle.grammar.specs.Automaton.{Automaton}
+use Rattle.grammar.specs.Automaton.{Automaton, target}
 use Rattle.grammar.proofs.Derivative.{derivative, blank, proper, matched, simplified}
 use Rattle.grammar.proofs.Left.{first-token}
 use Rattle.grammar.proofs.Every.{every, holds-at, and-left, and-right}
@@ -86,16 +86,20 @@ first-below n (r or s) h =
 first-below n (repeated r s) h =
     in-steps n r s (first-below n r (and-left (below n r) (below n s) h)) (first-below n s (and-right (below n r) (below n s) h))
 
+-- the rule of state s
+abbrev pub rule : List Rule → ℕ → Rule
+rule rules s = getD rules s never
+
 -- the entry x at index k of the table: state x has the derivative of the rule that k's state has, by k's class
 abbrev pub leads-to : Automaton → List Rule → ℕ → ℕ → Bool
-leads-to a rules k x = same (derivative (k % a .width) (getD rules (k / a .width) never)) (getD rules x never)
+leads-to a rules k x = same (derivative (k % a .width) (rule rules (k / a .width))) (rule rules x)
 
 -- The automaton, whose states have these rules, passes the test for the rule r.
 pub record Passes (a : Automaton) (rules : List Rule) (r : Rule) : Type 0 where
   pub all-states : length rules ≡ a .states
   pub all-entries : length (a .table) ≡ a .states * a .width
   -- the dead state has ∅; any other has a rule in which ∅ stands nowhere
-  pub dead : getD rules 0 never ≡ never
+  pub dead : rule rules 0 ≡ never
   pub alive : T (every (λ s q. eqb s 0 || solid q) never 0 rules)
   pub repeats : T (every (λ s q. proper q) never 0 rules)
   pub classes : T (every (λ s q. below (a .width) q) never 0 rules)
@@ -107,7 +111,7 @@ pub record Passes (a : Automaton) (rules : List Rule) (r : Rule) : Type 0 where
   -- it starts with the rule
   pub start-state : T (ltb (a .start) (a .states))
   pub start-alive : T (ltb 0 (a .start))
-  pub start-rule : getD rules (a .start) never ≡ simplified r
+  pub start-rule : rule rules (a .start) ≡ simplified r
 
 or-right : (b c : Bool) → T (b || c) → (T b → ⊥) → T c
 or-right true c h n = absurd (n h)
@@ -117,33 +121,33 @@ module _ {a : Automaton} {rules : List Rule} {r : Rule} (p : Passes a rules r) (
   has-rule : s < length rules
   has-rule = subst (λ (n : ℕ). s < n) (sym (p .all-states)) state
 
-  pub rule-proper : T (proper (getD rules s never))
+  pub rule-proper : T (proper (rule rules s))
   rule-proper = holds-at (λ s q. proper q) never rules (p .repeats) s has-rule
 
-  pub rule-below : T (below (a .width) (getD rules s never))
+  pub rule-below : T (below (a .width) (rule rules s))
   rule-below = holds-at (λ s q. below (a .width) q) never rules (p .classes) s has-rule
 
-  pub rule-blank : blank (getD rules s never) ≡ matched (eqb s (a .accepting))
+  pub rule-blank : blank (rule rules s) ≡ matched (eqb s (a .accepting))
   rule-blank =
       same-equal _ _ (holds-at (λ s q. same (blank q) (matched (eqb s (a .accepting)))) never rules (p .ends) s has-rule)
 
-  pub rule-solid : (s ≡ 0 → ⊥) → T (solid (getD rules s never))
+  pub rule-solid : (s ≡ 0 → ⊥) → T (solid (rule rules s))
   rule-solid n =
-      or-right (eqb s 0) (solid (getD rules s never)) (holds-at (λ s q. eqb s 0 || solid q) never rules (p .alive) s has-rule)
+      or-right (eqb s 0) (solid (rule rules s)) (holds-at (λ s q. eqb s 0 || solid q) never rules (p .alive) s has-rule)
       (λ t. n (eqb→eq s 0 t))
 
   module _ (c : ℕ) (class : c < a .width) where
     has-entry : s * a .width + c < length (a .table)
     has-entry = subst (λ (n : ℕ). s * a .width + c < n) (sym (p .all-entries)) (digits-lt state class)
 
-    pub entry-state : getD (a .table) (s * a .width + c) 0 < a .states
+    pub entry-state : target a s c < a .states
     entry-state =
-        ltb→lt (getD (a .table) (s * a .width + c) 0) (a .states)
+        ltb→lt (target a s c) (a .states)
         (holds-at (λ k x. ltb x (a .states)) 0 (a .table) (p .targets) (s * a .width + c) has-entry)
 
-    pub entry-rule : derivative c (getD rules s never) ≡ getD rules (getD (a .table) (s * a .width + c) 0) never
+    pub entry-rule : derivative c (rule rules s) ≡ rule rules (target a s c)
     entry-rule =
         let k = s * a .width + c in
         rw (digits-mod s class, digits-div s class) at
-        (same-equal (derivative (k % a .width) (getD rules (k / a .width) never)) (getD rules (getD (a .table) k 0) never)
+        (same-equal (derivative (k % a .width) (rule rules (k / a .width))) (getD rules (getD (a .table) k 0) never)
         (holds-at (leads-to a rules) 0 (a .table) (p .entries) k has-entry))

@@ -10,7 +10,7 @@ use Rattle.grammar.specs.Automaton.{run, run-from}
 use Rattle.grammar.specs.Grammar.{smi-module}
 use Rattle.grammar.specs.Table.{module-automaton}
 use Rattle.grammar.proofs.Run.{run-answers}
-use Rattle.grammar.proofs.Settled.{one-verdict}
+use Rattle.grammar.proofs.OneVerdict.{one-verdict}
 use Rattle.grammar.proofs.States.{module-passes}
 
 pub grammar-theorem : (ts : List ℕ) → Answers smi-module ts (run module-automaton ts)

@@ -33,14 +33,20 @@ abbrev pub dense : ℕ → List (List (ℕ × ℕ)) → List ℕ
 dense n [] = []
 dense n (pairs ∷ more) = row n 0 pairs ++ dense n more
 
--- the state after a token of class c in state s
-abbrev pub next : Automaton → ℕ → ℕ → ℕ
-next a s c = cond (ltb c (a .width)) (getD (a .table) (s * a .width + c) 0) 0
+-- the table's entry for class c in state s
+abbrev pub target : Automaton → ℕ → ℕ → ℕ
+target a s c = getD (a .table) (s * a .width + c) 0
 
+-- the state after a token of class c in state s: dead where the automaton does not have the class
+abbrev pub next : Automaton → ℕ → ℕ → ℕ
+next a s c = cond (ltb c (a .width)) (target a s c) 0
+
+-- the verdict at the end of the sequence, by whether the state is the accepting one
 abbrev pub at-the-end : Bool → Verdict
 at-the-end true = derived
 at-the-end false = refused 0
 
+-- the verdict at a token, by whether it leads to the dead state
 abbrev pub unless-dead : Bool → Verdict → Verdict
 unless-dead true v = refused 0
 unless-dead false v = v
