@@ -1,61 +1,44 @@
 -- `grammar::recognise` meets its contract: after each token its state is the run's, and the run is right by the theorem.
 -- Assumes nothing.
-use mathlib.Core.Path.{_≡_, refl, sym, _∙_, ap, subst}
+use mathlib.Core.Path.{_≡_, sym, _∙_, ap, subst}
+use mathlib.Core.List.{List}
 use Prim.Native.Nat.{ℕ, _+_, _-_, _≤_, _<_, zero-le}
 use native.Mathlib.Omega.{arith}
 use borrow.Author.Needs.{needs}
-use mathlib.Core.List.{List}
-use lib.Dec.{lit<, eqb}
-use borrow.Author.Tests.{eq-eqb, ne-eqb}
-use native.Mathlib.Nat.{add-zero}
-use lib.ListN.{length, take, drop, getD, length-take}
+use lib.Dec.{lit<}
+use lib.ListN.{length, take, getD}
 use lib.Seq.{getD-take, length-take-le}
 use Rattle.grammar.specs.Answer.{Verdict, derived, refused, Answers}
-use Rattle.grammar.specs.Automaton.{next, run, at-the-end}
+use Rattle.grammar.specs.Automaton.{next, run}
 use Rattle.grammar.specs.Grammar.{smi-module}
 use Rattle.grammar.specs.Table.{module-automaton}
-use Rattle.grammar.proofs.Resumed.{Resumed, later-by, resumed-start, resumed-dead, resumed-step, resumed-end}
+use Rattle.grammar.proofs.Resumed.{Resumed, resumed-start, resumed-dead, resumed-token, resumed-whole, resumed-short}
 use Rattle.grammar.proofs.Theorem.{grammar-theorem}
 use Rattle.grammar.proofs.recognise.Statement.{statement}
 use Rattle.grammar.proofs.recognise.Tie as tie
-use Rattle.grammar.proofs.recognise.Reads as reads
-use Rattle.grammar.proofs.recognise.Lts as lts
-use Rattle.grammar.proofs.step.Reads as step-reads
 
 abbrev Inv-loop : tie.InvT-loop
-Inv-loop classes n state₀ i₀ state i = (i ≤ n) × (state < module-automaton .states) × Resumed module-automaton (take n classes) state i
+Inv-loop classes n state₀ i₀ state i =
+    (i ≤ n) × (state < module-automaton .states) × Resumed module-automaton (take n classes) state i
 
 abbrev μ-loop : tie.MeasureT-loop
 μ-loop classes n state₀ i₀ state i = n - i
-
--- the run stands at class i of the first n in state s, and that class leads to x
-module _ (classes : List ℕ) (n s i x : ℕ) (enough : n ≤ length classes) (within : i < n)
-    (resumed : Resumed module-automaton (take n classes) s i) (leads : x ≡ next module-automaton s (getD classes i 0)) where
-  among : i < length (take n classes)
-  among = subst (λ (k : ℕ). i < k) (sym (length-take-le n classes enough)) within
-
-  by-class : next module-automaton s (getD (take n classes) i 0) ≡ x
-  by-class = ap (next module-automaton s) (getD-take n classes i 0 within) ∙ sym leads
-
-  one-more : (x ≡ 0 → ⊥) → Resumed module-automaton (take n classes) x (i + 1)
-  one-more alive =
-      subst (λ y. Resumed module-automaton (take n classes) y (i + 1)) by-class
-      (resumed-step module-automaton (take n classes) s i resumed among (λ z. alive (sym by-class ∙ z)))
-
-  spoiled : x ≡ 0 → run module-automaton (take n classes) ≡ refused i
-  spoiled dead = resumed-dead module-automaton (take n classes) s i resumed among (by-class ∙ dead)
 
 -- a verdict that is the run's is right
 answered : (ts : List ℕ) (v : Verdict) → run module-automaton ts ≡ v → (v ≡ run module-automaton ts) × Answers smi-module ts v
 answered ts v e = (sym e, subst (Answers smi-module ts) e (grammar-theorem ts))
 
--- the run past the first n classes
-at-last : (classes : List ℕ) (n s i : ℕ) → n ≤ length classes → i ≤ n → n ≤ i → Resumed module-automaton (take n classes) s i
-    → run module-automaton (take n classes) ≡ later-by n (at-the-end (eqb s (module-automaton .accepting)))
-at-last classes n s i enough below above h =
-    let e : i ≡ n = omega arith in
-    resumed-end module-automaton (take n classes) s n (subst (λ k. Resumed module-automaton (take n classes) s k) e h)
-    (omega (arith, length-take-le n classes enough))
+-- an index below n is one of the first n classes, and has the same class there
+module _ (classes : List ℕ) (n i : ℕ) (enough : n ≤ length classes) (l : i < n) where
+  among : i < length (take n classes)
+  among = omega (arith, length-take-le n classes enough)
+
+  same-class : (s x : ℕ) → x ≡ next module-automaton s (getD classes i 0) → next module-automaton s (getD (take n classes) i 0) ≡ x
+  same-class s x e = ap (next module-automaton s) (getD-take n classes i 0 l) ∙ sym e
+
+-- at the loop's end all of the first n classes are past
+all-past : (classes : List ℕ) (n i : ℕ) → n ≤ length classes → n ≤ i → length (take n classes) ≤ i
+all-past classes n i enough l = omega (arith, length-take-le n classes enough)
 
 loop-holds : tie.Need-loop-holds Inv-loop μ-loop
 unfolding module-automaton
@@ -71,9 +54,15 @@ returns : tie.Need-returns Inv-loop μ-loop
 returns c =
     let at = c .before .before .before .before in
     let start = at .before .before in
-    answered (take (start .args .n) (start .args .classes .now)) (refused (at .loop .i))
-    (spoiled (start .args .classes .now) (start .args .n) (at .loop .state) (at .loop .i) (c .before .step .result) (start .pre)
-    (c .before .before .before .loop-test .taken) (at .loop .inv .2) (c .before .step .ensures .0) (c .if1 .taken))
+    let classes = start .args .classes .now in
+    let n = start .args .n in
+    let l = c .before .before .before .loop-test .taken in
+    let x = c .before .step .result in
+    answered (take n classes) (refused (at .loop .i))
+    (resumed-dead module-automaton (take n classes) (at .loop .state) (at .loop .i) x (at .loop .inv .2)
+    (among classes n (at .loop .i) (start .pre) l)
+    (same-class classes n (at .loop .i) (start .pre) l (at .loop .state) x (c .before .step .ensures .0))
+    (c .if1 .taken))
 
 add-i : tie.Need-add-i Inv-loop μ-loop
 add-i c = search needs
@@ -84,11 +73,17 @@ loop-less c = search needs
 loop-again : tie.Need-loop-again Inv-loop μ-loop
 loop-again c =
     let at = c .before .before .before .before in
-    let start = at .before .before in (
+    let start = at .before .before in
+    let classes = start .args .classes .now in
+    let n = start .args .n in
+    let l = c .before .before .before .loop-test .taken in
+    let x = c .before .step .result in (
       search needs,
       c .before .step .ensures .1,
-      one-more (start .args .classes .now) (start .args .n) (at .loop .state) (at .loop .i) (c .before .step .result) (start .pre)
-          (c .before .before .before .loop-test .taken) (at .loop .inv .2) (c .before .step .ensures .0) (c .if1 .left),
+      resumed-token module-automaton (take n classes) (at .loop .state) (at .loop .i) x (at .loop .inv .2)
+          (among classes n (at .loop .i) (start .pre) l)
+          (same-class classes n (at .loop .i) (start .pre) l (at .loop .state) x (c .before .step .ensures .0))
+          (c .if1 .left),
     )
 
 returns-2 : tie.Need-returns-2 Inv-loop μ-loop
@@ -96,19 +91,24 @@ unfolding module-automaton
 returns-2 c =
     let at = c .before .before in
     let start = at .before .before in
-    answered (take (start .args .n) (start .args .classes .now)) derived
-    (at-last (start .args .classes .now) (start .args .n) (at .loop .state) (at .loop .i) (start .pre) (at .loop .inv .0) (c .before .loop-test .left) (at .loop .inv .2)
-    ∙ ap (λ b. later-by (start .args .n) (at-the-end b)) (eq-eqb (at .loop .state) (module-automaton .accepting) (c .if2 .taken)))
+    let classes = start .args .classes .now in
+    let n = start .args .n in
+    answered (take n classes) derived
+    (resumed-whole module-automaton (take n classes) (at .loop .state) (at .loop .i) (at .loop .inv .2)
+    (all-past classes n (at .loop .i) (start .pre) (c .before .loop-test .left)) (c .if2 .taken))
 
 returns-3 : tie.Need-returns-3 Inv-loop μ-loop
 unfolding module-automaton
 returns-3 c =
     let at = c .before .before in
     let start = at .before .before in
-    answered (take (start .args .n) (start .args .classes .now)) (refused (start .args .n))
-    (at-last (start .args .classes .now) (start .args .n) (at .loop .state) (at .loop .i) (start .pre) (at .loop .inv .0) (c .before .loop-test .left) (at .loop .inv .2)
-    ∙ ap (λ b. later-by (start .args .n) (at-the-end b)) (ne-eqb (at .loop .state) (module-automaton .accepting) (c .if2 .left))
-    ∙ ap refused (add-zero (start .args .n)))
+    let classes = start .args .classes .now in
+    let n = start .args .n in
+    let e : at .loop .i ≡ n = omega arith in
+    answered (take n classes) (refused n)
+    (resumed-short module-automaton (take n classes) (at .loop .state) (at .loop .i) (at .loop .inv .2)
+    (all-past classes n (at .loop .i) (start .pre) (c .before .loop-test .left)) (c .if2 .left)
+    ∙ ap refused e)
 
 pub recognise-spec : {M : Type 1} → statement M
 recognise-spec =

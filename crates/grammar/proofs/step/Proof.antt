@@ -10,8 +10,6 @@ use Rattle.grammar.proofs.Resumed.{next-inside, next-outside}
 use Rattle.grammar.proofs.States.{module-passes}
 use Rattle.grammar.proofs.step.Statement.{statement}
 use Rattle.grammar.proofs.step.Tie as tie
-use Rattle.grammar.proofs.step.Reads as reads
-use Rattle.grammar.proofs.step.Lts as lts
 
 mul-result : tie.Need-mul-result
 mul-result c = search needs
