@@ -1,0 +1,11 @@
+pub mod Every
+pub mod Derivative
+pub mod Part
+pub mod Left
+pub mod Passes
+pub mod Right
+pub mod Run
+pub mod States
+pub mod OneVerdict
+pub mod Theorem
+pub mod Resumed

@@ -1,0 +1,153 @@
+-- The test of a transition table, which antt computes: each state has a rule, and the table leads from it, with each class,
+-- to the state that has the derivative. What the test shows at each state and each class is stated below it.
+-- Assumes nothing.
+use mathlib.Core.Path.{_≡_, refl, sym, _∙_, ap, subst}
+use mathlib.Core.Bool.{Bool, true, false, _&&_, _||_}
+use mathlib.Core.Logic.{_⊎_, inl, inr, ⊎-elim}
+use mathlib.Core.List.{List, [], _∷_, _++_, cons-ne-nil, head-eq-of-cons-eq}
+use Prim.Native.Nat.{ℕ, _+_, _*_, _/_, _%_, _<_}
+use native.Mathlib.Decide.{ℕ-discrete}
+use lib.Arith.{digits-lt, digits-div, digits-mod}
+use lib.Dec.{T, eqb, ltb, eqb→eq, ltb→lt}
+use lib.ListN.{length, getD}
+use Rattle.grammar.specs.Rule.{Rule, Rule-discrete, never, empty, token, _⨾_, _or_, repeated, Steps, last, step, Tree, in-order, yield}
+use Rattle.grammar.specs.Automaton.{Automaton, target}
+use Rattle.grammar.proofs.Derivative.{derivative, blank, proper, matched, simplified}
+use Rattle.grammar.proofs.Left.{first-token}
+use Rattle.grammar.proofs.Every.{every, holds-at, and-left, and-right}
+
+abbrev pub decided : {A : Type 0} → Dec A → Bool
+decided (yes p) = true
+decided (no n) = false
+
+decided-true : {A : Type 0} (d : Dec A) → T (decided d) → A
+decided-true (yes p) h = p
+decided-true (no n) h = absurd h
+
+-- the rules are equal
+abbrev pub same : Rule → Rule → Bool
+same r s = decided (Rule-discrete ℕ-discrete r s)
+
+same-equal : (r s : Rule) → T (same r s) → r ≡ s
+same-equal r s h = decided-true (Rule-discrete ℕ-discrete r s) h
+
+-- ∅ stands nowhere in the rule
+abbrev pub solid : Rule → Bool
+solid never = false
+solid empty = true
+solid (token c) = true
+solid (r ⨾ s) = solid r && solid s
+solid (r or s) = solid r && solid s
+solid (repeated r s) = solid r && solid s
+
+-- a rule in which ∅ stands nowhere has a tree
+pub solid-tree : (r : Rule) → T (solid r) → Tree r
+solid-tree never h = h
+solid-tree empty h = tt
+solid-tree (token c) h = tt
+solid-tree (r ⨾ s) h = (solid-tree r (and-left (solid r) (solid s) h), solid-tree s (and-right (solid r) (solid s) h))
+solid-tree (r or s) h = inl (solid-tree r (and-left (solid r) (solid s) h))
+solid-tree (repeated r s) h = last (solid-tree s (and-right (solid r) (solid s) h))
+
+-- each token of the rule is of a class below n
+abbrev pub below : ℕ → Rule → Bool
+below n never = true
+below n empty = true
+below n (token c) = ltb c n
+below n (r ⨾ s) = below n r && below n s
+below n (r or s) = below n r && below n s
+below n (repeated r s) = below n r && below n s
+
+-- the first token of each yield of r is of a class below n
+abbrev pub First-below : ℕ → Rule → Type 0
+First-below n r = (t : Tree r) (c : ℕ) (more : List ℕ) → yield r t ≡ c ∷ more → c < n
+
+in-sequence : (n : ℕ) (r s : Rule) → First-below n r → First-below n s → First-below n (r ⨾ s)
+in-sequence n r s f g t c more e =
+    ⊎-elim (λ v. g (t .1) c more (v .1)) (λ v. f (t .0) c (v .0) (v .1))
+    (first-token (yield r (t .0)) (yield s (t .1)) c more e)
+
+in-steps : (n : ℕ) (r s : Rule) → First-below n r → First-below n s → First-below n (repeated r s)
+in-steps n r s f g (last t) c more e = g t c more e
+in-steps n r s f g (step t rest) c more e =
+    ⊎-elim (λ v. in-steps n r s f g rest c more (v .1)) (λ v. f t c (v .0) (v .1))
+    (first-token (yield r t) (yield (repeated r s) rest) c more e)
+
+pub first-below : (n : ℕ) (r : Rule) → T (below n r) → First-below n r
+first-below n never h = λ t c more e. absurd t
+first-below n empty h = λ t c more e. absurd (cons-ne-nil c more (sym e))
+first-below n (token k) h = λ t c more e. subst (λ (x : ℕ). x < n) (head-eq-of-cons-eq e) (ltb→lt k n h)
+first-below n (r ⨾ s) h =
+    in-sequence n r s (first-below n r (and-left (below n r) (below n s) h)) (first-below n s (and-right (below n r) (below n s) h))
+first-below n (r or s) h =
+    let f = first-below n r (and-left (below n r) (below n s) h) in
+    let g = first-below n s (and-right (below n r) (below n s) h) in
+    λ t. elim t [ inl x ↦ λ c more e. f x c more e | inr y ↦ λ c more e. g y c more e ]
+first-below n (repeated r s) h =
+    in-steps n r s (first-below n r (and-left (below n r) (below n s) h)) (first-below n s (and-right (below n r) (below n s) h))
+
+-- the rule of state s
+abbrev pub rule : List Rule → ℕ → Rule
+rule rules s = getD rules s never
+
+-- the entry x at index k of the table: state x has the derivative of the rule that k's state has, by k's class
+abbrev pub leads-to : Automaton → List Rule → ℕ → ℕ → Bool
+leads-to a rules k x = same (derivative (k % a .width) (rule rules (k / a .width))) (rule rules x)
+
+-- The automaton, whose states have these rules, passes the test for the rule r.
+pub record Passes (a : Automaton) (rules : List Rule) (r : Rule) : Type 0 where
+  pub all-states : length rules ≡ a .states
+  pub all-entries : length (a .table) ≡ a .states * a .width
+  -- the dead state has ∅; any other has a rule in which ∅ stands nowhere
+  pub dead : rule rules 0 ≡ never
+  pub alive : T (every (λ s q. eqb s 0 || solid q) never 0 rules)
+  pub repeats : T (every (λ s q. proper q) never 0 rules)
+  pub classes : T (every (λ s q. below (a .width) q) never 0 rules)
+  -- the accepting state's rule has one blank tree, any other's none
+  pub ends : T (every (λ s q. same (blank q) (matched (eqb s (a .accepting)))) never 0 rules)
+  -- each entry of the table is a state, and the right one
+  pub targets : T (every (λ k x. ltb x (a .states)) 0 0 (a .table))
+  pub entries : T (every (leads-to a rules) 0 0 (a .table))
+  -- it starts with the rule
+  pub start-state : T (ltb (a .start) (a .states))
+  pub start-alive : T (ltb 0 (a .start))
+  pub start-rule : rule rules (a .start) ≡ simplified r
+
+or-right : (b c : Bool) → T (b || c) → (T b → ⊥) → T c
+or-right true c h n = absurd (n h)
+or-right false c h n = h
+
+module _ {a : Automaton} {rules : List Rule} {r : Rule} (p : Passes a rules r) (s : ℕ) (state : s < a .states) where
+  has-rule : s < length rules
+  has-rule = subst (λ (n : ℕ). s < n) (sym (p .all-states)) state
+
+  pub rule-proper : T (proper (rule rules s))
+  rule-proper = holds-at (λ s q. proper q) never rules (p .repeats) s has-rule
+
+  pub rule-below : T (below (a .width) (rule rules s))
+  rule-below = holds-at (λ s q. below (a .width) q) never rules (p .classes) s has-rule
+
+  pub rule-blank : blank (rule rules s) ≡ matched (eqb s (a .accepting))
+  rule-blank =
+      same-equal _ _ (holds-at (λ s q. same (blank q) (matched (eqb s (a .accepting)))) never rules (p .ends) s has-rule)
+
+  pub rule-solid : (s ≡ 0 → ⊥) → T (solid (rule rules s))
+  rule-solid n =
+      or-right (eqb s 0) (solid (rule rules s)) (holds-at (λ s q. eqb s 0 || solid q) never rules (p .alive) s has-rule)
+      (λ t. n (eqb→eq s 0 t))
+
+  module _ (c : ℕ) (class : c < a .width) where
+    has-entry : s * a .width + c < length (a .table)
+    has-entry = subst (λ (n : ℕ). s * a .width + c < n) (sym (p .all-entries)) (digits-lt state class)
+
+    pub entry-state : target a s c < a .states
+    entry-state =
+        ltb→lt (target a s c) (a .states)
+        (holds-at (λ k x. ltb x (a .states)) 0 (a .table) (p .targets) (s * a .width + c) has-entry)
+
+    pub entry-rule : derivative c (rule rules s) ≡ rule rules (target a s c)
+    entry-rule =
+        let k = s * a .width + c in
+        rw (digits-mod s class, digits-div s class) at
+        (same-equal (derivative (k % a .width) (rule rules (k / a .width))) (getD rules (getD (a .table) k 0) never)
+        (holds-at (leads-to a rules) 0 (a .table) (p .entries) k has-entry))

@@ -1,0 +1,6 @@
+pub mod Rule
+pub mod Grammar
+pub mod Answer
+pub mod Automaton
+pub mod Table
+pub mod Reading

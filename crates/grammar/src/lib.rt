@@ -1,0 +1,65 @@
+// The grammar: whether a sequence of token classes is a module and, where it is none, the token at fault. One load of the
+// transition table for each token. A class is the number that crate `terminal` gives a terminal of the grammar.
+ghost use mathlib.Core.Path.{_≡_};
+ghost use Prim.Native.Nat.{_≤_, _<_};
+ghost use lib.ListN.{length, take};
+ghost use Rattle.grammar.specs.Answer.{Answers};
+ghost use Rattle.grammar.specs.Automaton.{next, run};
+ghost use Rattle.grammar.specs.Grammar.{smi-module};
+ghost use Rattle.grammar.specs.Reading.{verdict};
+ghost use Rattle.grammar.specs.Table.{module-automaton};
+
+mod table;
+
+use table::ACCEPTING;
+use table::DEAD;
+use table::START;
+use table::TABLE;
+use terminal::TERMINALS;
+
+// The index of a token in the sequence; the number of tokens stands for the end.
+pub struct TokenIndex(pub usize);
+
+// What the grammar says of a sequence.
+pub enum Reading {
+    Derived,
+    // No derived sequence begins with the tokens up to this one and it, or, at the end, is the whole.
+    Refused(TokenIndex),
+}
+
+// The state after a token of this class: DEAD where no derived sequence goes on so, as with a class that is no terminal's.
+fn step(state: u8, class: u8) -> u8
+    requires { ⌜ state < module-automaton .states ⌝ }
+    ensures leads { λ r. ⌜ r ≡ next module-automaton state class ⌝ }
+    ensures state { λ r. ⌜ r < module-automaton .states ⌝ }
+{
+    let row = state as usize;
+    let column = class as usize;
+    if column < TERMINALS {
+        TABLE[row * TERMINALS + column]
+    } else {
+        DEAD
+    }
+}
+
+// What the grammar says of the first n classes.
+pub fn recognise(classes: &[u8], n: usize) -> Reading
+    requires { ⌜ n ≤ length (now classes) ⌝ }
+    ensures ran { λ r. ⌜ verdict r ≡ run module-automaton (take n (now (classes .entry))) ⌝ }
+    ensures right { λ r. ⌜ Answers smi-module (take n (now (classes .entry))) (verdict r) ⌝ }
+{
+    let mut state = START;
+    let mut i: usize = 0;
+    while i < n {
+        state = step(state, classes[i]);
+        if state == DEAD {
+            return Reading::Refused(TokenIndex(i));
+        }
+        i += 1;
+    }
+    if state == ACCEPTING {
+        Reading::Derived
+    } else {
+        Reading::Refused(TokenIndex(n))
+    }
+}
