@@ -1,6 +1,6 @@
 // The class of each of the 256 byte values. specs/Byte.antt has the rule, and the numbers under the same names.
 ghost use mathlib.Core.Path.{_≡_};
-ghost use Rattle.token.specs.Byte.{classOf};
+ghost use Rattle.token.specs.Byte.{classOf, ClassTable};
 
 // a quote
 pub const QUOTE: u8 = 1;
@@ -19,7 +19,7 @@ pub const DIGIT: u8 = 62;
 pub const CAPITAL_HEX: u8 = 63;
 pub const CAPITAL: u8 = 64;
 
-const CLASSES: [u8; 256] = [
+pub const CLASSES: [u8; 256] = [
     0,
     0,
     0,
@@ -278,9 +278,10 @@ const CLASSES: [u8; 256] = [
     0,
 ];
 
-// The class of the byte b.
-pub fn class_of(b: u8) -> u8
+// The class of the byte b. The table is lent by the call that has it, since a constant is built where it is used.
+pub fn class_of(table: &[u8; 256], b: u8) -> u8
+    requires { ⌜ ClassTable (now table) ⌝ }
     ensures { λ r. ⌜ r ≡ classOf b ⌝ }
 {
-    CLASSES[b as usize]
+    table[b as usize]
 }

@@ -5,6 +5,7 @@ ghost use Prim.Native.Nat.{_+_, _-_, _<_, _≤_};
 ghost use lib.ListN.{length, getD, take, drop};
 ghost use mathlib.Core.List.{[]};
 ghost use Rattle.token.specs.Word.{words, same, startOf, placeIn, nameClass};
+ghost use Rattle.token.specs.Byte.{ClassTable};
 ghost use Rattle.token.specs.Table.{between};
 
 use crate::byte::{CAPITAL_HEX, class_of};
@@ -398,7 +399,7 @@ const SPELLINGS: [u8; 384] = [
 ];
 
 // Where each word's spelling starts, and at the end where the last one ends.
-const SPELLING_STARTS: [usize; 44] = [
+const SPELLING_STARTS: [u16; 44] = [
     0,
     8,
     13,
@@ -446,7 +447,7 @@ const SPELLING_STARTS: [usize; 44] = [
 ];
 
 // The word in each slot of the hash, or 43 where there is none.
-const SLOTS: [usize; 128] = [
+const SLOTS: [u8; 128] = [
     7,
     43,
     43,
@@ -582,7 +583,7 @@ fn spelling_start(k: usize) -> usize
     requires { ⌜ k ≤ 43 ⌝ }
     ensures { λ r. ⌜ r ≡ startOf words k ⌝ }
 {
-    SPELLING_STARTS[k]
+    SPELLING_STARTS[k] as usize
 }
 
 // Whether n bytes of a, from its place i on, are those of b from its place j on.
@@ -621,7 +622,7 @@ fn word_of(text: &[u8], start: usize, end: usize) -> usize
 {
     let first = text[start] as usize;
     let last = text[end - 1] as usize;
-    let k = SLOTS[(3 * first + 24 * last + 7 * (end - start)) % 128];
+    let k = SLOTS[(3 * first + 24 * last + 7 * (end - start)) % 128] as usize;
     if 43 <= k {
         return 43;
     }
@@ -632,15 +633,15 @@ fn word_of(text: &[u8], start: usize, end: usize) -> usize
 }
 
 // The class of the name from start to end of the text: a word's own, UPPER or LOWER.
-pub fn name_class(text: &[u8], start: usize, end: usize) -> u8
-    requires { ⌜ (start < end) × (end ≤ length (now text)) × (end - start ≤ 64) ⌝ }
+pub fn name_class(table: &[u8; 256], text: &[u8], start: usize, end: usize) -> u8
+    requires { ⌜ (start < end) × (end ≤ length (now text)) × (end - start ≤ 64) × ClassTable (now table) ⌝ }
     ensures { λ r. ⌜ r ≡ nameClass (between (now (text .entry)) start end) ⌝ }
 {
     let k = word_of(text, start, end);
     if k < 43 {
         return k as u8;
     }
-    if CAPITAL_HEX <= class_of(text[start]) {
+    if CAPITAL_HEX <= class_of(table, text[start]) {
         return terminal::UPPER;
     }
     terminal::LOWER
