@@ -8,4 +8,5 @@ pub mod Pieces
 pub mod Left
 pub mod Laws
 pub mod Entries
+pub mod Examples
 pub mod Progress
