@@ -14,11 +14,13 @@ use lib.ListN.{length, getD, take, drop, length-drop, length-map, List·getD-app
 use lib.Seq.{length-take-le, drop-cons}
 use borrow.Author.Tests.{ne-eqb}
 use Rattle.terminal.specs.Terminal.{number, negative}
+use Rattle.token.specs.Byte.{classOf}
 use Rattle.token.specs.Token.{Tok, tok, isName, spellingOf, valueOf, decimal}
 use Rattle.token.specs.Cut.{Piece, gap, token, refusal, piece, Ending, whole, refused, Cut, cut}
 use Rattle.token.specs.Table.{between, entry, entries, table, overlaid}
 use Rattle.token.specs.Law.{Sound, Rising}
 use Rattle.token.proofs.Pieces.{Fits, Fit}
+use Rattle.token.proofs.Places.{byte-there}
 use Rattle.token.proofs.Left.{left, left-whole, step-gap, step-token, step-refusal, step-end, fit-at}
 
 -- what holds at the end and at a refusal, and is kept by a gap and by a token before, holds of the cut of what is left
@@ -75,6 +77,7 @@ sound-token t at c m h f =
       inside = omega (arith, f .1, length-drop at t);
       terminal = f .2;
       name-bytes = λ q. let s = spelling-length c (take m (drop at t)) q in (omega (arith, s, f .0), omega (arith, s, f .3 q));
+      text-quote = λ q. ap classOf (sym (byte-there t at 0 at (omega arith))) ∙ f .6 q;
       number-range = λ q. (decimal (take m (drop at t)), number-value c (take m (drop at t)) q, f .4 q);
       negative-range = λ q. (decimal (drop 1 (take m (drop at t))), negative-value c (take m (drop at t)) q, f .5 q) }
 
