@@ -8,5 +8,6 @@ pub mod Pieces
 pub mod Left
 pub mod Laws
 pub mod Entries
+pub mod Local
 pub mod Examples
 pub mod Progress

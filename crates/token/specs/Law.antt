@@ -1,15 +1,17 @@
 -- What every token of a text is, in the words that the layers above rely on.
 -- Assumes nothing.
 use mathlib.Core.Path.{_≡_}
+use mathlib.Core.Logic.{_⊎_}
+use mathlib.Core.Bool.{true}
 use mathlib.Core.List.{List, [], _∷_}
-use Prim.Native.Nat.{ℕ, _≤_, _<_}
+use Prim.Native.Nat.{ℕ, suc, _≤_, _<_}
 use lib.Dec.{T}
 use lib.IntN.{pos, negℤ}
 use lib.ListN.{length, getD}
 use Rattle.terminal.specs.Terminal.{terminals, number, negative, text}
-use Rattle.token.specs.Byte.{classOf, quote}
+use Rattle.token.specs.Byte.{classOf, quote, textByte}
 use Rattle.token.specs.Token.{Tok, tok, isName}
-use Rattle.token.specs.Cut.{longestName, largestNumber, largestNegative}
+use Rattle.token.specs.Cut.{longestName, largestNumber, largestNegative, cut}
 use Rattle.token.specs.Table.{between}
 
 pub record Sound (bytes : List ℕ) (t : Tok) : Type 0 where
@@ -32,3 +34,14 @@ pub record Sound (bytes : List ℕ) (t : Tok) : Type 0 where
 abbrev pub Rising : List ℕ → ℕ → List Tok → Type 0
 Rising bytes from [] = Unit {0}
 Rising bytes from (t ∷ ts) = (from ≤ t .start) × Sound bytes t × Rising bytes (t .end) ts
+
+-- the place i lies strictly inside a text token: after its first quote and before its last
+abbrev pub InsideText : ℕ → List Tok → Type 0
+InsideText i [] = ⊥
+InsideText i (t ∷ ts) = ((t .class ≡ text) × (t .start < i) × (suc i < t .end)) ⊎ InsideText i ts
+
+-- two texts of equal length that differ only at places strictly inside text tokens of the first, where the second has bytes
+-- that may stand in a text
+pub record QuotedChange (a b : List ℕ) : Type 0 where
+  pub same-length : length a ≡ length b
+  pub same-or-quoted : (i : ℕ) → i < length a → (getD a i 0 ≡ getD b i 0) ⊎ (InsideText i (cut a .tokens) × (textByte (getD b i 0) 0 ≡ true))
