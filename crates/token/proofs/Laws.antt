@@ -86,20 +86,23 @@ later : (t : List ℕ) (from to : ℕ) (ts : List Tok) → from ≤ to → Risin
 later t from to [] h r = tt
 later t from to (x ∷ ts) h r = (omega (arith, r .0), r .1, r .2)
 
--- the tokens of a text are sound, and rise
-pub rising : (t : List ℕ) → Rising t 0 (cut t .tokens)
+-- the tokens of what is left of a text are sound, and rise from there
+pub rising-left : (t : List ℕ) (at : ℕ) → Rising t at (left t at .tokens)
 unfolding tok
-rising t =
-    subst (λ (x : Cut). Rising t 0 (x .tokens)) (left-whole t)
-    (cut-induction t (λ (at : ℕ) (x : Cut). Rising t at (x .tokens))
-      (λ at h. tt)
-      (λ at r d h e. tt)
-      (λ at m h e f r. later t at (at + m) (left t (at + m) .tokens) (omega arith) r)
-      (λ at c m h e f r. go at c m h f r)
-      0)
+rising-left t at =
+    cut-induction t (λ (at : ℕ) (x : Cut). Rising t at (x .tokens))
+    (λ at h. tt)
+    (λ at r d h e. tt)
+    (λ at m h e f r. later t at (at + m) (left t (at + m) .tokens) (omega arith) r)
+    (λ at c m h e f r. go at c m h f r)
+    at
   where
     go : (at c m : ℕ) → at < length t → Fits (drop at t) (token c m) → Rising t (at + m) (left t (at + m) .tokens) → Rising t at (tok c at (at + m) (take m (drop at t)) ∷ left t (at + m) .tokens)
     go at c m h f r = (omega arith, sound-token t at c m h f, r)
+
+-- the tokens of a text are sound, and rise
+pub rising : (t : List ℕ) → Rising t 0 (cut t .tokens)
+rising t = subst (λ (x : Cut). Rising t 0 (x .tokens)) (left-whole t) (rising-left t 0)
 
 -- there are at most as many tokens as bytes
 rising-few : (t : List ℕ) (from : ℕ) (ts : List Tok) → Rising t from ts → from ≤ length t → from + length ts ≤ length t

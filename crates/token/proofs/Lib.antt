@@ -9,5 +9,6 @@ pub mod Left
 pub mod Laws
 pub mod Entries
 pub mod Local
+pub mod Quotes
 pub mod Examples
 pub mod Progress

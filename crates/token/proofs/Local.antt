@@ -74,7 +74,7 @@ span-local p blind (x ∷ a) (y ∷ b) n =
     go false e q n ih = rw (sym q ∙ e)
 
 -- the first bytes are the same in both lists
-take-local : (a b : List ℕ) (k : ℕ) → length a ≡ length b → ((j : ℕ) → j < k → getD a j 0 ≡ getD b j 0) → take k b ≡ take k a
+pub take-local : (a b : List ℕ) (k : ℕ) → length a ≡ length b → ((j : ℕ) → j < k → getD a j 0 ≡ getD b j 0) → take k b ≡ take k a
 take-local [] [] k l h = refl
 take-local [] (y ∷ b) k l h = absurd (omega arith)
 take-local (x ∷ a) [] k l h = absurd (omega arith)
