@@ -19,7 +19,7 @@ decimal-more t at i h l =
     let k : i + 1 - at ≡ suc (i - at) = omega arith in
     let inside : i - at < length (drop at t) = omega (arith, length-drop at t) in
     let here : getD (drop at t) (i - at) 0 ≡ getD t i 0 =
-        getD-drop at t (i - at) 0 ∙ ap (λ (j : ℕ). getD t j 0) (omega arith) in
+    getD-drop at t (i - at) 0 ∙ ap (λ (j : ℕ). getD t j 0) (omega arith) in
     rw (k, take-suc (drop at t) (i - at) 0 inside, here)
     (decimal-snoc 0 (take (i - at) (drop at t)) (getD t i 0))
 

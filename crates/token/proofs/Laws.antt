@@ -25,30 +25,31 @@ use Rattle.token.proofs.Left.{left, left-whole, step-gap, step-token, s
 
 -- what holds at the end and at a refusal, and is kept by a gap and by a token before, holds of the cut of what is left
 module _
-  (t : List ℕ) (P : ℕ → Cut → Type 0)
-  (at-end : (at : ℕ) → length t ≤ at → P at (record { tokens = []; ending = whole }))
-  (at-refusal : (at r d : ℕ) → at < length t → piece (drop at t) ≡ refusal r d → P at (record { tokens = []; ending = refused r (at + d) }))
-  (at-gap : (at m : ℕ) → at < length t → piece (drop at t) ≡ gap m → Fits (drop at t) (gap m) → P (at + m) (left t (at + m)) → P at (left t (at + m)))
-  (at-token : (at c m : ℕ) → at < length t → piece (drop at t) ≡ token c m → Fits (drop at t) (token c m) → P (at + m) (left t (at + m)) → P at (record { tokens = tok c at (at + m) (take m (drop at t)) ∷ left t (at + m) .tokens; ending = left t (at + m) .ending }))
+    (t : List ℕ) (P : ℕ → Cut → Type 0)
+    (at-end : (at : ℕ) → length t ≤ at → P at (record { tokens = []; ending = whole }))
+    (at-refusal : (at r d : ℕ) → at < length t → piece (drop at t) ≡ refusal r d → P at (record { tokens = []; ending = refused r (at + d) }))
+    (at-gap : (at m : ℕ) → at < length t → piece (drop at t) ≡ gap m → Fits (drop at t) (gap m) → P (at + m) (left t (at + m)) → P at (left t (at + m)))
+    (at-token : (at c m : ℕ) → at < length t → piece (drop at t) ≡ token c m → Fits (drop at t) (token c m) → P (at + m) (left t (at + m)) → P at (record { tokens = tok c at (at + m) (take m (drop at t)) ∷ left t (at + m) .tokens; ending = left t (at + m) .ending }))
   where
-  bounded : (k at : ℕ) → length t ≤ at + k → P at (left t at)
-  bounded zero at h = subst (λ (x : Cut). P at x) (sym (step-end t at (omega arith))) (at-end at (omega arith))
-  bounded (suc k) at h = go (decLt at (length t)) (bounded k)
-    where
-      next : at < length t → (x : Piece) → piece (drop at t) ≡ x → Fit (drop at t) x → ((j : ℕ) → length t ≤ j + k → P j (left t j)) → P at (left t at)
-      next l (gap m) e f ih =
-          subst (λ (x : Cut). P at x) (sym (step-gap t at m l e (f .fits .0)))
-          (at-gap at m l e (f .fits) (ih (at + m) (omega (arith, f .fits .0))))
-      next l (token c m) e f ih =
-          subst (λ (x : Cut). P at x) (sym (step-token t at c m l e (f .fits .0)))
-          (at-token at c m l e (f .fits) (ih (at + m) (omega (arith, f .fits .0))))
-      next l (refusal r d) e f ih = subst (λ (x : Cut). P at x) (sym (step-refusal t at r d l e)) (at-refusal at r d l e)
-      go : Dec (at < length t) → ((j : ℕ) → length t ≤ j + k → P j (left t j)) → P at (left t at)
-      go (yes l) ih = next l (piece (drop at t)) refl (fit-at t at l) ih
-      go (no l) ih = subst (λ (x : Cut). P at x) (sym (step-end t at (omega arith))) (at-end at (omega arith))
+    bounded : (k at : ℕ) → length t ≤ at + k → P at (left t at)
+    bounded zero at h = subst (λ (x : Cut). P at x) (sym (step-end t at (omega arith))) (at-end at (omega arith))
+    bounded (suc k) at h = go (decLt at (length t)) (bounded k)
+      where
+        next : at < length t → (x : Piece) → piece (drop at t) ≡ x → Fit (drop at t) x → ((j : ℕ) → length t ≤ j + k → P j (left t j)) → P at (left t at)
+        next l (gap m) e f ih =
+            subst (λ (x : Cut). P at x) (sym (step-gap t at m l e (f .fits .0)))
+            (at-gap at m l e (f .fits) (ih (at + m) (omega (arith, f .fits .0))))
+        next l (token c m) e f ih =
+            subst (λ (x : Cut). P at x) (sym (step-token t at c m l e (f .fits .0)))
+            (at-token at c m l e (f .fits) (ih (at + m) (omega (arith, f .fits .0))))
+        next l (refusal r d) e f ih = subst (λ (x : Cut). P at x) (sym (step-refusal t at r d l e)) (at-refusal at r d l e)
 
-  pub cut-induction : (at : ℕ) → P at (left t at)
-  cut-induction at = bounded (length t) at (omega arith)
+        go : Dec (at < length t) → ((j : ℕ) → length t ≤ j + k → P j (left t j)) → P at (left t at)
+        go (yes l) ih = next l (piece (drop at t)) refl (fit-at t at l) ih
+        go (no l) ih = subst (λ (x : Cut). P at x) (sym (step-end t at (omega arith))) (at-end at (omega arith))
+
+    pub cut-induction : (at : ℕ) → P at (left t at)
+    cut-induction at = bounded (length t) at (omega arith)
 
 spelling-length : (c : ℕ) (bs : List ℕ) → T (isName c) → length (spellingOf c bs) ≡ length bs
 unfolding spellingOf
@@ -79,7 +80,8 @@ sound-token t at c m h f =
       name-bytes = λ q. let s = spelling-length c (take m (drop at t)) q in (omega (arith, s, f .0), omega (arith, s, f .3 q));
       text-quote = λ q. ap classOf (sym (byte-there t at 0 at (omega arith))) ∙ f .6 q;
       number-range = λ q. (decimal (take m (drop at t)), number-value c (take m (drop at t)) q, f .4 q);
-      negative-range = λ q. (decimal (drop 1 (take m (drop at t))), negative-value c (take m (drop at t)) q, f .5 q) }
+      negative-range = λ q. (decimal (drop 1 (take m (drop at t))), negative-value c (take m (drop at t)) q, f .5 q);
+    }
 
 -- tokens that start at a place or later start after any place before it
 later : (t : List ℕ) (from to : ℕ) (ts : List Tok) → from ≤ to → Rising t to ts → Rising t from ts
@@ -135,8 +137,8 @@ entries-are t classes starts ends k [] d h = refl
 entries-are t classes starts ends k (x ∷ ts) d h =
     let first : entry t classes starts ends k ≡ x = rw (add-zero k) at (h 0 (omega arith)) in
     let rest : entries t classes starts ends (suc k) (length ts) ≡ ts =
-        entries-are t classes starts ends (suc k) ts d
-        (λ i l. ap (λ (j : ℕ). entry t classes starts ends j) (omega arith) ∙ h (suc i) (omega arith)) in
+    entries-are t classes starts ends (suc k) ts d
+    (λ i l. ap (λ (j : ℕ). entry t classes starts ends j) (omega arith) ∙ h (suc i) (omega arith)) in
     λ i. first i ∷ rest i
 
 -- arrays that hold the tokens' classes, starts and ends are read as the list of the tokens
@@ -146,11 +148,11 @@ tabled t cs ss es =
     let ts = cut t .tokens in
     entries-are t (overlaid (map (λ (x : Tok). x .class) ts) cs) (overlaid (map (λ (x : Tok). x .start) ts) ss) (overlaid (map (λ (x : Tok). x .end) ts) es) 0 ts no-token
     (λ i h.
-      let j : 0 + i ≡ i = zero-add i in
-      let c = held-at (λ (x : Tok). x .class) ts cs i no-token refl h in
-      let s = held-at (λ (x : Tok). x .start) ts ss i no-token refl h in
-      let e = held-at (λ (x : Tok). x .end) ts es i no-token refl h in
-      rw (j, c, s, e) (sym (sound-at t 0 ts (rising t) i no-token h .made)))
+    let j : 0 + i ≡ i = zero-add i in
+    let c = held-at (λ (x : Tok). x .class) ts cs i no-token refl h in
+    let s = held-at (λ (x : Tok). x .start) ts ss i no-token refl h in
+    let e = held-at (λ (x : Tok). x .end) ts es i no-token refl h in
+    rw (j, c, s, e) (sym (sound-at t 0 ts (rising t) i no-token h .made)))
 
 -- numbers below zero of the same value have the same magnitude
 magnitude : (m n : ℕ) → negℤ (pos m) ≡ negℤ (pos n) → m ≡ n
@@ -180,7 +182,7 @@ module _ (t : List ℕ) (class start end : ℕ) (sound : Sound t (tok class star
   unfolding tok
   negative-is e =
       let v : valueOf class (between t start end) ≡ negℤ (pos (decimal (between t (start + 1) end))) =
-          negative-value class (between t start end) e ∙ ap (λ (bs : List ℕ). negℤ (pos (decimal bs))) after-hyphen in
+      negative-value class (between t start end) e ∙ ap (λ (bs : List ℕ). negℤ (pos (decimal bs))) after-hyphen in
       let r = sound .negative-range e in
       let same : decimal (between t (start + 1) end) ≡ r .0 = magnitude (decimal (between t (start + 1) end)) (r .0) (sym v ∙ r .1) in
       (v, omega (arith, r .2))

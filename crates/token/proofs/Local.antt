@@ -44,11 +44,12 @@ pair-local p blind a b m n j h = go (ℕ-discrete j m) (ℕ-discrete (classOf (g
   where
     here : getD a j 0 ≡ getD b j 0
     here = n .near j h
+
     go : Dec (j ≡ m) → Dec (classOf (getD a j 0) ≡ quote) → p (getD a j 0) (getD a (suc j) 0) ≡ p (getD b j 0) (getD b (suc j) 0)
     go d (yes q) = blind (getD a j 0) (getD a (suc j) 0) (getD b (suc j) 0) q ∙ ap (λ (x : ℕ). p x (getD b (suc j) 0)) here
     go (yes e) (no q) =
         let next : getD a (suc j) 0 ≡ getD b (suc j) 0 =
-            subst (λ (k : ℕ). getD a (suc k) 0 ≡ getD b (suc k) 0) (sym e) (n .after (λ r. q (subst (λ (k : ℕ). classOf (getD a k 0) ≡ quote) (sym e) r))) in
+        subst (λ (k : ℕ). getD a (suc k) 0 ≡ getD b (suc k) 0) (sym e) (n .after (λ r. q (subst (λ (k : ℕ). classOf (getD a k 0) ≡ quote) (sym e) r))) in
         λ i. p (here i) (next i)
     go (no e) (no q) = let next = n .near (suc j) (omega arith) in λ i. p (here i) (next i)
 
@@ -89,7 +90,8 @@ near-drop a b n m r =
     record {
       long = omega (arith, length-drop n a, length-drop n b, r .long);
       near = λ j h. rw (getD-drop, getD-drop) (r .near (n + j) (omega arith));
-      after = λ q. go q }
+      after = λ q. go q;
+    }
   where
     go : (classOf (getD (drop n a) m 0) ≡ quote → ⊥) → getD (drop n a) (suc m) 0 ≡ getD (drop n b) (suc m) 0
     go q =
@@ -119,11 +121,13 @@ name-local a b r n = go (leb (span nameByte a) 64) refl r n
   where
     reading : ℕ → List ℕ → Piece
     reading k bs = cond (leb k 64) (token (nameClass bs) k) (refusal 5 0)
+
     same : Near a b (span nameByte a) → name b ≡ name a
     same near =
         let k = span-local nameByte name-blind a b near in
         let bs = take-local a b (span nameByte a) (near .long) (λ j h. near .near j (omega arith)) in
         ap (λ (j : ℕ). reading j (take j b)) k ∙ ap (reading (span nameByte a)) bs
+
     go : (t : Bool) → leb (span nameByte a) 64 ≡ t → Plain (cond t (token (nameClass (take (span nameByte a) a)) (span nameByte a)) (refusal 5 0)) → Near a b (size (cond t (token (nameClass (take (span nameByte a) a)) (span nameByte a)) (refusal 5 0))) → name b ≡ name a
     go true e r near = same near
     go false e r near = absurd r
@@ -142,6 +146,7 @@ number-local a b r n = go (misfit a) (leb (decimal (take (span digitByte a) a)) 
   where
     reading : Bool → ℕ → List ℕ → Piece
     reading bad k bs = cond bad (refusal 3 0) (cond (leb (decimal bs) 4294967295) (token 45 k) (refusal 6 0))
+
     same : Near a b (span digitByte a) → nonNegative b ≡ nonNegative a
     same near =
         let k = span-local digitByte (class-blind 62 62) a b near in
@@ -149,6 +154,7 @@ number-local a b r n = go (misfit a) (leb (decimal (take (span digitByte a) a)) 
         ap (λ (x : Bool). reading x (span digitByte b) (take (span digitByte b) b)) (misfit-local a b near)
         ∙ ap (λ (j : ℕ). reading (misfit a) j (take j b)) k
         ∙ ap (reading (misfit a) (span digitByte a)) bs
+
     go : (x y : Bool) → Plain (cond x (refusal 3 0) (cond y (token 45 (span digitByte a)) (refusal 6 0))) → Near a b (size (cond x (refusal 3 0) (cond y (token 45 (span digitByte a)) (refusal 6 0)))) → nonNegative b ≡ nonNegative a
     go true y r near = absurd r
     go false true r near = same near
@@ -160,6 +166,7 @@ negative-local x y a b r n = go (eqb (getD a 0 0) 48 || misfit a) (leb (decimal 
   where
     reading : Bool → ℕ → List ℕ → Piece
     reading bad k bs = cond bad (refusal 3 0) (cond (leb (decimal bs) 2147483648) (token 46 (suc k)) (refusal 6 0))
+
     same : Near a b (span digitByte a) → belowZero b ≡ belowZero a
     same near =
         let k = span-local digitByte (class-blind 62 62) a b near in
@@ -169,6 +176,7 @@ negative-local x y a b r n = go (eqb (getD a 0 0) 48 || misfit a) (leb (decimal 
         ∙ ap (λ (z : ℕ). reading (eqb z 48 || misfit a) (span digitByte b) (take (span digitByte b) b)) first
         ∙ ap (λ (j : ℕ). reading (eqb (getD a 0 0) 48 || misfit a) j (take j b)) k
         ∙ ap (reading (eqb (getD a 0 0) 48 || misfit a) (span digitByte a)) bs
+
     go : (p q : Bool) → Plain (cond p (refusal 3 0) (cond q (token 46 (suc (span digitByte a))) (refusal 6 0))) → Near (x ∷ a) (y ∷ b) (size (cond p (refusal 3 0) (cond q (token 46 (suc (span digitByte a))) (refusal 6 0)))) → belowZero b ≡ belowZero a
     go true q r near = absurd r
     go false true r near = same (near-tail x y a b (span digitByte a) near)
@@ -180,11 +188,11 @@ comment-local x y z w a b n =
     let k = span commentByte a in
     let m : 2 + k + closing (drop k a) ≡ suc (suc (k + closing (drop k a))) = omega arith in
     let near : Near a b k =
-        near-least a b (k + closing (drop k a)) k (omega arith)
-        (near-tail y w a b (k + closing (drop k a)) (near-tail x z (y ∷ a) (w ∷ b) (suc (k + closing (drop k a))) (subst (λ (j : ℕ). Near (x ∷ y ∷ a) (z ∷ w ∷ b) j) m n))) in
+    near-least a b (k + closing (drop k a)) k (omega arith)
+    (near-tail y w a b (k + closing (drop k a)) (near-tail x z (y ∷ a) (w ∷ b) (suc (k + closing (drop k a))) (subst (λ (j : ℕ). Near (x ∷ y ∷ a) (z ∷ w ∷ b) j) m n))) in
     let e : span commentByte b ≡ k = span-local commentByte comment-blind a b near in
     let two : twoHyphens (getD b k 0) (getD b (suc k) 0) ≡ twoHyphens (getD a k 0) (getD a (suc k) 0) =
-        sym (pair-local twoHyphens hyphens-blind a b k near k (omega arith)) in
+    sym (pair-local twoHyphens hyphens-blind a b k near k (omega arith)) in
     ap (λ (j : ℕ). gap (2 + j + closing (drop j b))) e
     ∙ ap (λ (t : Bool). gap (2 + k + cond t 2 0)) (ends b k ∙ two ∙ sym (ends a k))
   where
@@ -213,6 +221,7 @@ hex-local x y a b r n = go (eqb (classOf (getD a (span hexByte a) 0)) apostrophe
   where
     k : ℕ
     k = span hexByte a
+
     go : (t : Bool) → (eqb (classOf (getD a (span hexByte a) 0)) apostrophe && eqb (getD a (span hexByte a + 1) 0) 72) ≡ t → Plain (cond t (token 48 (span hexByte a + 3)) (refusal 3 0)) → Near (x ∷ a) (y ∷ b) (size (cond t (token 48 (span hexByte a + 3)) (refusal 3 0))) → cond (eqb (classOf (getD b (span hexByte b) 0)) apostrophe && eqb (getD b (span hexByte b + 1) 0) 72) (token 48 (span hexByte b + 3)) (refusal 3 0) ≡ cond (eqb (classOf (getD a (span hexByte a) 0)) apostrophe && eqb (getD a (span hexByte a + 1) 0) 72) (token 48 (span hexByte a + 3)) (refusal 3 0)
     go true e r n =
         let m : k + 3 ≡ suc (k + 2) = omega arith in
@@ -259,6 +268,7 @@ punctuation-local c x y a b r n h = go (leb 51 c) (eqb c 6) (eqb c 1) (eqb c 8) 
     choice : Bool → Bool → Bool → Bool → Bool → Bool → List ℕ → Piece
     choice p q t u v w s =
         cond p (token c 1) (cond q (afterHyphen s) (cond t (quoted s) (cond u (afterColon s) (cond v (afterDot s) (cond w (hexString s) (refusal 3 0))))))
+
     go : (p q t u v w : Bool) → Plain (choice p q t u v w a) → Near (x ∷ a) (y ∷ b) (size (choice p q t u v w a)) → 1 ≤ size (choice p q t u v w a) → choice p q t u v w b ≡ choice p q t u v w a
     go true q t u v w r n h = refl
     go false true t u v w r n h = hyphen-local x y a b r n h
@@ -276,11 +286,14 @@ piece-local x y a b r n h =
   where
     first : y ≡ x
     first = sym (n .near 0 (omega arith))
+
     choice : Bool → Bool → Bool → ℕ → List ℕ → Piece
     choice p q t z s =
         cond p (cond q (nonNegative (z ∷ s)) (name (z ∷ s))) (cond t (gap (span blankByte (z ∷ s))) (punctuation (classOf z) s))
+
     same : choice (leb 60 (classOf y)) (eqb (classOf y) 62) (leb 2 (classOf y) && leb (classOf y) 4) y b ≡ choice (leb 60 (classOf x)) (eqb (classOf x) 62) (leb 2 (classOf x) && leb (classOf x) 4) y b
     same = ap (λ (z : ℕ). choice (leb 60 (classOf z)) (eqb (classOf z) 62) (leb 2 (classOf z) && leb (classOf z) 4) y b) first
+
     go : (p q t : Bool) → Plain (choice p q t x a) → Near (x ∷ a) (y ∷ b) (size (choice p q t x a)) → 1 ≤ size (choice p q t x a) → choice p q t y b ≡ choice p q t x a
     go true true t r n h = number-local (x ∷ a) (y ∷ b) r n
     go true false t r n h = name-local (x ∷ a) (y ∷ b) r n

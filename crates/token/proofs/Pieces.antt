@@ -56,7 +56,7 @@ name-fits s h =
     let n : span nameByte s ≤ length s = span-in nameByte s in
     by-test s (leb (span nameByte s) 64)
     (λ e. let l : span nameByte s ≤ 64 = leb-true (span nameByte s) 64 e in
-      record { fits = (h, n, omega arith, (λ t. l), (λ q. absurd (omega arith)), (λ q. absurd (omega arith)), (λ q. absurd (omega arith))) })
+    record { fits = (h, n, omega arith, (λ t. l), (λ q. absurd (omega arith)), (λ q. absurd (omega arith)), (λ q. absurd (omega arith))) })
     (λ e. omega arith)
 
 number-fits : (s : List ℕ) → 1 ≤ span digitByte s → Fit s (nonNegative s)
@@ -65,8 +65,8 @@ number-fits s h =
     let n : span digitByte s ≤ length s = span-in digitByte s in
     by-test s (misfit s) (λ e. omega arith)
     (λ e. by-test s (leb (decimal (take (span digitByte s) s)) 4294967295)
-      (λ l. record { fits = (h, n, omega arith, (λ t. absurd t), (λ q. leb-true (decimal (take (span digitByte s) s)) 4294967295 l), (λ q. absurd (omega arith)), (λ q. absurd (omega arith))) })
-      (λ l. omega arith))
+    (λ l. record { fits = (h, n, omega arith, (λ t. absurd t), (λ q. leb-true (decimal (take (span digitByte s) s)) 4294967295 l), (λ q. absurd (omega arith)), (λ q. absurd (omega arith))) })
+    (λ l. omega arith))
 
 negative-fits : (b : ℕ) (bs : List ℕ) → Fit (b ∷ bs) (belowZero bs)
 unfolding belowZero
@@ -74,8 +74,8 @@ negative-fits b bs =
     let n : span digitByte bs ≤ length bs = span-in digitByte bs in
     by-test (b ∷ bs) (eqb (getD bs 0 0) 48 || misfit bs) (λ e. omega arith)
     (λ e. by-test (b ∷ bs) (leb (decimal (take (span digitByte bs) bs)) 2147483648)
-      (λ l. record { fits = (omega arith, omega arith, omega arith, (λ t. absurd t), (λ q. absurd (omega arith)), (λ q. leb-true (decimal (take (span digitByte bs) bs)) 2147483648 l), (λ q. absurd (omega arith))) })
-      (λ l. omega arith))
+    (λ l. record { fits = (omega arith, omega arith, omega arith, (λ t. absurd t), (λ q. absurd (omega arith)), (λ q. leb-true (decimal (take (span digitByte bs) bs)) 2147483648 l), (λ q. absurd (omega arith))) })
+    (λ l. omega arith))
 
 closing-fits : (s : List ℕ) → closing s ≤ length s
 closing-fits s = go (twoHyphens (getD s 0 0) (getD s 1 0)) refl
@@ -91,7 +91,7 @@ unfolding comment
 comment-fits b d s =
     let n : span commentByte s ≤ length s = span-in commentByte s in
     let m : closing (drop (span commentByte s) s) ≤ length s - span commentByte s =
-        rw (← length-drop (span commentByte s) s) (closing-fits (drop (span commentByte s) s)) in
+    rw (← length-drop (span commentByte s) s) (closing-fits (drop (span commentByte s) s)) in
     record { fits = (omega arith, omega arith) }
 
 hyphen-fits : (b : ℕ) (bs : List ℕ) → Fit (b ∷ bs) (afterHyphen bs)
@@ -109,17 +109,17 @@ unfolding quoted
 quoted-fits b bs first =
     by-test (b ∷ bs) (leb (length bs) (span textByte bs)) (λ e. omega arith)
     (λ e. let l : span textByte bs < length bs = leb-false (length bs) (span textByte bs) e in
-      by-test (b ∷ bs) (eqb (classOf (getD bs (span textByte bs) 0)) quote)
-      (λ q. record { fits = (omega arith, omega arith, omega arith, (λ t. absurd t), (λ z. absurd (omega arith)), (λ z. absurd (omega arith)), (λ q. first)) })
-      (λ q. omega arith))
+    by-test (b ∷ bs) (eqb (classOf (getD bs (span textByte bs) 0)) quote)
+    (λ q. record { fits = (omega arith, omega arith, omega arith, (λ t. absurd t), (λ z. absurd (omega arith)), (λ z. absurd (omega arith)), (λ q. first)) })
+    (λ q. omega arith))
 
 hex-fits : (b : ℕ) (bs : List ℕ) → Fit (b ∷ bs) (hexString bs)
 unfolding hexString
 hex-fits b bs =
     by-test (b ∷ bs) (eqb (classOf (getD bs (span hexByte bs) 0)) apostrophe && eqb (getD bs (span hexByte bs + 1) 0) 72)
     (λ e. let h = both-true (eqb (classOf (getD bs (span hexByte bs) 0)) apostrophe) (eqb (getD bs (span hexByte bs + 1) 0) 72) e in
-      let l : span hexByte bs + 1 < length bs = byte-inside bs (span hexByte bs + 1) 72 (eqb-true (getD bs (span hexByte bs + 1) 0) 72 (h .1)) (omega arith) in
-      record { fits = (omega arith, omega arith, omega arith, (λ t. absurd t), (λ z. absurd (omega arith)), (λ z. absurd (omega arith)), (λ q. absurd (omega arith))) })
+    let l : span hexByte bs + 1 < length bs = byte-inside bs (span hexByte bs + 1) 72 (eqb-true (getD bs (span hexByte bs + 1) 0) 72 (h .1)) (omega arith) in
+    record { fits = (omega arith, omega arith, omega arith, (λ t. absurd t), (λ z. absurd (omega arith)), (λ z. absurd (omega arith)), (λ q. absurd (omega arith))) })
     (λ e. omega arith)
 
 colon-fits : (b : ℕ) (bs : List ℕ) → Fit (b ∷ bs) (afterColon bs)
@@ -127,8 +127,8 @@ unfolding afterColon
 colon-fits b bs =
     by-test (b ∷ bs) (eqb (getD bs 0 0) 58 && eqb (getD bs 1 0) 61)
     (λ e. let h = both-true (eqb (getD bs 0 0) 58) (eqb (getD bs 1 0) 61) e in
-      let l : 1 < length bs = byte-inside bs 1 61 (eqb-true (getD bs 1 0) 61 (h .1)) (omega arith) in
-      record { fits = (omega arith, omega arith, omega arith, (λ t. absurd t), (λ z. absurd (omega arith)), (λ z. absurd (omega arith)), (λ q. absurd (omega arith))) })
+    let l : 1 < length bs = byte-inside bs 1 61 (eqb-true (getD bs 1 0) 61 (h .1)) (omega arith) in
+    record { fits = (omega arith, omega arith, omega arith, (λ t. absurd t), (λ z. absurd (omega arith)), (λ z. absurd (omega arith)), (λ q. absurd (omega arith))) })
     (λ e. omega arith)
 
 dot-fits : (b : ℕ) (bs : List ℕ) → Fit (b ∷ bs) (afterDot bs)
@@ -136,7 +136,7 @@ unfolding afterDot
 dot-fits b bs =
     by-test (b ∷ bs) (eqb (getD bs 0 0) 46)
     (λ e. let l : 0 < length bs = byte-inside bs 0 46 (eqb-true (getD bs 0 0) 46 e) (omega arith) in
-      record { fits = (omega arith, omega arith, omega arith, (λ t. absurd t), (λ z. absurd (omega arith)), (λ z. absurd (omega arith)), (λ q. absurd (omega arith))) })
+    record { fits = (omega arith, omega arith, omega arith, (λ t. absurd t), (λ z. absurd (omega arith)), (λ z. absurd (omega arith)), (λ q. absurd (omega arith))) })
     (λ e. omega arith)
 
 punctuation-fits : (c b : ℕ) (bs : List ℕ) → c < 58 → classOf b ≡ c → Fit (b ∷ bs) (punctuation c bs)
@@ -145,12 +145,12 @@ punctuation-fits c b bs h is =
     let s = b ∷ bs in
     by-test s (leb 51 c)
     (λ e. let l : 51 ≤ c = leb-true 51 c e in
-      record { fits = (omega arith, omega arith, h, (λ t. omega arith), (λ z. absurd (omega arith)), (λ z. absurd (omega arith)), (λ q. absurd (omega arith))) })
+    record { fits = (omega arith, omega arith, h, (λ t. omega arith), (λ z. absurd (omega arith)), (λ z. absurd (omega arith)), (λ q. absurd (omega arith))) })
     (λ e. by-test s (eqb c 6) (λ q. hyphen-fits b bs)
-      (λ q. by-test s (eqb c 1) (λ r. quoted-fits b bs (is ∙ eqb-true c 1 r))
-        (λ r. by-test s (eqb c 8) (λ u. colon-fits b bs)
-          (λ u. by-test s (eqb c 9) (λ v. dot-fits b bs)
-            (λ v. by-test s (eqb c 7) (λ w. hex-fits b bs) (λ w. omega arith))))))
+    (λ q. by-test s (eqb c 1) (λ r. quoted-fits b bs (is ∙ eqb-true c 1 r))
+    (λ r. by-test s (eqb c 8) (λ u. colon-fits b bs)
+    (λ u. by-test s (eqb c 9) (λ v. dot-fits b bs)
+    (λ v. by-test s (eqb c 7) (λ w. hex-fits b bs) (λ w. omega arith))))))
 
 -- the first byte of a span belongs to it
 starts-span : (p : ℕ → ℕ → Bool) (b : ℕ) (bs : List ℕ) → p b (getD bs 0 0) ≡ true → 1 ≤ span p (b ∷ bs)
@@ -163,8 +163,8 @@ piece-fits b bs =
     let s = b ∷ bs in
     by-test s (leb 60 (classOf b))
     (λ e. by-test s (eqb (classOf b) 62)
-      (λ q. number-fits s (starts-span digitByte b bs (rw (eqb-true (classOf b) 62 q) refl)))
-      (λ q. name-fits s (starts-span nameByte b bs (simp e))))
+    (λ q. number-fits s (starts-span digitByte b bs (rw (eqb-true (classOf b) 62 q) refl)))
+    (λ q. name-fits s (starts-span nameByte b bs (simp e))))
     (λ e. by-test s (leb 2 (classOf b) && leb (classOf b) 4)
-      (λ q. record { fits = (starts-span blankByte b bs q, span-in blankByte s) })
-      (λ q. punctuation-fits (classOf b) b bs (small-or-mark b (leb-false 60 (classOf b) e)) refl))
+    (λ q. record { fits = (starts-span blankByte b bs q, span-in blankByte s) })
+    (λ q. punctuation-fits (classOf b) b bs (small-or-mark b (leb-false 60 (classOf b) e)) refl))

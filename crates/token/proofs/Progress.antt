@@ -56,7 +56,8 @@ progress-start t classes starts ends =
       ends-on = refl;
       classes-length = refl;
       starts-length = refl;
-      ends-length = refl }
+      ends-length = refl;
+    }
 
 module _ (t classes₀ starts₀ ends₀ classes starts ends : List ℕ) (at n : ℕ) (p : Progress t classes₀ starts₀ ends₀ classes starts ends at n) where
   pub progress-gap : (m : ℕ) → at < length t → piece (drop at t) ≡ gap m → (1 ≤ m) × (m ≤ length (drop at t)) → Progress t classes₀ starts₀ ends₀ classes starts ends (at + m) n
@@ -72,7 +73,8 @@ module _ (t classes₀ starts₀ ends₀ classes starts ends : List ℕ) (at n :
         ends-on = rw q (p .ends-on);
         classes-length = p .classes-length;
         starts-length = p .starts-length;
-        ends-length = p .ends-length }
+        ends-length = p .ends-length;
+      }
 
   pub progress-token : (c m : ℕ) → at < length t → piece (drop at t) ≡ token c m → (1 ≤ m) × (m ≤ length (drop at t)) → Progress t classes₀ starts₀ ends₀ (set classes n c) (set starts n at) (set ends n (at + m)) (at + m) (n + 1)
   unfolding tok
@@ -88,7 +90,8 @@ module _ (t classes₀ starts₀ ends₀ classes starts ends : List ℕ) (at n :
         ends-on = rw (add-one n) (sym (ap (λ (x : Cut). stored endField ends n x) q) ∙ p .ends-on);
         classes-length = length-set classes n c ∙ p .classes-length;
         starts-length = length-set starts n at ∙ p .starts-length;
-        ends-length = length-set ends n (at + m) ∙ p .ends-length }
+        ends-length = length-set ends n (at + m) ∙ p .ends-length;
+      }
 
   -- where nothing is left, the arrays hold the tokens
   module _ (short : length t ≤ 65536) (ending : Ending) (q : left t at ≡ record { tokens = []; ending = ending }) where
@@ -114,7 +117,8 @@ module _ (t classes₀ starts₀ ends₀ classes starts ends : List ℕ) (at n :
           classes-held = cs;
           starts-held = ss;
           ends-held = es;
-          tabled = rw (cs, ss, es) (tabled t classes₀ starts₀ ends₀) }
+          tabled = rw (cs, ss, es) (tabled t classes₀ starts₀ ends₀);
+        }
 
 -- what the code found at a place says of the piece there
 module _ (t classes₀ starts₀ ends₀ classes starts ends : List ℕ) (at n : ℕ) (p : Progress t classes₀ starts₀ ends₀ classes starts ends at n) (h : at < length t) where

@@ -78,8 +78,8 @@ text-near (x ∷ a) (y ∷ b) c m e h q l first inner last =
     let is = quoted-is a c m reads in
     piece-quoted y b (ap classOf (sym first) ∙ q)
     ∙ quoted-local a b c m reads (omega arith)
-      (λ j r. ⊎-elim (λ s. ap (λ (z : ℕ). textByte z 0) (sym s) ∙ span-holds 3 64 a j (omega (arith, is .2))) (λ s. s) (inner (suc j) (omega arith) (omega arith)))
-      (λ j r. last (suc j) (omega arith))
+    (λ j r. ⊎-elim (λ s. ap (λ (z : ℕ). textByte z 0) (sym s) ∙ span-holds 3 64 a j (omega (arith, is .2))) (λ s. s) (inner (suc j) (omega arith) (omega arith)))
+    (λ j r. last (suc j) (omega arith))
 
 -- ---- tokens after a place
 
@@ -128,12 +128,13 @@ module _ (a b : List ℕ) (long : length a ≡ length b) where
         long = omega (arith, length-drop at a, length-drop at b);
         near = λ j h. getD-drop at a j 0 ∙ same-byte at ts agree (at + j) (omega arith) (out (at + j) (omega arith)) ∙ sym (getD-drop at b j 0);
         after = λ q.
-          let e : at + suc m ≡ suc (at + m) = omega arith in
-          getD-drop at a (suc m) 0
-          ∙ ap (λ (k : ℕ). getD a k 0) e
-          ∙ same-byte at ts agree (suc (at + m)) (omega arith) (next (λ r. q (ap classOf (getD-drop at a m 0) ∙ r)))
-          ∙ ap (λ (k : ℕ). getD b k 0) (sym e)
-          ∙ sym (getD-drop at b (suc m) 0) }
+            let e : at + suc m ≡ suc (at + m) = omega arith in
+            getD-drop at a (suc m) 0
+            ∙ ap (λ (k : ℕ). getD a k 0) e
+            ∙ same-byte at ts agree (suc (at + m)) (omega arith) (next (λ r. q (ap classOf (getD-drop at a m 0) ∙ r)))
+            ∙ ap (λ (k : ℕ). getD b k 0) (sym e)
+            ∙ sym (getD-drop at b (suc m) 0);
+      }
 
   abbrev Same : ℕ → Cut → Type 0
   Same at c = Agree at (c .tokens) → c ≡ left b at
@@ -144,8 +145,8 @@ module _ (a b : List ℕ) (long : length a ≡ length b) where
   same-refusal : (at r d : ℕ) → at < length a → piece (drop at a) ≡ refusal r d → Same at (record { tokens = []; ending = refused r (at + d) })
   same-refusal at r d h e agree =
       let rest : drop at a ≡ drop at b =
-          ext-getD 0 (drop at a) (drop at b) (omega (arith, length-drop at a, length-drop at b))
-          (λ j q. getD-drop at a j 0 ∙ same-byte at [] agree (at + j) (omega arith) (λ n. n) ∙ sym (getD-drop at b j 0)) in
+      ext-getD 0 (drop at a) (drop at b) (omega (arith, length-drop at a, length-drop at b))
+      (λ j q. getD-drop at a j 0 ∙ same-byte at [] agree (at + j) (omega arith) (λ n. n) ∙ sym (getD-drop at b j 0)) in
       sym (step-refusal b at r d (omega arith) (ap piece (sym rest) ∙ e))
 
   same-gap : (at m : ℕ) → at < length a → piece (drop at a) ≡ gap m → Fits (drop at a) (gap m) → Same (at + m) (left a (at + m)) → Same at (left a (at + m))
@@ -172,19 +173,25 @@ module _ (a b : List ℕ) (long : length a ≡ length b) where
     where
       ts : List Tok
       ts = left a (at + m) .tokens
+
       all : List Tok
       all = tok c at (at + m) (take m (drop at a)) ∷ left a (at + m) .tokens
+
       up : Rising a (at + m) ts
       up = rising-left a (at + m)
+
       here : (j : ℕ) → (InsideText (at + j) all → ⊥) → getD (drop at a) j 0 ≡ getD (drop at b) j 0
       here j out = getD-drop at a j 0 ∙ same-byte at all agree (at + j) (omega arith) out ∙ sym (getD-drop at b j 0)
+
       inner : (j : ℕ) → 0 < j → j + 1 < m → (getD (drop at a) j 0 ≡ getD (drop at b) j 0) ⊎ (textByte (getD (drop at b) j 0) 0 ≡ true)
       inner j q r =
           ⊎-elim (λ s. inl (getD-drop at a j 0 ∙ s ∙ sym (getD-drop at b j 0)))
           (λ s. inr (ap (λ (z : ℕ). textByte z 0) (getD-drop at b j 0) ∙ s .1))
           (agree (at + j) (omega arith) (omega (arith, f .1, length-drop at a)))
+
       rest : left a (at + m) ≡ left b (at + m)
       rest = ih (λ i l q. ⊎-elim inl (λ n. ⊎-elim (λ t. absurd (omega (arith, t .2))) (λ t. inr (t, n .1)) (n .0)) (agree i (omega arith) q))
+
       go : Dec (c ≡ text) → _≡_ {A = Cut} (record { tokens = tok c at (at + m) (take m (drop at a)) ∷ left a (at + m) .tokens; ending = left a (at + m) .ending }) (left b at)
       go (no n) =
           let near = agree-near at m all agree (λ i l t. ⊎-elim (λ u. n (u .0)) (λ u. absurd (omega (arith, inside-after a (at + m) ts i up u))) t) (λ q t. ⊎-elim (λ u. n (u .0)) (λ u. q (inside-quote a (at + m) ts up u)) t) in
@@ -193,10 +200,10 @@ module _ (a b : List ℕ) (long : length a ≡ length b) where
           same-rest at c m h p (f .0) (ap (tok c at (at + m)) (sym bs)) rest
       go (yes is) =
           let p : piece (drop at b) ≡ token c m =
-              text-near (drop at a) (drop at b) c m e (omega (arith, length-drop at a)) (f .6 is) (omega (arith, length-drop at a, length-drop at b))
-              (here 0 (λ t. ⊎-elim (λ u. absurd (omega (arith, u .1))) (λ u. absurd (omega (arith, inside-after a (at + m) ts (at + 0) up u))) t))
-              (λ j q r. inner j q r)
-              (λ j q. here j (λ t. ⊎-elim (λ u. absurd (omega (arith, u .2))) (λ u. absurd (omega (arith, inside-after a (at + m) ts (at + j) up u))) t)) in
+          text-near (drop at a) (drop at b) c m e (omega (arith, length-drop at a)) (f .6 is) (omega (arith, length-drop at a, length-drop at b))
+          (here 0 (λ t. ⊎-elim (λ u. absurd (omega (arith, u .1))) (λ u. absurd (omega (arith, inside-after a (at + m) ts (at + 0) up u))) t))
+          (λ j q r. inner j q r)
+          (λ j q. here j (λ t. ⊎-elim (λ u. absurd (omega (arith, u .2))) (λ u. absurd (omega (arith, inside-after a (at + m) ts (at + j) up u))) t)) in
           same-rest at c m h p (f .0) (text-token c at (at + m) (take m (drop at a)) (take m (drop at b)) is) rest
 
   pub same-cut : (at : ℕ) → Same at (left a at)

@@ -207,9 +207,9 @@ word-at k n h e =
 pub slot-part : (t : List ℕ) (start end : ℕ) → start < end → end ≤ length t → slotOf (take (end - start) (drop start t)) ≡ (3 * getD t start 0 + 24 * getD t (end - 1) 0 + 7 * (end - start)) % 128
 slot-part t start end h q =
     let n : length (take (end - start) (drop start t)) ≡ end - start =
-        length-take-le (end - start) (drop start t) (omega (arith, length-drop start t)) in
+    length-take-le (end - start) (drop start t) (omega (arith, length-drop start t)) in
     let first : getD (take (end - start) (drop start t)) 0 0 ≡ getD t start 0 =
-        getD-take (end - start) (drop start t) 0 0 (omega arith) ∙ byte-there t start 0 start (omega arith) in
+    getD-take (end - start) (drop start t) 0 0 (omega arith) ∙ byte-there t start 0 start (omega arith) in
     let last : getD (take (end - start) (drop start t)) (end - start - 1) 0 ≡ getD t (end - 1) 0 =
-        getD-take (end - start) (drop start t) (end - start - 1) 0 (omega arith) ∙ byte-there t start (end - start - 1) (end - 1) (omega arith) in
+    getD-take (end - start) (drop start t) (end - start - 1) 0 (omega arith) ∙ byte-there t start (end - start - 1) (end - 1) (omega arith) in
     rw (n, first, last)

@@ -6,17 +6,27 @@ ghost use Rattle.token.specs.Byte.{classOf, ClassTable};
 pub const QUOTE: u8 = 1;
 // blanks are the classes from FEED to SPACE; FEED is forbidden in a text, NEWLINE ends a comment
 pub const FEED: u8 = 2;
+
 pub const NEWLINE: u8 = 3;
+
 pub const SPACE: u8 = 4;
+
 pub const HYPHEN: u8 = 6;
+
 pub const APOSTROPHE: u8 = 7;
+
 pub const COLON: u8 = 8;
+
 pub const DOT: u8 = 9;
 // letters and digits are the classes from SMALL to CAPITAL, hex digits those from SMALL_HEX to CAPITAL_HEX
 pub const SMALL: u8 = 60;
+
 pub const SMALL_HEX: u8 = 61;
+
 pub const DIGIT: u8 = 62;
+
 pub const CAPITAL_HEX: u8 = 63;
+
 pub const CAPITAL: u8 = 64;
 
 pub const CLASSES: [u8; 256] = [

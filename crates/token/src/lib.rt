@@ -11,7 +11,9 @@ pub mod value;
 mod word;
 
 use crate::byte::CLASSES;
-use crate::piece::{Found, GAP, piece_at};
+use crate::piece::Found;
+use crate::piece::GAP;
+use crate::piece::piece_at;
 
 // A place: a byte offset in the text.
 pub struct Place(pub usize);

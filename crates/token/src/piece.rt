@@ -5,10 +5,27 @@ ghost use lib.ListN.{length, getD, drop};
 ghost use Rattle.token.specs.Byte.{ClassTable, digitByte, nameByte};
 ghost use Rattle.token.specs.Cut.{span, name, misfit, nonNegative, belowZero, comment, afterHyphen, quoted, hexString, afterColon, afterDot, punctuation, piece};
 ghost use Rattle.token.specs.Table.{foundAt};
-
 use crate::Place;
-use crate::byte::{APOSTROPHE, CAPITAL, CAPITAL_HEX, COLON, DIGIT, DOT, FEED, HYPHEN, NEWLINE, QUOTE, SMALL, SMALL_HEX, SPACE, class_of};
-use crate::scan::{byte_at, class_at, comment_end, digit_run, name_end, run_end};
+use crate::byte::APOSTROPHE;
+use crate::byte::CAPITAL;
+use crate::byte::CAPITAL_HEX;
+use crate::byte::COLON;
+use crate::byte::DIGIT;
+use crate::byte::DOT;
+use crate::byte::FEED;
+use crate::byte::HYPHEN;
+use crate::byte::NEWLINE;
+use crate::byte::QUOTE;
+use crate::byte::SMALL;
+use crate::byte::SMALL_HEX;
+use crate::byte::SPACE;
+use crate::byte::class_of;
+use crate::scan::byte_at;
+use crate::scan::class_at;
+use crate::scan::comment_end;
+use crate::scan::digit_run;
+use crate::scan::name_end;
+use crate::scan::run_end;
 use crate::word::name_class;
 
 // The class that a gap has: no terminal's.

@@ -6,8 +6,11 @@ ghost use lib.ListN.{length, getD, take, drop};
 ghost use Rattle.token.specs.Byte.{ClassTable, classOf, classed, digitByte, nameByte, commentByte};
 ghost use Rattle.token.specs.Token.{decimal};
 ghost use Rattle.token.specs.Cut.{span};
-
-use crate::byte::{DIGIT, HYPHEN, NEWLINE, SMALL, class_of};
+use crate::byte::DIGIT;
+use crate::byte::HYPHEN;
+use crate::byte::NEWLINE;
+use crate::byte::SMALL;
+use crate::byte::class_of;
 
 // The byte at a place of the text, or 0 at its end.
 pub fn byte_at(text: &[u8], at: usize) -> u8

@@ -6,7 +6,6 @@ ghost use Rattle.token.specs.Token.{tok, decimal};
 ghost use Rattle.token.specs.Table.{between};
 ghost use Rattle.token.specs.Law.{Sound};
 ghost use Rattle.token.specs.Word.{same};
-
 use crate::scan::more;
 use crate::word::same_part;
 

@@ -7,8 +7,8 @@ ghost use mathlib.Core.List.{[]};
 ghost use Rattle.token.specs.Word.{words, same, startOf, placeIn, nameClass};
 ghost use Rattle.token.specs.Byte.{ClassTable};
 ghost use Rattle.token.specs.Table.{between};
-
-use crate::byte::{CAPITAL_HEX, class_of};
+use crate::byte::CAPITAL_HEX;
+use crate::byte::class_of;
 
 // The words' spellings, one after the other.
 const SPELLINGS: [u8; 384] = [

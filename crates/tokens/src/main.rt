@@ -6,7 +6,6 @@ ghost use Prim.Native.Nat.{ℕ, _≤_, _<_};
 ghost use mathlib.Core.Path.{_≡_};
 ghost use lib.ListN.{length, getD};
 ghost use Rattle.tokens.specs.Listed.{Listed};
-
 use libc::STDOUT_FILENO;
 use token::Answer;
 

@@ -46,7 +46,7 @@ returns c =
     let a = start .args in
     rw (c .refusal .ensures)
     (read-refusal (a .text .now) (a .classes .now) (a .starts .now) (a .ends .now) (l .loop .classes) (l .loop .starts) (l .loop .ends) (l .loop .at) (l .loop .n) (l .loop .inv) (c .before .before .before .before .before .loop-test .taken) (start .pre .0) (start .pre .1) (start .pre .2) (start .pre .3)
-      (c .before .before .before .piece-at .result) (c .before .enum-told .given .0 .0) (c .before .enum-told .given .0 .1 .0) (c .before .enum-told .given .1) (c .before .before .before .piece-at .ensures))
+    (c .before .before .before .piece-at .result) (c .before .enum-told .given .0 .0) (c .before .enum-told .given .0 .1 .0) (c .before .enum-told .given .1) (c .before .before .before .piece-at .ensures))
 
 element-write-classes : tie.Need-element-write-classes Inv-loop μ-loop
 element-write-classes c =

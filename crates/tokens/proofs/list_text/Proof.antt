@@ -24,10 +24,11 @@ list-tokens-requires c κs =
     let call = c .before .before .before .before .before .before .cut in
     let held = call .ensures in
     let count : c .before .before .before .before .answer .given .0 .0 ≡ length (cut t .tokens) =
-        counted (c .before .before .before .before .answer .given .0 .0) (length (cut t .tokens)) (cut t .ending) (sym (c .before .before .before .before .answer .given .1) ∙ held .answered) .0 in
+    counted (c .before .before .before .before .answer .given .0 .0) (length (cut t .tokens)) (cut t .ending) (sym (c .before .before .before .before .answer .given .1) ∙ held .answered) .0 in
     record {
       few = omega (arith, few t, s .pre);
-      inside = λ i h. let place = entry-place t (call .result) (replicate 65536 0) (replicate 65536 0) (replicate 65536 0) (call .last .1 .0) (call .last .1 .1 .0) (call .last .1 .1 .1 .0) held i (omega arith) in (omega (arith, place .0), place .1) }
+      inside = λ i h. let place = entry-place t (call .result) (replicate 65536 0) (replicate 65536 0) (replicate 65536 0) (call .last .1 .0) (call .last .1 .1 .0) (call .last .1 .1 .1 .0) held i (omega arith) in (omega (arith, place .0), place .1);
+    }
 
 enum-known-answer-2 : tie.Need-enum-known-answer-2
 enum-known-answer-2 c = search needs

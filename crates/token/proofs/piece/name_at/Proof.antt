@@ -48,7 +48,7 @@ returns-2 c =
     let end = c .before .before .name-end in
     let length-n : end .result - at ≡ n = omega (arith, end .ensures) in
     let class : c .name-class .result ≡ nameClass (take n (drop at t)) =
-        c .name-class .ensures ∙ ap (λ (k : ℕ). nameClass (take k (drop at t))) length-n in
+    c .name-class .ensures ∙ ap (λ (k : ℕ). nameClass (take k (drop at t))) length-n in
     simp (le-leb n 64 (omega (arith, end .ensures, c .before .if1 .left))) (λ i. Found.Piece (class i) (end .ensures i))
 
 pub name-at-spec : {M : Type 1} → statement M

@@ -63,7 +63,7 @@ returns-3 c =
     let run = c .before .before .before .before .before .before .digit-run in
     let length-n : run .result .end - ((at + 1)) ≡ n = omega (arith, run .ensures .0) in
     let value : run .result .value ≡ min (decimal (take n (drop ((at + 1)) t))) 4294967296 =
-        run .ensures .1 ∙ ap (λ (k : ℕ). min (decimal (take k (drop ((at + 1)) t))) 4294967296) length-n in
+    run .ensures .1 ∙ ap (λ (k : ℕ). min (decimal (take k (drop ((at + 1)) t))) 4294967296) length-n in
     let fine : misfit (drop (at + 1) t) ≡ false = sym (c .before .before .before .is-misfit .ensures) ∙ c .before .before .if2 .left in
     simp (nonzero, fine, lt-leb (decimal (take n (drop (at + 1) t))) 2147483648 (omega arith), add-zero)
 
@@ -78,7 +78,7 @@ returns-4 c =
     let run = c .before .before .before .before .before .before .digit-run in
     let length-n : run .result .end - ((at + 1)) ≡ n = omega (arith, run .ensures .0) in
     let value : run .result .value ≡ min (decimal (take n (drop ((at + 1)) t))) 4294967296 =
-        run .ensures .1 ∙ ap (λ (k : ℕ). min (decimal (take k (drop ((at + 1)) t))) 4294967296) length-n in
+    run .ensures .1 ∙ ap (λ (k : ℕ). min (decimal (take k (drop ((at + 1)) t))) 4294967296) length-n in
     let fine : misfit (drop (at + 1) t) ≡ false = sym (c .before .before .before .is-misfit .ensures) ∙ c .before .before .if2 .left in
     simp (nonzero, fine, le-leb (decimal (take n (drop (at + 1) t))) 2147483648 (omega arith)) (ap (λ (e : ℕ). Found.Piece 46 e) (omega (arith, run .ensures .0)))
 

@@ -40,7 +40,7 @@ returns-2 c =
     let run = c .before .before .before .before .digit-run in
     let length-n : run .result .end - (at) ≡ n = omega (arith, run .ensures .0) in
     let value : run .result .value ≡ min (decimal (take n (drop (at) t))) 4294967296 =
-        run .ensures .1 ∙ ap (λ (k : ℕ). min (decimal (take k (drop (at) t))) 4294967296) length-n in
+    run .ensures .1 ∙ ap (λ (k : ℕ). min (decimal (take k (drop (at) t))) 4294967296) length-n in
     let fine : misfit (drop at t) ≡ false = sym (c .before .before .before .is-misfit .ensures) ∙ c .before .before .if1 .left in
     simp (fine, lt-leb (decimal (take n (drop at t))) 4294967295 (omega arith), add-zero)
 
@@ -54,7 +54,7 @@ returns-3 c =
     let run = c .before .before .before .before .digit-run in
     let length-n : run .result .end - (at) ≡ n = omega (arith, run .ensures .0) in
     let value : run .result .value ≡ min (decimal (take n (drop (at) t))) 4294967296 =
-        run .ensures .1 ∙ ap (λ (k : ℕ). min (decimal (take k (drop (at) t))) 4294967296) length-n in
+    run .ensures .1 ∙ ap (λ (k : ℕ). min (decimal (take k (drop (at) t))) 4294967296) length-n in
     let fine : misfit (drop at t) ≡ false = sym (c .before .before .before .is-misfit .ensures) ∙ c .before .before .if1 .left in
     simp (fine, le-leb (decimal (take n (drop at t))) 4294967295 (omega arith)) (ap (λ (e : ℕ). Found.Piece 45 e) (run .ensures .0))
 

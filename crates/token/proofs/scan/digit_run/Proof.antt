@@ -33,11 +33,12 @@ class-of-requires c κs = search needs
 returns : tie.Need-returns Inv-loop μ-loop
 returns c =
     let l = c .before .before .before .before in
-    let a = l .before .before in
-    (reached-stop digitByte (a .args .text .now) (a .args .at) (l .loop .i) (l .loop .inv .0) (c .before .before .before .loop-test .taken)
-      (classed-not 62 (getD (a .args .text .now) (l .loop .i) 0) (getD (a .args .text .now) (l .loop .i + 1) 0)
-        (λ e. c .if1 .left (c .before .class-of .ensures ∙ e))),
-      l .loop .inv .1)
+    let a = l .before .before in (
+      reached-stop digitByte (a .args .text .now) (a .args .at) (l .loop .i) (l .loop .inv .0) (c .before .before .before .loop-test .taken)
+          (classed-not 62 (getD (a .args .text .now) (l .loop .i) 0) (getD (a .args .text .now) (l .loop .i + 1) 0)
+          (λ e. c .if1 .left (c .before .class-of .ensures ∙ e))),
+      l .loop .inv .1,
+    )
 
 more-requires : tie.Need-more-requires Inv-loop μ-loop
 more-requires c κs = omega arith
@@ -51,11 +52,12 @@ loop-less c = omega arith
 loop-again : tie.Need-loop-again Inv-loop μ-loop
 loop-again c =
     let l = c .before .before .before .before .before in
-    let a = l .before .before in
-    (reached-more digitByte (a .args .text .now) (a .args .at) (l .loop .i) (l .loop .inv .0) (c .before .before .before .before .loop-test .taken)
-      (classed-as 62 (getD (a .args .text .now) (l .loop .i) 0) (getD (a .args .text .now) (l .loop .i + 1) 0)
-        (sym (c .before .before .class-of .ensures) ∙ c .before .if1 .taken)),
-      capped-more (a .args .text .now) (a .args .at) (l .loop .i) (l .loop .inv .0 .0) (c .before .before .before .before .loop-test .taken) (l .loop .inv .1) (c .more .ensures))
+    let a = l .before .before in (
+      reached-more digitByte (a .args .text .now) (a .args .at) (l .loop .i) (l .loop .inv .0) (c .before .before .before .before .loop-test .taken)
+          (classed-as 62 (getD (a .args .text .now) (l .loop .i) 0) (getD (a .args .text .now) (l .loop .i + 1) 0)
+          (sym (c .before .before .class-of .ensures) ∙ c .before .if1 .taken)),
+      capped-more (a .args .text .now) (a .args .at) (l .loop .i) (l .loop .inv .0 .0) (c .before .before .before .before .loop-test .taken) (l .loop .inv .1) (c .more .ensures),
+    )
 
 returns-2 : tie.Need-returns-2 Inv-loop μ-loop
 returns-2 c =

@@ -23,9 +23,9 @@ returns c =
     let s = c .before .before in
     let t = s .args .text .now in
     let a : length (between t (s .args .a) (s .args .to)) ≡ s .args .to - s .args .a =
-        length-take-le (s .args .to - s .args .a) (drop (s .args .a) t) (omega (arith, length-drop (s .args .a) t)) in
+    length-take-le (s .args .to - s .args .a) (drop (s .args .a) t) (omega (arith, length-drop (s .args .a) t)) in
     let b : length (between t (s .args .b) (s .args .end)) ≡ s .args .end - s .args .b =
-        length-take-le (s .args .end - s .args .b) (drop (s .args .b) t) (omega (arith, length-drop (s .args .b) t)) in
+    length-take-le (s .args .end - s .args .b) (drop (s .args .b) t) (omega (arith, length-drop (s .args .b) t)) in
     sym (same-length (between t (s .args .a) (s .args .to)) (between t (s .args .b) (s .args .end)) (λ e. c .if1 .taken (omega arith)))
 
 same-part-requires : tie.Need-same-part-requires

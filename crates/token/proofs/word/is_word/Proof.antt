@@ -34,9 +34,9 @@ returns c =
     let s = c .before .before .before .before in
     let a = s .args in
     let n : length (between (a .text .now) (a .start) (a .end)) ≡ a .end - a .start =
-        length-take-le (a .end - a .start) (drop (a .start) (a .text .now)) (omega (arith, length-drop (a .start) (a .text .now))) in
+    length-take-le (a .end - a .start) (drop (a .start) (a .text .now)) (omega (arith, length-drop (a .start) (a .text .now))) in
     sym (same-length (between (a .text .now) (a .start) (a .end)) (getD words (a .k) [])
-      (λ e. c .if1 .taken (omega (arith, word-ends (a .k) (s .pre .2), c .before .before .spelling-start .ensures, c .before .spelling-start2 .ensures))))
+    (λ e. c .if1 .taken (omega (arith, word-ends (a .k) (s .pre .2), c .before .before .spelling-start .ensures, c .before .spelling-start2 .ensures))))
 
 slice-aggregate-same-part : tie.Need-slice-aggregate-same-part
 slice-aggregate-same-part c = search needs
@@ -54,7 +54,7 @@ returns-2 c =
     let to = c .before .before .before .spelling-start2 in
     let n : to .result - from .result ≡ a .end - a .start = c .before .before .if1 .left in
     let word : take (to .result - from .result) (drop (from .result) spellings) ≡ getD words (a .k) [] =
-        rw (from .ensures) (word-at (a .k) (to .result - startOf words (a .k)) (s .pre .2) (ap (λ (m : ℕ). m - startOf words (a .k)) (to .ensures))) in
+    rw (from .ensures) (word-at (a .k) (to .result - startOf words (a .k)) (s .pre .2) (ap (λ (m : ℕ). m - startOf words (a .k)) (to .ensures))) in
     c .same-part .ensures
     ∙ ap (λ (m : ℕ). same (take m (drop (a .start) (a .text .now))) (take (to .result - from .result) (drop (from .result) spellings))) n
     ∙ ap (λ (w : List ℕ). same (between (a .text .now) (a .start) (a .end)) w) word

@@ -44,7 +44,7 @@ returns-2 c =
     let name = between (a .text .now) (a .start) (a .end) in
     let place : placeIn name words ≡ c .before .before .before .before .word-of .result = sym (c .before .before .before .before .word-of .ensures) in
     let first : classOf (getD name 0 0) ≡ c .before .class-of .result =
-        ap classOf (getD-take (a .end - a .start) (drop (a .start) (a .text .now)) 0 0 (omega arith) ∙ byte-there (a .text .now) (a .start) 0 (a .start) (omega arith)) ∙ sym (c .before .class-of .ensures) in
+    ap classOf (getD-take (a .end - a .start) (drop (a .start) (a .text .now)) 0 0 (omega arith) ∙ byte-there (a .text .now) (a .start) 0 (a .start) (omega arith)) ∙ sym (c .before .class-of .ensures) in
     simp (place, le-ltb _ _ (c .before .before .before .if1 .left), first, le-leb _ _ (c .if2 .taken))
 
 returns-3 : tie.Need-returns-3
@@ -55,7 +55,7 @@ returns-3 c =
     let name = between (a .text .now) (a .start) (a .end) in
     let place : placeIn name words ≡ c .before .before .before .before .word-of .result = sym (c .before .before .before .before .word-of .ensures) in
     let first : classOf (getD name 0 0) ≡ c .before .class-of .result =
-        ap classOf (getD-take (a .end - a .start) (drop (a .start) (a .text .now)) 0 0 (omega arith) ∙ byte-there (a .text .now) (a .start) 0 (a .start) (omega arith)) ∙ sym (c .before .class-of .ensures) in
+    ap classOf (getD-take (a .end - a .start) (drop (a .start) (a .text .now)) 0 0 (omega arith) ∙ byte-there (a .text .now) (a .start) 0 (a .start) (omega arith)) ∙ sym (c .before .class-of .ensures) in
     simp (place, le-ltb _ _ (c .before .before .before .if1 .left), first, lt-leb _ _ (c .if2 .left))
 
 pub name-class-spec : {M : Type 1} → statement M

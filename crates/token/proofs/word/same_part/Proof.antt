@@ -42,10 +42,11 @@ loop-less c = omega arith
 loop-again : tie.Need-loop-again Inv-loop μ-loop
 loop-again c =
     let l = c .before .before .before .before in
-    let s = l .before in
-    (omega arith,
+    let s = l .before in (
+      omega arith,
       l .loop .inv .1
-      ∙ same-more (s .args .a .now) (s .args .b .now) (s .args .i) (s .args .j) (s .args .n) (l .loop .k) (s .pre .0) (s .pre .1) (c .before .before .before .loop-test .taken) (c .if1 .taken))
+          ∙ same-more (s .args .a .now) (s .args .b .now) (s .args .i) (s .args .j) (s .args .n) (l .loop .k) (s .pre .0) (s .pre .1) (c .before .before .before .loop-test .taken) (c .if1 .taken),
+    )
 
 returns : tie.Need-returns Inv-loop μ-loop
 returns c =
@@ -53,7 +54,7 @@ returns c =
     let s = l .before in
     sym
     (l .loop .inv .1
-      ∙ same-stops (s .args .a .now) (s .args .b .now) (s .args .i) (s .args .j) (s .args .n) (l .loop .k) (s .pre .0) (s .pre .1) (c .before .before .before .loop-test .taken) (c .if1 .left))
+    ∙ same-stops (s .args .a .now) (s .args .b .now) (s .args .i) (s .args .j) (s .args .n) (l .loop .k) (s .pre .0) (s .pre .1) (c .before .before .before .loop-test .taken) (c .if1 .left))
 
 returns-2 : tie.Need-returns-2 Inv-loop μ-loop
 returns-2 c =
