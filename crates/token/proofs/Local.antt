@@ -140,47 +140,43 @@ misfit-local a b near =
     let next : getD b (span digitByte a) 0 ≡ getD a (span digitByte a) 0 = sym (near .near (span digitByte a) (omega arith)) in
     rw (k, first, next)
 
+-- a number that is not negative, and one that is: they differ in what is none of a number, the limit, the class and the length
+module _ (bad : List ℕ → Bool) (limit class : ℕ) (long : ℕ → ℕ) where
+  abbrev reading : Bool → ℕ → List ℕ → Piece
+  reading none k bs = cond none (refusal 3 0) (cond (leb (decimal bs) limit) (token class (long k)) (refusal 6 0))
+
+  abbrev read : List ℕ → Piece
+  read s = reading (bad s) (span digitByte s) (take (span digitByte s) s)
+
+  digits-local : (a b : List ℕ) → (Near a b (span digitByte a) → bad b ≡ bad a) → (Agree : ℕ → Type 0) → (Agree (long (span digitByte a)) → Near a b (span digitByte a)) → Plain (read a) → Agree (size (read a)) → read b ≡ read a
+  digits-local a b none Agree near r n = go (bad a) (leb (decimal (take (span digitByte a) a)) limit) r n
+    where
+      same : Near a b (span digitByte a) → read b ≡ read a
+      same l =
+          let k = span-local digitByte (class-blind 62 62) a b l in
+          let bs = take-local a b (span digitByte a) (l .long) (λ j h. l .near j (omega arith)) in
+          ap (λ (x : Bool). reading x (span digitByte b) (take (span digitByte b) b)) (none l)
+          ∙ ap (λ (j : ℕ). reading (bad a) j (take j b)) k
+          ∙ ap (reading (bad a) (span digitByte a)) bs
+
+      go : (x y : Bool) → Plain (cond x (refusal 3 0) (cond y (token class (long (span digitByte a))) (refusal 6 0))) → Agree (size (cond x (refusal 3 0) (cond y (token class (long (span digitByte a))) (refusal 6 0)))) → read b ≡ read a
+      go true y r n = absurd r
+      go false true r n = same (near n)
+      go false false r n = absurd r
+
 number-local : (a b : List ℕ) → Plain (nonNegative a) → Near a b (size (nonNegative a)) → nonNegative b ≡ nonNegative a
 unfolding nonNegative
-number-local a b r n = go (misfit a) (leb (decimal (take (span digitByte a) a)) 4294967295) r n
-  where
-    reading : Bool → ℕ → List ℕ → Piece
-    reading bad k bs = cond bad (refusal 3 0) (cond (leb (decimal bs) 4294967295) (token 45 k) (refusal 6 0))
-
-    same : Near a b (span digitByte a) → nonNegative b ≡ nonNegative a
-    same near =
-        let k = span-local digitByte (class-blind 62 62) a b near in
-        let bs = take-local a b (span digitByte a) (near .long) (λ j h. near .near j (omega arith)) in
-        ap (λ (x : Bool). reading x (span digitByte b) (take (span digitByte b) b)) (misfit-local a b near)
-        ∙ ap (λ (j : ℕ). reading (misfit a) j (take j b)) k
-        ∙ ap (reading (misfit a) (span digitByte a)) bs
-
-    go : (x y : Bool) → Plain (cond x (refusal 3 0) (cond y (token 45 (span digitByte a)) (refusal 6 0))) → Near a b (size (cond x (refusal 3 0) (cond y (token 45 (span digitByte a)) (refusal 6 0)))) → nonNegative b ≡ nonNegative a
-    go true y r near = absurd r
-    go false true r near = same near
-    go false false r near = absurd r
+number-local a b r n = digits-local misfit 4294967295 45 (λ k. k) a b (misfit-local a b) (Near a b) (λ l. l) r n
 
 negative-local : (x y : ℕ) (a b : List ℕ) → Plain (belowZero a) → Near (x ∷ a) (y ∷ b) (size (belowZero a)) → belowZero b ≡ belowZero a
 unfolding belowZero
-negative-local x y a b r n = go (eqb (getD a 0 0) 48 || misfit a) (leb (decimal (take (span digitByte a) a)) 2147483648) r n
-  where
-    reading : Bool → ℕ → List ℕ → Piece
-    reading bad k bs = cond bad (refusal 3 0) (cond (leb (decimal bs) 2147483648) (token 46 (suc k)) (refusal 6 0))
-
-    same : Near a b (span digitByte a) → belowZero b ≡ belowZero a
-    same near =
-        let k = span-local digitByte (class-blind 62 62) a b near in
-        let bs = take-local a b (span digitByte a) (near .long) (λ j h. near .near j (omega arith)) in
-        let first : getD b 0 0 ≡ getD a 0 0 = sym (near .near 0 (omega arith)) in
-        ap (λ (z : Bool). reading (eqb (getD b 0 0) 48 || z) (span digitByte b) (take (span digitByte b) b)) (misfit-local a b near)
-        ∙ ap (λ (z : ℕ). reading (eqb z 48 || misfit a) (span digitByte b) (take (span digitByte b) b)) first
-        ∙ ap (λ (j : ℕ). reading (eqb (getD a 0 0) 48 || misfit a) j (take j b)) k
-        ∙ ap (reading (eqb (getD a 0 0) 48 || misfit a) (span digitByte a)) bs
-
-    go : (p q : Bool) → Plain (cond p (refusal 3 0) (cond q (token 46 (suc (span digitByte a))) (refusal 6 0))) → Near (x ∷ a) (y ∷ b) (size (cond p (refusal 3 0) (cond q (token 46 (suc (span digitByte a))) (refusal 6 0)))) → belowZero b ≡ belowZero a
-    go true q r near = absurd r
-    go false true r near = same (near-tail x y a b (span digitByte a) near)
-    go false false r near = absurd r
+negative-local x y a b r n =
+    digits-local (λ (s : List ℕ). eqb (getD s 0 0) 48 || misfit s) 2147483648 46 suc a b
+    (λ l. λ i. eqb (sym (l .near 0 (omega arith)) i) 48 || misfit-local a b l i)
+    (Near (x ∷ a) (y ∷ b))
+    (near-tail x y a b (span digitByte a))
+    r
+    n
 
 comment-local : (x y z w : ℕ) (a b : List ℕ) → Near (x ∷ y ∷ a) (z ∷ w ∷ b) (size (comment a)) → comment b ≡ comment a
 unfolding comment

@@ -31,6 +31,22 @@ use crate::word::name_class;
 // The class that a gap has: no terminal's.
 pub const GAP: u8 = 58;
 
+// The refusals' numbers: no token starts here; forbidden byte in a text; name over 64 bytes; number out of range.
+const NO_TOKEN: u8 = 3;
+
+const FORBIDDEN: u8 = 4;
+
+const LONG_NAME: u8 = 5;
+
+const OUT_OF_RANGE: u8 = 6;
+
+// The largest name, in bytes; the largest number; the largest magnitude of a negative number.
+const LONGEST_NAME: usize = 64;
+
+const LARGEST_NUMBER: u64 = 4294967295;
+
+const LARGEST_NEGATIVE: u64 = 2147483648;
+
 // What stands at a place: a token or a gap, with its class and its end; or the refusal's number and place.
 pub enum Found {
     Piece(u8, usize),
@@ -43,8 +59,8 @@ fn name_at(table: &[u8; 256], text: &[u8], at: usize) -> Found
     ensures { λ r. ⌜ r ≡ foundAt at (name (drop at (now (text .entry)))) ⌝ }
 {
     let end = name_end(table, text, at);
-    if 64 < end - at {
-        return Found::Refused(5, Place(at));
+    if LONGEST_NAME < end - at {
+        return Found::Refused(LONG_NAME, Place(at));
     }
     Found::Piece(name_class(table, text, at, end), end)
 }
@@ -70,10 +86,10 @@ fn number_at(table: &[u8; 256], text: &[u8], at: usize) -> Found
     let run = digit_run(table, text, at);
     let end = run.end;
     if is_misfit(table, text, at, end) {
-        return Found::Refused(3, Place(at));
+        return Found::Refused(NO_TOKEN, Place(at));
     }
-    if 4294967295 < run.value {
-        return Found::Refused(6, Place(at));
+    if LARGEST_NUMBER < run.value {
+        return Found::Refused(OUT_OF_RANGE, Place(at));
     }
     Found::Piece(terminal::NUMBER, end)
 }
@@ -86,13 +102,13 @@ fn negative_at(table: &[u8; 256], text: &[u8], at: usize) -> Found
     let run = digit_run(table, text, at + 1);
     let end = run.end;
     if byte_at(text, at + 1) == b'0' {
-        return Found::Refused(3, Place(at));
+        return Found::Refused(NO_TOKEN, Place(at));
     }
     if is_misfit(table, text, at + 1, end) {
-        return Found::Refused(3, Place(at));
+        return Found::Refused(NO_TOKEN, Place(at));
     }
-    if 2147483648 < run.value {
-        return Found::Refused(6, Place(at));
+    if LARGEST_NEGATIVE < run.value {
+        return Found::Refused(OUT_OF_RANGE, Place(at));
     }
     Found::Piece(terminal::NEGATIVE, end)
 }
@@ -123,7 +139,7 @@ fn hyphen_at(table: &[u8; 256], text: &[u8], at: usize) -> Found
     if class == DIGIT {
         return negative_at(table, text, at);
     }
-    Found::Refused(3, Place(at))
+    Found::Refused(NO_TOKEN, Place(at))
 }
 
 // At a quote: a text; a forbidden byte in it is refused there, and a missing end quote at the quote.
@@ -133,12 +149,12 @@ fn text_at(table: &[u8; 256], text: &[u8], at: usize) -> Found
 {
     let end = run_end(table, text, at + 1, NEWLINE, CAPITAL);
     if text.len() <= end {
-        return Found::Refused(3, Place(at));
+        return Found::Refused(NO_TOKEN, Place(at));
     }
     if class_of(table, text[end]) == QUOTE {
         return Found::Piece(terminal::TEXT, end + 1);
     }
-    Found::Refused(4, Place(end))
+    Found::Refused(FORBIDDEN, Place(end))
 }
 
 // At an apostrophe: a hex string, or no token.
@@ -152,7 +168,7 @@ fn hex_at(table: &[u8; 256], text: &[u8], at: usize) -> Found
             return Found::Piece(terminal::HEX, end + 2);
         }
     }
-    Found::Refused(3, Place(at))
+    Found::Refused(NO_TOKEN, Place(at))
 }
 
 // At a colon: `::=`, or no token.
@@ -165,7 +181,7 @@ fn colon_at(text: &[u8], at: usize) -> Found
             return Found::Piece(terminal::ASSIGN, at + 3);
         }
     }
-    Found::Refused(3, Place(at))
+    Found::Refused(NO_TOKEN, Place(at))
 }
 
 // At a dot: `..`, or no token.
@@ -176,7 +192,7 @@ fn dot_at(text: &[u8], at: usize) -> Found
     if byte_at(text, at + 1) == b'.' {
         return Found::Piece(terminal::DOTS, at + 2);
     }
-    Found::Refused(3, Place(at))
+    Found::Refused(NO_TOKEN, Place(at))
 }
 
 // At a byte of this class, which is no blank, no letter and no digit.
@@ -202,7 +218,7 @@ fn punctuation_at(table: &[u8; 256], text: &[u8], at: usize, class: u8) -> Found
     if class == APOSTROPHE {
         return hex_at(table, text, at);
     }
-    Found::Refused(3, Place(at))
+    Found::Refused(NO_TOKEN, Place(at))
 }
 
 // What the text holds at a place before its end.

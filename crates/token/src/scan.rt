@@ -123,7 +123,10 @@ pub fn comment_end(table: &[u8; 256], text: &[u8], at: usize) -> usize
     i
 }
 
-// A run of digits: its end and its value, or 4294967296 where the value is larger.
+// One more than the largest number: what stands for every larger value.
+const TOO_LARGE: u64 = 4294967296;
+
+// A run of digits: its end, and its value or TOO_LARGE.
 pub struct Digits {
     pub end: usize,
     pub value: u64,
@@ -139,16 +142,16 @@ fn digit_value(byte: u8) -> u64
     (byte - b'0') as u64
 }
 
-// The value of digits with one digit more, or 4294967296 where it is larger.
+// The value of digits with one digit more, or TOO_LARGE.
 pub fn more(value: u64, byte: u8) -> u64
     requires { ⌜ value ≤ 4294967296 ⌝ }
     ensures { λ r. ⌜ r ≡ min (10 * value + (byte - 48)) 4294967296 ⌝ }
 {
     let next = 10 * value + digit_value(byte);
-    if next < 4294967296 {
+    if next < TOO_LARGE {
         return next;
     }
-    4294967296
+    TOO_LARGE
 }
 
 // The run of digits.
