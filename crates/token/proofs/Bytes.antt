@@ -9,7 +9,7 @@ use lib.ListN.{length, getD}
 use borrow.Author.Tests.{eq-eqb, ne-eqb, le-leb, lt-leb, leb-true}
 use native.Mathlib.Decide.{decLe}
 use native.Mathlib.Omega.{arith}
-use Rattle.token.specs.Byte.{Row, classOf, classIn, rows, classed, digit}
+use Rattle.token.specs.Byte.{Row, ClassTable, classOf, classIn, rows, classed, digit}
 use Rattle.token.proofs.Tables.{tested, first-of, second-of}
 
 unfoldable pub byteClasses : List ℕ
@@ -24,10 +24,10 @@ rule : (b : ℕ) → b < 256 → T (right b (getD byteClasses b 0))
 unfolding right classOf classIn rows byteClasses
 rule b h = tested right 0 byteClasses tt b h
 
--- the entry of a byte is its class
-pub entry-class : (b : ℕ) → b < 256 → getD byteClasses b 0 ≡ classOf b
+-- the entry of each byte is its class
+pub class-table : ClassTable byteClasses
 unfolding right
-entry-class b h = eqb→eq (getD byteClasses b 0) (classOf b) (rule b h)
+class-table = record { gives = λ b h. eqb→eq (getD byteClasses b 0) (classOf b) (rule b h) }
 
 -- a byte has a class k, or it has not
 pub classed-as : (k b next : ℕ) → classOf b ≡ k → classed k k b next ≡ true

@@ -14,11 +14,13 @@ use lib.ListN.{length, getD, take, drop, length-drop, length-map, List·getD-app
 use lib.Seq.{length-take-le, drop-cons}
 use borrow.Author.Tests.{ne-eqb}
 use Rattle.terminal.specs.Terminal.{number, negative}
+use Rattle.token.specs.Byte.{classOf}
 use Rattle.token.specs.Token.{Tok, tok, isName, spellingOf, valueOf, decimal}
 use Rattle.token.specs.Cut.{Piece, gap, token, refusal, piece, Ending, whole, refused, Cut, cut}
 use Rattle.token.specs.Table.{between, entry, entries, table, overlaid}
 use Rattle.token.specs.Law.{Sound, Rising}
 use Rattle.token.proofs.Pieces.{Fits, Fit}
+use Rattle.token.proofs.Places.{byte-there}
 use Rattle.token.proofs.Left.{left, left-whole, step-gap, step-token, step-refusal, step-end, fit-at}
 
 -- what holds at the end and at a refusal, and is kept by a gap and by a token before, holds of the cut of what is left
@@ -76,6 +78,7 @@ sound-token t at c m h f =
       inside = omega (arith, f .1, length-drop at t);
       terminal = f .2;
       name-bytes = λ q. let s = spelling-length c (take m (drop at t)) q in (omega (arith, s, f .0), omega (arith, s, f .3 q));
+      text-quote = λ q. ap classOf (sym (byte-there t at 0 at (omega arith))) ∙ f .6 q;
       number-range = λ q. (decimal (take m (drop at t)), number-value c (take m (drop at t)) q, f .4 q);
       negative-range = λ q. (decimal (drop 1 (take m (drop at t))), negative-value c (take m (drop at t)) q, f .5 q);
     }
@@ -85,20 +88,23 @@ later : (t : List ℕ) (from to : ℕ) (ts : List Tok) → from ≤ to → Risin
 later t from to [] h r = tt
 later t from to (x ∷ ts) h r = (omega (arith, r .0), r .1, r .2)
 
--- the tokens of a text are sound, and rise
-pub rising : (t : List ℕ) → Rising t 0 (cut t .tokens)
+-- the tokens of what is left of a text are sound, and rise from there
+pub rising-left : (t : List ℕ) (at : ℕ) → Rising t at (left t at .tokens)
 unfolding tok
-rising t =
-    subst (λ (x : Cut). Rising t 0 (x .tokens)) (left-whole t)
-    (cut-induction t (λ (at : ℕ) (x : Cut). Rising t at (x .tokens))
+rising-left t at =
+    cut-induction t (λ (at : ℕ) (x : Cut). Rising t at (x .tokens))
     (λ at h. tt)
     (λ at r d h e. tt)
     (λ at m h e f r. later t at (at + m) (left t (at + m) .tokens) (omega arith) r)
     (λ at c m h e f r. go at c m h f r)
-    0)
+    at
   where
     go : (at c m : ℕ) → at < length t → Fits (drop at t) (token c m) → Rising t (at + m) (left t (at + m) .tokens) → Rising t at (tok c at (at + m) (take m (drop at t)) ∷ left t (at + m) .tokens)
     go at c m h f r = (omega arith, sound-token t at c m h f, r)
+
+-- the tokens of a text are sound, and rise
+pub rising : (t : List ℕ) → Rising t 0 (cut t .tokens)
+rising t = subst (λ (x : Cut). Rising t 0 (x .tokens)) (left-whole t) (rising-left t 0)
 
 -- there are at most as many tokens as bytes
 rising-few : (t : List ℕ) (from : ℕ) (ts : List Tok) → Rising t from ts → from ≤ length t → from + length ts ≤ length t

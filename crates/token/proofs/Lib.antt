@@ -8,4 +8,7 @@ pub mod Pieces
 pub mod Left
 pub mod Laws
 pub mod Entries
+pub mod Local
+pub mod Quotes
+pub mod Examples
 pub mod Progress

@@ -10,7 +10,7 @@ use lib.Dec.{T, leb, ltb, eqb}
 use lib.ListN.{length, getD, take, drop, length-drop}
 use lib.Seq.{length-take-le}
 use borrow.Author.Tests.{leb-true, leb-false, ltb-true, eqb-true, lt-leb, le-leb}
-use Rattle.terminal.specs.Terminal.{number, negative}
+use Rattle.terminal.specs.Terminal.{number, negative, text}
 use Rattle.token.specs.Byte.{Row, classOf, classIn, rows, quote, hyphen, apostrophe, digit, small, digitByte, hexByte, textByte, nameByte, commentByte, blankByte, twoHyphens, alphanumeric}
 use Rattle.token.specs.Word.{words, wordClasses, placeIn, nameClass}
 use Rattle.token.specs.Token.{decimal, isName}
@@ -23,7 +23,7 @@ use Rattle.token.proofs.Words.{word-class}
 abbrev pub Fits : List ℕ → Piece → Type 0
 Fits s (gap n) = (1 ≤ n) × (n ≤ length s)
 Fits s (token c n) =
-    (1 ≤ n) × (n ≤ length s) × (c < 58) × (T (isName c) → n ≤ 64) × (c ≡ number → decimal (take n s) ≤ 4294967295) × (c ≡ negative → decimal (drop 1 (take n s)) ≤ 2147483648)
+    (1 ≤ n) × (n ≤ length s) × (c < 58) × (T (isName c) → n ≤ 64) × (c ≡ number → decimal (take n s) ≤ 4294967295) × (c ≡ negative → decimal (drop 1 (take n s)) ≤ 2147483648) × (c ≡ text → classOf (getD s 0 0) ≡ quote)
 Fits s (refusal r d) = d < length s
 
 pub record Fit (s : List ℕ) (p : Piece) : Type 0 where
@@ -56,7 +56,7 @@ name-fits s h =
     let n : span nameByte s ≤ length s = span-in nameByte s in
     by-test s (leb (span nameByte s) 64)
     (λ e. let l : span nameByte s ≤ 64 = leb-true (span nameByte s) 64 e in
-    record { fits = (h, n, omega arith, (λ t. l), (λ q. absurd (omega arith)), (λ q. absurd (omega arith))) })
+    record { fits = (h, n, omega arith, (λ t. l), (λ q. absurd (omega arith)), (λ q. absurd (omega arith)), (λ q. absurd (omega arith))) })
     (λ e. omega arith)
 
 number-fits : (s : List ℕ) → 1 ≤ span digitByte s → Fit s (nonNegative s)
@@ -65,7 +65,7 @@ number-fits s h =
     let n : span digitByte s ≤ length s = span-in digitByte s in
     by-test s (misfit s) (λ e. omega arith)
     (λ e. by-test s (leb (decimal (take (span digitByte s) s)) 4294967295)
-    (λ l. record { fits = (h, n, omega arith, (λ t. absurd t), (λ q. leb-true (decimal (take (span digitByte s) s)) 4294967295 l), (λ q. absurd (omega arith))) })
+    (λ l. record { fits = (h, n, omega arith, (λ t. absurd t), (λ q. leb-true (decimal (take (span digitByte s) s)) 4294967295 l), (λ q. absurd (omega arith)), (λ q. absurd (omega arith))) })
     (λ l. omega arith))
 
 negative-fits : (b : ℕ) (bs : List ℕ) → Fit (b ∷ bs) (belowZero bs)
@@ -74,7 +74,7 @@ negative-fits b bs =
     let n : span digitByte bs ≤ length bs = span-in digitByte bs in
     by-test (b ∷ bs) (eqb (getD bs 0 0) 48 || misfit bs) (λ e. omega arith)
     (λ e. by-test (b ∷ bs) (leb (decimal (take (span digitByte bs) bs)) 2147483648)
-    (λ l. record { fits = (omega arith, omega arith, omega arith, (λ t. absurd t), (λ q. absurd (omega arith)), (λ q. leb-true (decimal (take (span digitByte bs) bs)) 2147483648 l)) })
+    (λ l. record { fits = (omega arith, omega arith, omega arith, (λ t. absurd t), (λ q. absurd (omega arith)), (λ q. leb-true (decimal (take (span digitByte bs) bs)) 2147483648 l), (λ q. absurd (omega arith))) })
     (λ l. omega arith))
 
 closing-fits : (s : List ℕ) → closing s ≤ length s
@@ -104,13 +104,13 @@ hyphen-fits b (d ∷ bs) =
     by-test (b ∷ d ∷ bs) (eqb (classOf d) hyphen) (λ e. comment-fits b d bs)
     (λ e. by-test (b ∷ d ∷ bs) (eqb (classOf d) digit) (λ q. negative-fits b (d ∷ bs)) (λ q. omega arith))
 
-quoted-fits : (b : ℕ) (bs : List ℕ) → Fit (b ∷ bs) (quoted bs)
+quoted-fits : (b : ℕ) (bs : List ℕ) → classOf b ≡ quote → Fit (b ∷ bs) (quoted bs)
 unfolding quoted
-quoted-fits b bs =
+quoted-fits b bs first =
     by-test (b ∷ bs) (leb (length bs) (span textByte bs)) (λ e. omega arith)
     (λ e. let l : span textByte bs < length bs = leb-false (length bs) (span textByte bs) e in
     by-test (b ∷ bs) (eqb (classOf (getD bs (span textByte bs) 0)) quote)
-    (λ q. record { fits = (omega arith, omega arith, omega arith, (λ t. absurd t), (λ z. absurd (omega arith)), (λ z. absurd (omega arith))) })
+    (λ q. record { fits = (omega arith, omega arith, omega arith, (λ t. absurd t), (λ z. absurd (omega arith)), (λ z. absurd (omega arith)), (λ q. first)) })
     (λ q. omega arith))
 
 hex-fits : (b : ℕ) (bs : List ℕ) → Fit (b ∷ bs) (hexString bs)
@@ -119,7 +119,7 @@ hex-fits b bs =
     by-test (b ∷ bs) (eqb (classOf (getD bs (span hexByte bs) 0)) apostrophe && eqb (getD bs (span hexByte bs + 1) 0) 72)
     (λ e. let h = both-true (eqb (classOf (getD bs (span hexByte bs) 0)) apostrophe) (eqb (getD bs (span hexByte bs + 1) 0) 72) e in
     let l : span hexByte bs + 1 < length bs = byte-inside bs (span hexByte bs + 1) 72 (eqb-true (getD bs (span hexByte bs + 1) 0) 72 (h .1)) (omega arith) in
-    record { fits = (omega arith, omega arith, omega arith, (λ t. absurd t), (λ z. absurd (omega arith)), (λ z. absurd (omega arith))) })
+    record { fits = (omega arith, omega arith, omega arith, (λ t. absurd t), (λ z. absurd (omega arith)), (λ z. absurd (omega arith)), (λ q. absurd (omega arith))) })
     (λ e. omega arith)
 
 colon-fits : (b : ℕ) (bs : List ℕ) → Fit (b ∷ bs) (afterColon bs)
@@ -128,7 +128,7 @@ colon-fits b bs =
     by-test (b ∷ bs) (eqb (getD bs 0 0) 58 && eqb (getD bs 1 0) 61)
     (λ e. let h = both-true (eqb (getD bs 0 0) 58) (eqb (getD bs 1 0) 61) e in
     let l : 1 < length bs = byte-inside bs 1 61 (eqb-true (getD bs 1 0) 61 (h .1)) (omega arith) in
-    record { fits = (omega arith, omega arith, omega arith, (λ t. absurd t), (λ z. absurd (omega arith)), (λ z. absurd (omega arith))) })
+    record { fits = (omega arith, omega arith, omega arith, (λ t. absurd t), (λ z. absurd (omega arith)), (λ z. absurd (omega arith)), (λ q. absurd (omega arith))) })
     (λ e. omega arith)
 
 dot-fits : (b : ℕ) (bs : List ℕ) → Fit (b ∷ bs) (afterDot bs)
@@ -136,18 +136,18 @@ unfolding afterDot
 dot-fits b bs =
     by-test (b ∷ bs) (eqb (getD bs 0 0) 46)
     (λ e. let l : 0 < length bs = byte-inside bs 0 46 (eqb-true (getD bs 0 0) 46 e) (omega arith) in
-    record { fits = (omega arith, omega arith, omega arith, (λ t. absurd t), (λ z. absurd (omega arith)), (λ z. absurd (omega arith))) })
+    record { fits = (omega arith, omega arith, omega arith, (λ t. absurd t), (λ z. absurd (omega arith)), (λ z. absurd (omega arith)), (λ q. absurd (omega arith))) })
     (λ e. omega arith)
 
-punctuation-fits : (c b : ℕ) (bs : List ℕ) → c < 58 → Fit (b ∷ bs) (punctuation c bs)
+punctuation-fits : (c b : ℕ) (bs : List ℕ) → c < 58 → classOf b ≡ c → Fit (b ∷ bs) (punctuation c bs)
 unfolding punctuation
-punctuation-fits c b bs h =
+punctuation-fits c b bs h is =
     let s = b ∷ bs in
     by-test s (leb 51 c)
     (λ e. let l : 51 ≤ c = leb-true 51 c e in
-    record { fits = (omega arith, omega arith, h, (λ t. omega arith), (λ z. absurd (omega arith)), (λ z. absurd (omega arith))) })
+    record { fits = (omega arith, omega arith, h, (λ t. omega arith), (λ z. absurd (omega arith)), (λ z. absurd (omega arith)), (λ q. absurd (omega arith))) })
     (λ e. by-test s (eqb c 6) (λ q. hyphen-fits b bs)
-    (λ q. by-test s (eqb c 1) (λ r. quoted-fits b bs)
+    (λ q. by-test s (eqb c 1) (λ r. quoted-fits b bs (is ∙ eqb-true c 1 r))
     (λ r. by-test s (eqb c 8) (λ u. colon-fits b bs)
     (λ u. by-test s (eqb c 9) (λ v. dot-fits b bs)
     (λ v. by-test s (eqb c 7) (λ w. hex-fits b bs) (λ w. omega arith))))))
@@ -167,4 +167,4 @@ piece-fits b bs =
     (λ q. name-fits s (starts-span nameByte b bs (simp e))))
     (λ e. by-test s (leb 2 (classOf b) && leb (classOf b) 4)
     (λ q. record { fits = (starts-span blankByte b bs q, span-in blankByte s) })
-    (λ q. punctuation-fits (classOf b) b bs (small-or-mark b (leb-false 60 (classOf b) e))))
+    (λ q. punctuation-fits (classOf b) b bs (small-or-mark b (leb-false 60 (classOf b) e)) refl))

@@ -8,7 +8,7 @@ use Prim.Native.Nat.{ℕ, zero, suc, _+_, _-_, _*_, _%_, _≤_, _<_}
 use native.Mathlib.Decide.{decLt}
 use native.Mathlib.Numerals.{add-one}
 use native.Mathlib.Omega.{arith}
-use lib.Dec.{T, eqb, eqb→eq, ltb}
+use lib.Dec.{T, eqb, eqb→eq, ltb, ltb→lt}
 use lib.ListN.{length, getD, take, drop, length-append, length-take, length-drop}
 use lib.Seq.{drop-cons, take-append-seam, drop-append-seam, drop-append-add, getD-take, length-take-le}
 use borrow.Author.Tests.{eq-eqb, ne-eqb, eqb-true}
@@ -37,6 +37,14 @@ same-refl (x ∷ xs) = simp (eq-eqb x x refl, same-refl xs)
 unfoldable pub slots : List ℕ
 slots =
     7 ∷ 43 ∷ 43 ∷ 43 ∷ 43 ∷ 3 ∷ 43 ∷ 43 ∷ 43 ∷ 43 ∷ 43 ∷ 24 ∷ 43 ∷ 29 ∷ 39 ∷ 43 ∷ 43 ∷ 25 ∷ 43 ∷ 43 ∷ 41 ∷ 43 ∷ 5 ∷ 43 ∷ 15 ∷ 43 ∷ 43 ∷ 42 ∷ 43 ∷ 43 ∷ 43 ∷ 43 ∷ 43 ∷ 43 ∷ 43 ∷ 43 ∷ 38 ∷ 43 ∷ 9 ∷ 43 ∷ 17 ∷ 28 ∷ 2 ∷ 43 ∷ 43 ∷ 26 ∷ 20 ∷ 43 ∷ 43 ∷ 43 ∷ 21 ∷ 43 ∷ 43 ∷ 43 ∷ 43 ∷ 43 ∷ 43 ∷ 1 ∷ 35 ∷ 43 ∷ 14 ∷ 43 ∷ 13 ∷ 43 ∷ 43 ∷ 43 ∷ 43 ∷ 0 ∷ 8 ∷ 43 ∷ 43 ∷ 43 ∷ 43 ∷ 43 ∷ 33 ∷ 31 ∷ 43 ∷ 43 ∷ 43 ∷ 43 ∷ 43 ∷ 10 ∷ 36 ∷ 43 ∷ 12 ∷ 43 ∷ 43 ∷ 43 ∷ 43 ∷ 18 ∷ 43 ∷ 43 ∷ 43 ∷ 43 ∷ 43 ∷ 43 ∷ 43 ∷ 4 ∷ 43 ∷ 32 ∷ 43 ∷ 43 ∷ 22 ∷ 43 ∷ 43 ∷ 6 ∷ 34 ∷ 30 ∷ 11 ∷ 40 ∷ 43 ∷ 43 ∷ 23 ∷ 43 ∷ 43 ∷ 43 ∷ 43 ∷ 16 ∷ 43 ∷ 19 ∷ 43 ∷ 43 ∷ 43 ∷ 43 ∷ 43 ∷ 37 ∷ 27 ∷ 43 ∷ []
+
+-- a slot holds a word, or 43
+some-word : ℕ → ℕ → Bool
+some-word i k = ltb k 44
+
+pub slot-bound : (i : ℕ) → i < 128 → getD slots i 0 < 44
+unfolding some-word slots
+slot-bound i h = ltb→lt (getD slots i 0) 44 (tested some-word 0 slots tt i h)
 
 -- the slot of a spelling
 abbrev pub slotOf : List ℕ → ℕ

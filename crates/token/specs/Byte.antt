@@ -1,9 +1,11 @@
 -- The class of each of the 256 byte values, and what document 01, "Tokens", asks of a byte.
 -- Assumes nothing.
 use mathlib.Core.Bool.{Bool, true, false, cond, not, _&&_, _||_}
+use mathlib.Core.Path.{_≡_}
 use mathlib.Core.List.{List, [], _∷_}
-use Prim.Native.Nat.{ℕ}
+use Prim.Native.Nat.{ℕ, _<_}
 use lib.Dec.{leb, eqb}
+use lib.ListN.{getD}
 use Rattle.terminal.specs.Terminal.{left-brace, right-brace, left-paren, right-paren, comma, semicolon, bar}
 
 -- The classes are numbered so that what a test asks for stands side by side. A mark of one byte has its token's number.
@@ -113,6 +115,10 @@ classIn (r ∷ rs) b = cond (leb (r .from) b && leb b (r .to)) (r .class) (class
 -- the class of the byte b
 unfoldable pub classOf : ℕ → ℕ
 classOf b = classIn rows b
+
+-- a table of 256 entries gives each byte value its class
+pub record ClassTable (table : List ℕ) : Type 0 where
+  pub gives : (b : ℕ) → b < 256 → getD table b 0 ≡ classOf b
 
 -- What stands in a token or a gap depends on a byte b and on the byte after it, `next`, which is 0 at the text's end.
 

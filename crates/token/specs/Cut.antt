@@ -24,6 +24,24 @@ pub data Piece : Type 0 where
   -- no token: the refusal's number, and how many bytes after this place the refusal's place is
   refusal : ℕ → ℕ → Piece
 
+-- The refusals' numbers.
+
+-- no token starts here
+abbrev pub noToken : ℕ
+noToken = 3
+
+-- forbidden byte in a text
+abbrev pub forbidden : ℕ
+forbidden = 4
+
+-- name over 64 bytes
+abbrev pub longName : ℕ
+longName = 5
+
+-- number out of range
+abbrev pub outOfRange : ℕ
+outOfRange = 6
+
 -- The largest name, in bytes; the largest number; the largest magnitude of a negative number.
 
 abbrev pub longestName : ℕ
@@ -38,7 +56,7 @@ largestNegative = 2147483648
 -- at a letter: a name, as long as may be
 unfoldable pub name : List ℕ → Piece
 name s =
-    cond (leb (span nameByte s) longestName) (token (nameClass (take (span nameByte s) s)) (span nameByte s)) (refusal 5 0)
+    cond (leb (span nameByte s) longestName) (token (nameClass (take (span nameByte s) s)) (span nameByte s)) (refusal longName 0)
 
 -- a run of n digits at the start of s is none of a number: it starts with 0 and has more digits, or a letter follows it
 -- (another digit doesn't: the run is as long as may be)
@@ -49,15 +67,15 @@ misfit s =
 -- at a digit: a number that is not negative
 unfoldable pub nonNegative : List ℕ → Piece
 nonNegative s =
-    cond (misfit s) (refusal 3 0)
-    (cond (leb (decimal (take (span digitByte s) s)) largestNumber) (token number (span digitByte s)) (refusal 6 0))
+    cond (misfit s) (refusal noToken 0)
+    (cond (leb (decimal (take (span digitByte s) s)) largestNumber) (token number (span digitByte s)) (refusal outOfRange 0))
 
 -- at a hyphen, before the digits s: a negative number, which doesn't start with 0
 unfoldable pub belowZero : List ℕ → Piece
 belowZero s =
-    cond (eqb (getD s 0 0) 48 || misfit s) (refusal 3 0)
+    cond (eqb (getD s 0 0) 48 || misfit s) (refusal noToken 0)
     (cond (leb (decimal (take (span digitByte s) s)) largestNegative) (token negative (suc (span digitByte s)))
-    (refusal 6 0))
+    (refusal outOfRange 0))
 
 -- what ends a comment before s is part of it if it is two hyphens
 abbrev pub closing : List ℕ → ℕ
@@ -71,14 +89,14 @@ comment s = gap (2 + span commentByte s + closing (drop (span commentByte s) s))
 unfoldable pub afterHyphen : List ℕ → Piece
 afterHyphen s =
     cond (eqb (classOf (getD s 0 0)) hyphen) (comment (drop 1 s))
-    (cond (eqb (classOf (getD s 0 0)) digit) (belowZero s) (refusal 3 0))
+    (cond (eqb (classOf (getD s 0 0)) digit) (belowZero s) (refusal noToken 0))
 
 -- at a quote, before s, where n bytes may stand in a text: what comes next is the end quote, the end of the whole text, or a
 -- forbidden byte
 abbrev pub textEnd : List ℕ → ℕ → Piece
 textEnd s n =
-    cond (leb (length s) n) (refusal 3 0)
-    (cond (eqb (classOf (getD s n 0)) quote) (token text (n + 2)) (refusal 4 (n + 1)))
+    cond (leb (length s) n) (refusal noToken 0)
+    (cond (eqb (classOf (getD s n 0)) quote) (token text (n + 2)) (refusal forbidden (n + 1)))
 
 -- at a quote, before s: a text
 unfoldable pub quoted : List ℕ → Piece
@@ -89,15 +107,15 @@ unfoldable pub hexString : List ℕ → Piece
 hexString s =
     cond (eqb (classOf (getD s (span hexByte s) 0)) apostrophe && eqb (getD s (span hexByte s + 1) 0) 72)
     (token hex (span hexByte s + 3))
-    (refusal 3 0)
+    (refusal noToken 0)
 
 -- at a colon, before s: `::=`, whose other bytes are a colon (58) and an equals sign (61)
 unfoldable pub afterColon : List ℕ → Piece
-afterColon s = cond (eqb (getD s 0 0) 58 && eqb (getD s 1 0) 61) (token assign 3) (refusal 3 0)
+afterColon s = cond (eqb (getD s 0 0) 58 && eqb (getD s 1 0) 61) (token assign 3) (refusal noToken 0)
 
 -- at a dot, before s: `..` (a dot is 46)
 unfoldable pub afterDot : List ℕ → Piece
-afterDot s = cond (eqb (getD s 0 0) 46) (token dots 2) (refusal 3 0)
+afterDot s = cond (eqb (getD s 0 0) 46) (token dots 2) (refusal noToken 0)
 
 -- at a byte of the class c, which is no letter and no digit, before s
 unfoldable pub punctuation : ℕ → List ℕ → Piece
@@ -105,7 +123,7 @@ punctuation c s =
     cond (leb left-brace c) (token c 1)
     (cond (eqb c hyphen) (afterHyphen s)
     (cond (eqb c quote) (quoted s)
-    (cond (eqb c colon) (afterColon s) (cond (eqb c dot) (afterDot s) (cond (eqb c apostrophe) (hexString s) (refusal 3 0))))))
+    (cond (eqb c colon) (afterColon s) (cond (eqb c dot) (afterDot s) (cond (eqb c apostrophe) (hexString s) (refusal noToken 0))))))
 
 -- what the text holds where s is left of it, s not empty, by the class of its first byte: a number, a name, blanks, or
 -- something else

@@ -10,6 +10,7 @@ mod scan;
 pub mod value;
 mod word;
 
+use crate::byte::CLASSES;
 use crate::piece::Found;
 use crate::piece::GAP;
 use crate::piece::piece_at;
@@ -44,10 +45,11 @@ pub fn cut(
     requires { ⌜ (length (now text) ≤ 65536) × (length (now classes) ≡ 65536) × (length (now starts) ≡ 65536) × (length (now ends) ≡ 65536) ⌝ }
     ensures { λ r. ⌜ Held (now (text .entry)) r (now (classes .entry)) (now (starts .entry)) (now (ends .entry)) (now (classes .exit)) (now (starts .exit)) (now (ends .exit)) ⌝ }
 {
+    let table = CLASSES;
     let mut at = 0;
     let mut n = 0;
     while at < text.len() {
-        let found = piece_at(text, at);
+        let found = piece_at(&table, text, at);
         let Found::Piece(class, end) = found else {
             return refusal(found);
         };

@@ -2,7 +2,7 @@
 ghost use mathlib.Core.Path.{_≡_};
 ghost use Prim.Native.Nat.{_+_, _≤_, _<_};
 ghost use lib.ListN.{length, getD, drop};
-ghost use Rattle.token.specs.Byte.{digitByte, nameByte};
+ghost use Rattle.token.specs.Byte.{ClassTable, digitByte, nameByte};
 ghost use Rattle.token.specs.Cut.{span, name, misfit, nonNegative, belowZero, comment, afterHyphen, quoted, hexString, afterColon, afterDot, punctuation, piece};
 ghost use Rattle.token.specs.Table.{foundAt};
 use crate::Place;
@@ -31,6 +31,22 @@ use crate::word::name_class;
 // The class that a gap has: no terminal's.
 pub const GAP: u8 = 58;
 
+// The refusals' numbers: no token starts here; forbidden byte in a text; name over 64 bytes; number out of range.
+const NO_TOKEN: u8 = 3;
+
+const FORBIDDEN: u8 = 4;
+
+const LONG_NAME: u8 = 5;
+
+const OUT_OF_RANGE: u8 = 6;
+
+// The largest name, in bytes; the largest number; the largest magnitude of a negative number.
+const LONGEST_NAME: usize = 64;
+
+const LARGEST_NUMBER: u64 = 4294967295;
+
+const LARGEST_NEGATIVE: u64 = 2147483648;
+
 // What stands at a place: a token or a gap, with its class and its end; or the refusal's number and place.
 pub enum Found {
     Piece(u8, usize),
@@ -38,20 +54,20 @@ pub enum Found {
 }
 
 // At a letter: a name.
-fn name_at(text: &[u8], at: usize) -> Found
-    requires { ⌜ (at < length (now text)) × (1 ≤ span nameByte (drop at (now text))) ⌝ }
+fn name_at(table: &[u8; 256], text: &[u8], at: usize) -> Found
+    requires { ⌜ (at < length (now text)) × (1 ≤ span nameByte (drop at (now text))) × ClassTable (now table) ⌝ }
     ensures { λ r. ⌜ r ≡ foundAt at (name (drop at (now (text .entry)))) ⌝ }
 {
-    let end = name_end(text, at);
-    if 64 < end - at {
-        return Found::Refused(5, Place(at));
+    let end = name_end(table, text, at);
+    if LONGEST_NAME < end - at {
+        return Found::Refused(LONG_NAME, Place(at));
     }
-    Found::Piece(name_class(text, at, end), end)
+    Found::Piece(name_class(table, text, at, end), end)
 }
 
 // Whether the run of digits from at to end is none of a number, because it starts with 0 and goes on or a letter follows.
-fn is_misfit(text: &[u8], at: usize, end: usize) -> bool
-    requires { ⌜ end ≡ at + span digitByte (drop at (now text)) ⌝ }
+fn is_misfit(table: &[u8; 256], text: &[u8], at: usize, end: usize) -> bool
+    requires { ⌜ (end ≡ at + span digitByte (drop at (now text))) × ClassTable (now table) ⌝ }
     ensures { λ r. ⌜ r ≡ misfit (drop at (now (text .entry))) ⌝ }
 {
     if byte_at(text, at) == b'0' {
@@ -59,52 +75,52 @@ fn is_misfit(text: &[u8], at: usize, end: usize) -> bool
             return true;
         }
     }
-    SMALL <= class_at(text, end)
+    SMALL <= class_at(table, text, end)
 }
 
 // At a digit: a number that is not negative.
-fn number_at(text: &[u8], at: usize) -> Found
-    requires { ⌜ at < length (now text) ⌝ }
+fn number_at(table: &[u8; 256], text: &[u8], at: usize) -> Found
+    requires { ⌜ (at < length (now text)) × ClassTable (now table) ⌝ }
     ensures { λ r. ⌜ r ≡ foundAt at (nonNegative (drop at (now (text .entry)))) ⌝ }
 {
-    let run = digit_run(text, at);
+    let run = digit_run(table, text, at);
     let end = run.end;
-    if is_misfit(text, at, end) {
-        return Found::Refused(3, Place(at));
+    if is_misfit(table, text, at, end) {
+        return Found::Refused(NO_TOKEN, Place(at));
     }
-    if 4294967295 < run.value {
-        return Found::Refused(6, Place(at));
+    if LARGEST_NUMBER < run.value {
+        return Found::Refused(OUT_OF_RANGE, Place(at));
     }
     Found::Piece(terminal::NUMBER, end)
 }
 
 // At a hyphen before a digit: a negative number.
-fn negative_at(text: &[u8], at: usize) -> Found
-    requires { ⌜ at < length (now text) ⌝ }
+fn negative_at(table: &[u8; 256], text: &[u8], at: usize) -> Found
+    requires { ⌜ (at < length (now text)) × ClassTable (now table) ⌝ }
     ensures { λ r. ⌜ r ≡ foundAt at (belowZero (drop (at + 1) (now (text .entry)))) ⌝ }
 {
-    let run = digit_run(text, at + 1);
+    let run = digit_run(table, text, at + 1);
     let end = run.end;
     if byte_at(text, at + 1) == b'0' {
-        return Found::Refused(3, Place(at));
+        return Found::Refused(NO_TOKEN, Place(at));
     }
-    if is_misfit(text, at + 1, end) {
-        return Found::Refused(3, Place(at));
+    if is_misfit(table, text, at + 1, end) {
+        return Found::Refused(NO_TOKEN, Place(at));
     }
-    if 2147483648 < run.value {
-        return Found::Refused(6, Place(at));
+    if LARGEST_NEGATIVE < run.value {
+        return Found::Refused(OUT_OF_RANGE, Place(at));
     }
     Found::Piece(terminal::NEGATIVE, end)
 }
 
 // At two hyphens: a comment.
-fn comment_at(text: &[u8], at: usize) -> Found
-    requires { ⌜ at + 2 ≤ length (now text) ⌝ }
+fn comment_at(table: &[u8; 256], text: &[u8], at: usize) -> Found
+    requires { ⌜ (at + 2 ≤ length (now text)) × ClassTable (now table) ⌝ }
     ensures { λ r. ⌜ r ≡ foundAt at (comment (drop (at + 2) (now (text .entry)))) ⌝ }
 {
-    let end = comment_end(text, at + 2);
-    if class_at(text, end) == HYPHEN {
-        if class_at(text, end + 1) == HYPHEN {
+    let end = comment_end(table, text, at + 2);
+    if class_at(table, text, end) == HYPHEN {
+        if class_at(table, text, end + 1) == HYPHEN {
             return Found::Piece(GAP, end + 2);
         }
     }
@@ -112,47 +128,47 @@ fn comment_at(text: &[u8], at: usize) -> Found
 }
 
 // At a hyphen: a comment, a negative number, or no token.
-fn hyphen_at(text: &[u8], at: usize) -> Found
-    requires { ⌜ at < length (now text) ⌝ }
+fn hyphen_at(table: &[u8; 256], text: &[u8], at: usize) -> Found
+    requires { ⌜ (at < length (now text)) × ClassTable (now table) ⌝ }
     ensures { λ r. ⌜ r ≡ foundAt at (afterHyphen (drop (at + 1) (now (text .entry)))) ⌝ }
 {
-    let class = class_at(text, at + 1);
+    let class = class_at(table, text, at + 1);
     if class == HYPHEN {
-        return comment_at(text, at);
+        return comment_at(table, text, at);
     }
     if class == DIGIT {
-        return negative_at(text, at);
+        return negative_at(table, text, at);
     }
-    Found::Refused(3, Place(at))
+    Found::Refused(NO_TOKEN, Place(at))
 }
 
 // At a quote: a text; a forbidden byte in it is refused there, and a missing end quote at the quote.
-fn text_at(text: &[u8], at: usize) -> Found
-    requires { ⌜ at < length (now text) ⌝ }
+fn text_at(table: &[u8; 256], text: &[u8], at: usize) -> Found
+    requires { ⌜ (at < length (now text)) × ClassTable (now table) ⌝ }
     ensures { λ r. ⌜ r ≡ foundAt at (quoted (drop (at + 1) (now (text .entry)))) ⌝ }
 {
-    let end = run_end(text, at + 1, NEWLINE, CAPITAL);
+    let end = run_end(table, text, at + 1, NEWLINE, CAPITAL);
     if text.len() <= end {
-        return Found::Refused(3, Place(at));
+        return Found::Refused(NO_TOKEN, Place(at));
     }
-    if class_of(text[end]) == QUOTE {
+    if class_of(table, text[end]) == QUOTE {
         return Found::Piece(terminal::TEXT, end + 1);
     }
-    Found::Refused(4, Place(end))
+    Found::Refused(FORBIDDEN, Place(end))
 }
 
 // At an apostrophe: a hex string, or no token.
-fn hex_at(text: &[u8], at: usize) -> Found
-    requires { ⌜ at < length (now text) ⌝ }
+fn hex_at(table: &[u8; 256], text: &[u8], at: usize) -> Found
+    requires { ⌜ (at < length (now text)) × ClassTable (now table) ⌝ }
     ensures { λ r. ⌜ r ≡ foundAt at (hexString (drop (at + 1) (now (text .entry)))) ⌝ }
 {
-    let end = run_end(text, at + 1, SMALL_HEX, CAPITAL_HEX);
-    if class_at(text, end) == APOSTROPHE {
+    let end = run_end(table, text, at + 1, SMALL_HEX, CAPITAL_HEX);
+    if class_at(table, text, end) == APOSTROPHE {
         if byte_at(text, end + 1) == b'H' {
             return Found::Piece(terminal::HEX, end + 2);
         }
     }
-    Found::Refused(3, Place(at))
+    Found::Refused(NO_TOKEN, Place(at))
 }
 
 // At a colon: `::=`, or no token.
@@ -165,7 +181,7 @@ fn colon_at(text: &[u8], at: usize) -> Found
             return Found::Piece(terminal::ASSIGN, at + 3);
         }
     }
-    Found::Refused(3, Place(at))
+    Found::Refused(NO_TOKEN, Place(at))
 }
 
 // At a dot: `..`, or no token.
@@ -176,22 +192,22 @@ fn dot_at(text: &[u8], at: usize) -> Found
     if byte_at(text, at + 1) == b'.' {
         return Found::Piece(terminal::DOTS, at + 2);
     }
-    Found::Refused(3, Place(at))
+    Found::Refused(NO_TOKEN, Place(at))
 }
 
 // At a byte of this class, which is no blank, no letter and no digit.
-fn punctuation_at(text: &[u8], at: usize, class: u8) -> Found
-    requires { ⌜ at < length (now text) ⌝ }
+fn punctuation_at(table: &[u8; 256], text: &[u8], at: usize, class: u8) -> Found
+    requires { ⌜ (at < length (now text)) × ClassTable (now table) ⌝ }
     ensures { λ r. ⌜ r ≡ foundAt at (punctuation class (drop (at + 1) (now (text .entry)))) ⌝ }
 {
     if terminal::LEFT_BRACE <= class {
         return Found::Piece(class, at + 1);
     }
     if class == HYPHEN {
-        return hyphen_at(text, at);
+        return hyphen_at(table, text, at);
     }
     if class == QUOTE {
-        return text_at(text, at);
+        return text_at(table, text, at);
     }
     if class == COLON {
         return colon_at(text, at);
@@ -200,27 +216,27 @@ fn punctuation_at(text: &[u8], at: usize, class: u8) -> Found
         return dot_at(text, at);
     }
     if class == APOSTROPHE {
-        return hex_at(text, at);
+        return hex_at(table, text, at);
     }
-    Found::Refused(3, Place(at))
+    Found::Refused(NO_TOKEN, Place(at))
 }
 
 // What the text holds at a place before its end.
-pub fn piece_at(text: &[u8], at: usize) -> Found
-    requires { ⌜ at < length (now text) ⌝ }
+pub fn piece_at(table: &[u8; 256], text: &[u8], at: usize) -> Found
+    requires { ⌜ (at < length (now text)) × ClassTable (now table) ⌝ }
     ensures { λ r. ⌜ r ≡ foundAt at (piece (drop at (now (text .entry)))) ⌝ }
 {
-    let class = class_of(text[at]);
+    let class = class_of(table, text[at]);
     if SMALL <= class {
         if class == DIGIT {
-            return number_at(text, at);
+            return number_at(table, text, at);
         }
-        return name_at(text, at);
+        return name_at(table, text, at);
     }
     if FEED <= class {
         if class <= SPACE {
-            return Found::Piece(GAP, run_end(text, at, FEED, SPACE));
+            return Found::Piece(GAP, run_end(table, text, at, FEED, SPACE));
         }
     }
-    punctuation_at(text, at, class)
+    punctuation_at(table, text, at, class)
 }

@@ -3,7 +3,7 @@
 ghost use mathlib.Core.Path.{_≡_};
 ghost use Prim.Native.Nat.{_+_, _-_, _*_, _≤_, _<_, min};
 ghost use lib.ListN.{length, getD, take, drop};
-ghost use Rattle.token.specs.Byte.{classOf, classed, digitByte, nameByte, commentByte};
+ghost use Rattle.token.specs.Byte.{ClassTable, classOf, classed, digitByte, nameByte, commentByte};
 ghost use Rattle.token.specs.Token.{decimal};
 ghost use Rattle.token.specs.Cut.{span};
 use crate::byte::DIGIT;
@@ -23,18 +23,19 @@ pub fn byte_at(text: &[u8], at: usize) -> u8
 }
 
 // The class of the byte at a place of the text; at its end that of byte 0, which no token and no gap has.
-pub fn class_at(text: &[u8], at: usize) -> u8
+pub fn class_at(table: &[u8; 256], text: &[u8], at: usize) -> u8
+    requires { ⌜ ClassTable (now table) ⌝ }
     ensures { λ r. ⌜ r ≡ classOf (getD (now (text .entry)) at 0) ⌝ }
 {
-    class_of(byte_at(text, at))
+    class_of(table, byte_at(text, at))
 }
 
 // Whether the byte's class lies from low to high.
-fn in_run(text: &[u8], at: usize, low: u8, high: u8) -> bool
-    requires { ⌜ at < length (now text) ⌝ }
+fn in_run(table: &[u8; 256], text: &[u8], at: usize, low: u8, high: u8) -> bool
+    requires { ⌜ (at < length (now text)) × ClassTable (now table) ⌝ }
     ensures { λ r. ⌜ r ≡ classed low high (getD (now (text .entry)) at 0) (getD (now (text .entry)) (at + 1) 0) ⌝ }
 {
-    let class = class_of(text[at]);
+    let class = class_of(table, text[at]);
     if low <= class {
         return class <= high;
     }
@@ -42,13 +43,13 @@ fn in_run(text: &[u8], at: usize, low: u8, high: u8) -> bool
 }
 
 // The end of the run of bytes with classes from low to high.
-pub fn run_end(text: &[u8], at: usize, low: u8, high: u8) -> usize
-    requires { ⌜ at ≤ length (now text) ⌝ }
+pub fn run_end(table: &[u8; 256], text: &[u8], at: usize, low: u8, high: u8) -> usize
+    requires { ⌜ (at ≤ length (now text)) × ClassTable (now table) ⌝ }
     ensures { λ r. ⌜ r ≡ at + span (classed low high) (drop at (now (text .entry))) ⌝ }
 {
     let mut i = at;
     while i < text.len() {
-        if in_run(text, i, low, high) {
+        if in_run(table, text, i, low, high) {
             i += 1;
         } else {
             return i;
@@ -58,28 +59,28 @@ pub fn run_end(text: &[u8], at: usize, low: u8, high: u8) -> usize
 }
 
 // Whether the byte is a letter, a digit, or a hyphen that a letter or digit follows.
-fn in_name(text: &[u8], at: usize) -> bool
-    requires { ⌜ at < length (now text) ⌝ }
+fn in_name(table: &[u8; 256], text: &[u8], at: usize) -> bool
+    requires { ⌜ (at < length (now text)) × ClassTable (now table) ⌝ }
     ensures { λ r. ⌜ r ≡ nameByte (getD (now (text .entry)) at 0) (getD (now (text .entry)) (at + 1) 0) ⌝ }
 {
-    let class = class_of(text[at]);
+    let class = class_of(table, text[at]);
     if SMALL <= class {
         return true;
     }
     if class == HYPHEN {
-        return SMALL <= class_at(text, at + 1);
+        return SMALL <= class_at(table, text, at + 1);
     }
     false
 }
 
 // The end of the run of letters, digits, and hyphens that a letter or digit follows.
-pub fn name_end(text: &[u8], at: usize) -> usize
-    requires { ⌜ at ≤ length (now text) ⌝ }
+pub fn name_end(table: &[u8; 256], text: &[u8], at: usize) -> usize
+    requires { ⌜ (at ≤ length (now text)) × ClassTable (now table) ⌝ }
     ensures { λ r. ⌜ r ≡ at + span nameByte (drop at (now (text .entry))) ⌝ }
 {
     let mut i = at;
     while i < text.len() {
-        if in_name(text, i) {
+        if in_name(table, text, i) {
             i += 1;
         } else {
             return i;
@@ -89,16 +90,16 @@ pub fn name_end(text: &[u8], at: usize) -> usize
 }
 
 // Whether the byte doesn't end a comment: it is not 10 or 13, and not the first of two hyphens.
-fn in_comment(text: &[u8], at: usize) -> bool
-    requires { ⌜ at < length (now text) ⌝ }
+fn in_comment(table: &[u8; 256], text: &[u8], at: usize) -> bool
+    requires { ⌜ (at < length (now text)) × ClassTable (now table) ⌝ }
     ensures { λ r. ⌜ r ≡ commentByte (getD (now (text .entry)) at 0) (getD (now (text .entry)) (at + 1) 0) ⌝ }
 {
-    let class = class_of(text[at]);
+    let class = class_of(table, text[at]);
     if class == NEWLINE {
         return false;
     }
     if class == HYPHEN {
-        if class_at(text, at + 1) == HYPHEN {
+        if class_at(table, text, at + 1) == HYPHEN {
             return false;
         }
         return true;
@@ -107,13 +108,13 @@ fn in_comment(text: &[u8], at: usize) -> bool
 }
 
 // The place of what ends a comment: the first of two hyphens, byte 10 or 13, or the end of the text.
-pub fn comment_end(text: &[u8], at: usize) -> usize
-    requires { ⌜ at ≤ length (now text) ⌝ }
+pub fn comment_end(table: &[u8; 256], text: &[u8], at: usize) -> usize
+    requires { ⌜ (at ≤ length (now text)) × ClassTable (now table) ⌝ }
     ensures { λ r. ⌜ r ≡ at + span commentByte (drop at (now (text .entry))) ⌝ }
 {
     let mut i = at;
     while i < text.len() {
-        if in_comment(text, i) {
+        if in_comment(table, text, i) {
             i += 1;
         } else {
             return i;
@@ -122,7 +123,10 @@ pub fn comment_end(text: &[u8], at: usize) -> usize
     i
 }
 
-// A run of digits: its end and its value, or 4294967296 where the value is larger.
+// One more than the largest number: what stands for every larger value.
+const TOO_LARGE: u64 = 4294967296;
+
+// A run of digits: its end, and its value or TOO_LARGE.
 pub struct Digits {
     pub end: usize,
     pub value: u64,
@@ -138,28 +142,28 @@ fn digit_value(byte: u8) -> u64
     (byte - b'0') as u64
 }
 
-// The value of digits with one digit more, or 4294967296 where it is larger.
+// The value of digits with one digit more, or TOO_LARGE.
 pub fn more(value: u64, byte: u8) -> u64
     requires { ⌜ value ≤ 4294967296 ⌝ }
     ensures { λ r. ⌜ r ≡ min (10 * value + (byte - 48)) 4294967296 ⌝ }
 {
     let next = 10 * value + digit_value(byte);
-    if next < 4294967296 {
+    if next < TOO_LARGE {
         return next;
     }
-    4294967296
+    TOO_LARGE
 }
 
 // The run of digits.
-pub fn digit_run(text: &[u8], at: usize) -> Digits
-    requires { ⌜ at ≤ length (now text) ⌝ }
+pub fn digit_run(table: &[u8; 256], text: &[u8], at: usize) -> Digits
+    requires { ⌜ (at ≤ length (now text)) × ClassTable (now table) ⌝ }
     ensures { λ r. ⌜ (r .end ≡ at + span digitByte (drop at (now (text .entry)))) × (r .value ≡ min (decimal (take (r .end - at) (drop at (now (text .entry))))) 4294967296) ⌝ }
 {
     let mut i = at;
     let mut value = 0;
     while i < text.len() {
         let byte = text[i];
-        if class_of(byte) == DIGIT {
+        if class_of(table, byte) == DIGIT {
             value = more(value, byte);
             i += 1;
         } else {

@@ -1,16 +1,14 @@
--- `class_of` is right because the rule of its table is tested at each of the 256 entries, and a byte is one of them.
+-- `class_of` is right because the table's rule is what it requires, and a byte is one of the 256 entries.
 -- Assumes nothing.
 use borrow.Author.Needs.{needs}
-use Rattle.token.proofs.Bytes.{byteClasses, entry-class}
 use Rattle.token.proofs.byte.class_of.Statement.{statement}
 use Rattle.token.proofs.byte.class_of.Tie as tie
 
-array-read-result : tie.Need-array-read-result
-array-read-result c = search needs
+element-copy-out-result : tie.Need-element-copy-out-result
+element-copy-out-result c = search needs
 
 returns : tie.Need-returns
-unfolding byteClasses
-returns c = entry-class (c .args .b) (search needs)
+returns c = c .before .pre .gives (c .before .args .b) (search needs)
 
 pub class-of-spec : {M : Type 1} → statement M
-class-of-spec = tie.close (tie.spec array-read-result returns)
+class-of-spec = tie.close (tie.spec element-copy-out-result returns)

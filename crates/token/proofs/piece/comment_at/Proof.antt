@@ -32,8 +32,8 @@ add-class-at c =
 class-at-requires-2 : tie.Need-class-at-requires-2
 class-at-requires-2 c κs = search needs
 
-add-t10 : tie.Need-add-t10
-add-t10 c =
+add-t11 : tie.Need-add-t11
+add-t11 c =
     let s = c .before .before .before .before .before .before in
     let t = s .args .text .now in
     let at = s .args .at in
@@ -81,7 +81,7 @@ comment-at-spec =
     class-at-requires
     add-class-at
     class-at-requires-2
-    add-t10
+    add-t11
     returns
     returns-2
     returns-3)

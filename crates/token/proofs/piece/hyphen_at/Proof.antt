@@ -25,7 +25,7 @@ comment-at-requires c κs =
     let s = c .before .before .before in
     let t = s .args .text .now in
     let at = s .args .at in
-    omega (arith, inside t (at + 1) 6 (sym (c .before .class-at .ensures) ∙ c .if1 .taken) (omega arith))
+    (omega (arith, inside t (at + 1) 6 (sym (c .before .class-at .ensures) ∙ c .if1 .taken) (omega arith)), s .pre .1)
 
 returns : tie.Need-returns
 unfolding afterHyphen

@@ -38,7 +38,7 @@ returns-2 c =
     let at = s .args .at in
     let n = span digitByte (drop at t) in
     let letter : classOf (getD (drop at t) n 0) ≡ c .class-at .result =
-    class-there t at n (s .args .end) (sym (s .pre)) (c .class-at .ensures) in
+    class-there t at n (s .args .end) (sym (s .pre .0)) (c .class-at .ensures) in
     ⊎-elim
     (λ w. simp (byte-is t at 0 at (omega arith) (c .before .before .byte-at .ensures) (w .0 .taken), le-ltb 1 n (omega (arith, w .1 .left)), letter))
     (λ w. simp (byte-not t at 0 at (omega arith) (c .before .before .byte-at .ensures) (w .left), letter))

@@ -35,7 +35,8 @@ name-class-requires c κs =
     let s = c .before .before .before in
     let t = s .args .text .now in
     let at = s .args .at in
-    omega (arith, c .before .name-end .ensures, span-end-in nameByte t at (omega arith), s .pre .1)
+    let end = span-end-in nameByte t at (omega arith) in
+    (omega (arith, c .before .name-end .ensures, s .pre .1), omega (arith, c .before .name-end .ensures), omega arith, s .pre .2)
 
 returns-2 : tie.Need-returns-2
 unfolding name

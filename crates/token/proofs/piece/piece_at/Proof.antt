@@ -40,7 +40,7 @@ name-at-requires c κs =
     let at = s .args .at in
     let in-name : nameByte (getD t at 0) (getD t (at + 1) 0) ≡ true =
     rw (← c .before .before .class-of .ensures) (simp (le-leb _ _ (c .before .if1 .taken))) in
-    (s .pre, omega (arith, span-more nameByte t at (s .pre) in-name))
+    (s .pre .0, omega (arith, span-more nameByte t at (s .pre .0) in-name), s .pre .1)
 
 returns-2 : tie.Need-returns-2
 unfolding piece

@@ -7,8 +7,8 @@ use borrow.Author.Needs.{needs}
 use Rattle.token.proofs.piece.punctuation_at.Statement.{statement}
 use Rattle.token.proofs.piece.punctuation_at.Tie as tie
 
-add-t5 : tie.Need-add-t5
-add-t5 c = search needs
+add-t6 : tie.Need-add-t6
+add-t6 c = search needs
 
 returns : tie.Need-returns
 unfolding punctuation
@@ -64,7 +64,7 @@ pub punctuation-at-spec : {M : Type 1} → statement M
 punctuation-at-spec =
     tie.close
     (tie.spec
-    add-t5
+    add-t6
     returns
     hyphen-at-requires
     returns-2

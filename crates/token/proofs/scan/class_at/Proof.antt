@@ -5,10 +5,6 @@ use Rattle.token.specs.Byte.{classOf}
 use borrow.Author.Needs.{needs}
 use Rattle.token.proofs.scan.class_at.Statement.{statement}
 use Rattle.token.proofs.scan.class_at.Tie as tie
-use Rattle.token.proofs.scan.class_at.Reads as reads
-use Rattle.token.proofs.scan.class_at.Lts as lts
-use Rattle.token.proofs.byte.class_of.Reads as class-of-reads
-use Rattle.token.proofs.scan.byte_at.Reads as byte-at-reads
 
 byte-at-requires : tie.Need-byte-at-requires
 byte-at-requires c κs = search needs

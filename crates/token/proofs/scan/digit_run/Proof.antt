@@ -4,6 +4,7 @@
 use mathlib.Core.Path.{_≡_, sym, _∙_}
 use Prim.Native.Nat.{_+_, _-_, min}
 use native.Mathlib.Omega.{arith}
+use borrow.Author.Needs.{needs}
 use lib.ListN.{length, getD, take, drop}
 use Rattle.token.specs.Byte.{digitByte}
 use Rattle.token.specs.Token.{decimal}
@@ -14,11 +15,11 @@ use Rattle.token.proofs.scan.digit_run.Statement.{statement}
 use Rattle.token.proofs.scan.digit_run.Tie as tie
 
 abbrev Inv-loop : tie.InvT-loop
-Inv-loop text at i₀ value₀ i value =
+Inv-loop table text at i₀ value₀ i value =
     (Reached digitByte text at i) × (value ≡ min (decimal (take (i - at) (drop at text))) 4294967296)
 
 abbrev μ-loop : tie.MeasureT-loop
-μ-loop text at i₀ value₀ i value = length text - i
+μ-loop table text at i₀ value₀ i value = length text - i
 
 loop-holds : tie.Need-loop-holds Inv-loop μ-loop
 loop-holds c = (omega arith, capped-none (c .before .args .text .now) (c .before .args .at))
@@ -27,7 +28,7 @@ shared-slice-read-byte : tie.Need-shared-slice-read-byte Inv-loop μ-loop
 shared-slice-read-byte c = omega arith
 
 class-of-requires : tie.Need-class-of-requires Inv-loop μ-loop
-class-of-requires c κs = tt
+class-of-requires c κs = search needs
 
 returns : tie.Need-returns Inv-loop μ-loop
 returns c =

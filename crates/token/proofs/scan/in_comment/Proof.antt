@@ -4,10 +4,6 @@ use borrow.Author.Tests.{le-leb, lt-leb, eq-eqb, ne-eqb}
 use borrow.Author.Needs.{needs}
 use Rattle.token.proofs.scan.in_comment.Statement.{statement}
 use Rattle.token.proofs.scan.in_comment.Tie as tie
-use Rattle.token.proofs.scan.in_comment.Reads as reads
-use Rattle.token.proofs.scan.in_comment.Lts as lts
-use Rattle.token.proofs.byte.class_of.Reads as class-of-reads
-use Rattle.token.proofs.scan.class_at.Reads as class-at-reads
 
 shared-slice-read-class-of : tie.Need-shared-slice-read-class-of
 shared-slice-read-class-of c = search needs

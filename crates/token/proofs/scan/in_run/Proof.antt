@@ -4,9 +4,6 @@ use borrow.Author.Tests.{le-leb, lt-leb, eq-eqb, ne-eqb}
 use borrow.Author.Needs.{needs}
 use Rattle.token.proofs.scan.in_run.Statement.{statement}
 use Rattle.token.proofs.scan.in_run.Tie as tie
-use Rattle.token.proofs.scan.in_run.Reads as reads
-use Rattle.token.proofs.scan.in_run.Lts as lts
-use Rattle.token.proofs.byte.class_of.Reads as class-of-reads
 
 shared-slice-read-class-of : tie.Need-shared-slice-read-class-of
 shared-slice-read-class-of c = search needs

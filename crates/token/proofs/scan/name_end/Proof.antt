@@ -12,16 +12,16 @@ use Rattle.token.proofs.scan.name_end.Statement.{statement}
 use Rattle.token.proofs.scan.name_end.Tie as tie
 
 abbrev Inv-loop : tie.InvT-loop
-Inv-loop text at i₀ i = Reached nameByte text at i
+Inv-loop table text at i₀ i = Reached nameByte text at i
 
 abbrev μ-loop : tie.MeasureT-loop
-μ-loop text at i₀ i = length text - i
+μ-loop table text at i₀ i = length text - i
 
 loop-holds : tie.Need-loop-holds Inv-loop μ-loop
 loop-holds c = omega arith
 
 in-name-requires : tie.Need-in-name-requires Inv-loop μ-loop
-in-name-requires c κs = omega arith
+in-name-requires c κs = (omega arith, c .before .before .before .pre .1)
 
 add-i : tie.Need-add-i Inv-loop μ-loop
 add-i c = omega arith

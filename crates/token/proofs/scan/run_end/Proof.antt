@@ -12,16 +12,16 @@ use Rattle.token.proofs.scan.run_end.Statement.{statement}
 use Rattle.token.proofs.scan.run_end.Tie as tie
 
 abbrev Inv-loop : tie.InvT-loop
-Inv-loop text at low high i₀ i = Reached (classed low high) text at i
+Inv-loop table text at low high i₀ i = Reached (classed low high) text at i
 
 abbrev μ-loop : tie.MeasureT-loop
-μ-loop text at low high i₀ i = length text - i
+μ-loop table text at low high i₀ i = length text - i
 
 loop-holds : tie.Need-loop-holds Inv-loop μ-loop
 loop-holds c = omega arith
 
 in-run-requires : tie.Need-in-run-requires Inv-loop μ-loop
-in-run-requires c κs = omega arith
+in-run-requires c κs = (omega arith, c .before .before .before .pre .1)
 
 add-i : tie.Need-add-i Inv-loop μ-loop
 add-i c = omega arith

@@ -2,13 +2,15 @@
 -- Assumes nothing.
 use mathlib.Core.List.{List, [], _∷_}
 use mathlib.Core.Bool.{Bool}
-use Prim.Native.Nat.{ℕ}
+use mathlib.Core.Path.{_≡_}
+use Prim.Native.Nat.{ℕ, _≤_}
 use lib.Dec.{eqb, eqb→eq}
 use lib.ListN.{getD}
 use borrow.Author.Needs.{needs}
 use native.Mathlib.Omega.{arith}
 use Rattle.token.specs.Word.{words, wordTable, word, bytes, joined, startOf}
 use Rattle.token.proofs.Tables.{tested}
+use Rattle.token.proofs.Words.{start-fits}
 use Rattle.token.proofs.word.spelling_start.Statement.{statement}
 use Rattle.token.proofs.word.spelling_start.Tie as tie
 
@@ -25,9 +27,17 @@ mul-result c = search needs
 array-read-result : tie.Need-array-read-result
 array-read-result c = search needs
 
-returns : tie.Need-returns
+rule : (k : ℕ) → k ≤ 43 → getD starts k 0 ≡ startOf words k
 unfolding starts right words wordTable word bytes joined
-returns c = eqb→eq (getD starts (c .args .k) 0) (startOf words (c .args .k)) (tested right 0 starts tt (c .args .k) (omega arith))
+rule k h = eqb→eq (getD starts k 0) (startOf words k) (tested right 0 starts tt k (omega arith))
+
+cast-result : tie.Need-cast-result
+unfolding starts
+cast-result c = record { fits = omega (arith, rule (c .args .k) (c .pre), start-fits (c .args .k)) }
+
+returns : tie.Need-returns
+unfolding starts
+returns c = rule (c .args .k) (c .pre)
 
 pub spelling-start-spec : {M : Type 1} → statement M
-spelling-start-spec = tie.close (tie.spec mul-result array-read-result returns)
+spelling-start-spec = tie.close (tie.spec mul-result array-read-result cast-result returns)

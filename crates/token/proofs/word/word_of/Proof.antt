@@ -2,12 +2,12 @@
 -- Assumes nothing.
 use mathlib.Core.Path.{_≡_, refl, sym, ap, _∙_}
 use mathlib.Core.Bool.{Bool, true, false}
-use Prim.Native.Nat.{ℕ, _+_, _-_, _≤_, _<_}
+use Prim.Native.Nat.{ℕ, _+_, _-_, _*_, _%_, _≤_, _<_}
 use native.Mathlib.Omega.{arith}
 use lib.ListN.{length, getD, take, drop, length-drop}
 use Rattle.token.specs.Word.{words, same, placeIn, startOf, nameClass}
 use Rattle.token.specs.Table.{between}
-use Rattle.token.proofs.Words.{slots, found, not-found, slot-part}
+use Rattle.token.proofs.Words.{slots, slot-bound, found, not-found, slot-part}
 use borrow.Author.Needs.{needs}
 use Rattle.token.proofs.word.word_of.Statement.{statement}
 use Rattle.token.proofs.word.word_of.Tie as tie
@@ -51,11 +51,15 @@ add-k-2 : tie.Need-add-k-2
 add-k-2 c =
     omega (arith, c .before .shared-slice-known2 .given (c .before .before .before .args .start), c .shared-slice-known3 .given (c .before .before .before .args .end - 1))
 
-mul-k-4 : tie.Need-mul-k-4
-mul-k-4 c = search needs
-
 array-read-k : tie.Need-array-read-k
 array-read-k c = search needs
+
+cast-k : tie.Need-cast-k
+unfolding slots
+cast-k c =
+    let a = c .before .before .before .args in
+    let i = (3 * getD (a .text .now) (a .start) 0 + 24 * getD (a .text .now) (a .end - 1) 0 + 7 * (a .end - a .start)) % 128 in
+    record { fits = omega (arith, slot-bound i (omega arith)) }
 
 returns : tie.Need-returns
 unfolding slots
@@ -102,8 +106,8 @@ word-of-spec =
     sub-k
     mul-k-3
     add-k-2
-    mul-k-4
     array-read-k
+    cast-k
     returns
     is-word-requires
     returns-2

@@ -1,0 +1,21 @@
+-- The examples P1 to P4 of document 01, established from the definitions.
+-- Assumes nothing.
+use mathlib.Core.Path.{_≡_, refl}
+use mathlib.Core.Bool.{Bool}
+use mathlib.Core.List.{List, [], _∷_}
+use Rattle.terminal.specs.Terminal.{lower}
+use Rattle.token.specs.Byte.{classOf, classIn, rows}
+use Rattle.token.specs.Word.{bytes, word, wordTable, words, wordClasses, same, placeIn, nameClass}
+use Rattle.token.specs.Token.{tok, decimalAfter, spellingOf, valueOf}
+use Rattle.token.specs.Cut.{span, name, misfit, nonNegative, belowZero, comment, afterHyphen, quoted, hexString, afterColon, afterDot, punctuation, piece, whole, refused, Cut, cutFrom, cut}
+
+-- P1 `----` no token. P2 `-----` refusal 3 at 4. P3 `a--b` the name a. P4 4294967296 refusal 6.
+pub record Examples : Type 0 where
+  pub P1 : cut (bytes "----") ≡ record { tokens = []; ending = whole }
+  pub P2 : cut (bytes "-----") ≡ record { tokens = []; ending = refused 3 4 }
+  pub P3 : cut (bytes "a--b") ≡ record { tokens = tok lower 0 1 (bytes "a") ∷ []; ending = whole }
+  pub P4 : cut (bytes "4294967296") ≡ record { tokens = []; ending = refused 6 0 }
+
+pub examples : Examples
+unfolding bytes classOf classIn rows word wordTable words wordClasses same placeIn nameClass tok decimalAfter spellingOf valueOf span name misfit nonNegative belowZero comment afterHyphen quoted hexString afterColon afterDot punctuation piece cutFrom cut
+examples = record { P1 = refl; P2 = refl; P3 = refl; P4 = refl }
