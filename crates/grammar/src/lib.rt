@@ -24,7 +24,7 @@ pub struct TokenIndex(pub usize);
 // What the grammar says of a sequence.
 pub enum Reading {
     Derived,
-    // No derived sequence begins with the tokens up to this one and it, or, at the end, is the whole.
+    // The first token with which no derived sequence goes on, or the end, where the sequence is only the beginning of one.
     Refused(TokenIndex),
 }
 
