@@ -31,9 +31,9 @@ returns c =
     let s = start .args .state in
     let k = start .args .class in
     let class = c .before .if1 .taken in
-    let e = ap (λ (l : List ℕ). getD l (s * 58 + k) 0) (start .pre .0) in (
+    let e = ap (λ (l : List ℕ). getD l (s * module-automaton .width + k) 0) (start .pre .0) in (
       e ∙ sym (next-inside module-automaton s k class),
-      subst (λ (x : ℕ). x < 135) (sym e) (entry-state module-passes s (start .pre .1) k class),
+      subst (λ (x : ℕ). x < module-automaton .states) (sym e) (entry-state module-passes s (start .pre .1) k class),
     )
 
 returns-2 : tie.Need-returns-2
