@@ -9,9 +9,9 @@ use Prim.Native.Nat.{ℕ}
 use borrow.Author.Tests.{eqb-true, eqb-false}
 use lib.Dec.{T, eqb}
 use Rattle.grammar.specs.Rule.{Rule, never, empty, token, _⨾_, _or_, repeated, last, step, Tree, yield}
-use Rattle.grammar.proofs.Derivative.{sequence, choice, blank, matched, derivative, is-never, proper}
+use Rattle.grammar.proofs.Derivative.{sequence, blank, matched, derivative, is-never, proper}
 use Rattle.grammar.proofs.Every.{and-left, and-right}
-use Rattle.grammar.proofs.Part.{Part, Same, Blank, After, cases-once, renamed, part-of, either, nothing, both, unchanged, sequence-same, left-alone, choice-same, same-last, same-step, last-no-step}
+use Rattle.grammar.proofs.Part.{Same, Blank, After, cases-once, renamed, part-of, either, nothing, both, unchanged, sequence-same, left-alone, choice-same, same-last, same-step, last-no-step}
 
 -- a repeat is its last part, or a step and then the repeat
 unrolled : (r s : Rule) → Same (repeated r s) (s or r ⨾ repeated r s)

@@ -2,9 +2,9 @@
 -- all trees of the rule.
 -- Assumes nothing.
 use mathlib.Core.Path.{_≡_, refl, sym, _∙_, ap, ap₂, subst}
-use mathlib.Core.Logic.{_⊎_, inl, inr, ⊎-elim}
+use mathlib.Core.Logic.{inl, inr, ⊎-elim}
 use mathlib.Core.Sum.{inl-injective, inr-injective, inl-ne-inr}
-use mathlib.Core.List.{List, [], _∷_, _++_, append-assoc}
+use mathlib.Core.List.{List, [], _++_, append-assoc}
 use Prim.Native.Nat.{ℕ}
 use native.Mathlib.Omega.{arith}
 use Rattle.grammar.specs.Rule.{Rule, never, empty, token, _⨾_, _or_, repeated, Steps, last, step, Tree, yield}
@@ -35,7 +35,8 @@ abbrev pub Blank : Rule → Rule → Type 0
 Blank r q = Part (λ l. l ≡ []) (λ l. l) r q
 
 -- by cases, where the two cases have no value in common
-pub cases-once : {A B C : Type 0} (f : A → C) (g : B → C) → Once f → Once g → ((x : A) (y : B) → f x ≡ g y → ⊥) → Once (⊎-elim f g)
+pub cases-once : {A B C : Type 0} (f : A → C) (g : B → C) → Once f → Once g → ((x : A) (y : B) → f x ≡ g y → ⊥)
+    → Once (⊎-elim f g)
 cases-once f g once-f once-g apart (inl x) (inl y) p = ap inl (once-f x y p)
 cases-once f g once-f once-g apart (inl x) (inr y) p = absurd (apart x y p)
 cases-once f g once-f once-g apart (inr x) (inl y) p = absurd (apart y x (sym p))
