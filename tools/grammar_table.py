@@ -372,7 +372,7 @@ class Printer:
         lines = [
             "// The transition table of the grammar, printed by tools/grammar_table.py: the state after a token of class c in state s,",
             "// at s * 58 + c, with the class's name where it leads on. specs/Table.antt has the same, a line for each state, and the",
-            "// proof of `step` holds the two together.",
+            "// proof of `recognise` holds the two together.",
             "",
             "// No derived sequence goes on from here.",
             "pub const DEAD: u8 = 0;",
@@ -383,7 +383,10 @@ class Printer:
             "// The module is whole.",
             f"pub const ACCEPTING: u8 = {a.accepting};",
             "",
-            f"pub const TABLE: [u8; {size}] = [",
+            "// As many rows as there are states, each with an entry for each class.",
+            f"pub const ENTRIES: usize = {size};",
+            "",
+            "pub const TABLE: [u8; ENTRIES] = [",
         ]
         for state, row in enumerate(a.rows):
             lines.append(f"    // state {state}, {self.where(state)}")

@@ -1,7 +1,8 @@
 #!/usr/bin/env python3
 """Texts for refusal 7, with what is to be said of each; the recursive reading beside this file says it.
 
-    vectors.py --table            compare the reading with the transition table, at every state and class
+    vectors.py --table            compare the reading with the transition table: at every state and class, and on
+                                  random walks with a token put in, left out or changed
     vectors.py --run COMMAND ..   run COMMAND FILE for each text and compare the last line it prints
     vectors.py --print            print each text's name and its expected line
 
@@ -16,6 +17,7 @@ import sys
 import tempfile
 from collections import deque
 from pathlib import Path
+from random import Random
 
 sys.dont_write_bytecode = True
 HERE = Path(__file__).resolve().parent
@@ -149,6 +151,37 @@ class Table:
         return next(name for name, target in zip(self.classes, self.rows[state]) if not target)
 
 
+    def fault(self, classes):
+        """The index of the token at fault, or None, by the table."""
+        state = 1
+        for index, name in enumerate(classes):
+            state = self.rows[state][self.classes.index(name)]
+            if not state:
+                return index
+        return None if state == self.accepting else len(classes)
+
+    def walk(self, random, most):
+        """The classes of a random way through the table, of at most this many tokens."""
+        state, classes = 1, []
+        while len(classes) < most and any(self.rows[state]):
+            name, state = random.choice([pair for pair in zip(self.classes, self.rows[state]) if pair[1]])
+            classes.append(name)
+        return classes
+
+
+def damaged(random, classes, names):
+    """The classes as they are, or with one put in, left out or changed."""
+    at = random.randrange(len(classes))
+    return random.choice(
+        [
+            classes,
+            classes[:at] + [random.choice(names)] + classes[at:],
+            classes[:at] + classes[at + 1 :],
+            classes[:at] + [random.choice(names)] + classes[at + 1 :],
+        ]
+    )
+
+
 def written(classes):
     return " ".join(SPELLED.get(name, name) for name in classes)
 
@@ -169,22 +202,17 @@ def vectors():
 
 
 def against_table():
-    """The reading and the table agree at every state that a sequence reaches, and every class."""
+    """The reading and the table agree: at every state that a sequence reaches and every class, and on 5,000 walks."""
     table = Table()
-    wrong = compared = 0
-    for state, way in table.way.items():
-        here = None if state == table.accepting else len(way)
-        cases = [(way, here)]
-        for name, target in zip(table.classes, table.rows[state]):
-            after = len(way) if not target else None if target == table.accepting else len(way) + 1
-            cases.append((way + [name], after))
-        for classes, fault in cases:
-            compared += 1
-            if reading.read(classes) != fault:
-                wrong += 1
-                print("differ:", " ".join(classes), "reading", reading.read(classes), "table", fault)
-    print(f"{compared} sequences compared, {wrong} differ")
-    return wrong
+    cases = [way + after for way in table.way.values() for after in [[]] + [[name] for name in table.classes]]
+    random = Random(5)
+    for _ in range(5000):
+        cases.append(damaged(random, table.walk(random, random.randrange(1, 300)), table.classes))
+    wrong = [classes for classes in cases if reading.read(classes) != table.fault(classes)]
+    for classes in wrong:
+        print("differ:", " ".join(classes), "reading", reading.read(classes), "table", table.fault(classes))
+    print(f"{len(cases)} sequences compared, {len(wrong)} differ")
+    return len(wrong)
 
 
 def run(command):

@@ -20,23 +20,15 @@ module _ {A : Type 0} (test : ℕ → A → Bool) (other : A) where
   -- the test passes at each element and its index, counted from i
   abbrev pub every : ℕ → List A → Bool
   every i [] = true
-  every i (x ∷ xs) = elim (test i x) [ true ↦ every (suc i) xs | false ↦ false ]
-
-  first-passes : (b c : Bool) → T (elim b as (λ b. Bool) [ true ↦ c | false ↦ false ]) → T b
-  first-passes true c h = tt
-  first-passes false c h = h
-
-  rest-passes : (b c : Bool) → T (elim b as (λ b. Bool) [ true ↦ c | false ↦ false ]) → T c
-  rest-passes true c h = h
-  rest-passes false c h = absurd h
+  every i (x ∷ xs) = test i x && every (suc i) xs
 
   from : (i : ℕ) (xs : List A) → T (every i xs) → (k : ℕ) → k < length xs → T (test (i + k) (getD xs k other))
   from i [] h k l = absurd (not-suc-le-zero l)
   from i (x ∷ xs) h zero l =
-      subst (λ (m : ℕ). T (test m x)) (sym (add-zero i)) (first-passes (test i x) (every (suc i) xs) h)
+      subst (λ (m : ℕ). T (test m x)) (sym (add-zero i)) (and-left (test i x) (every (suc i) xs) h)
   from i (x ∷ xs) h (suc k) l =
       subst (λ (m : ℕ). T (test m (getD xs k other))) (suc-add i k ∙ sym (add-suc i k))
-      (from (suc i) xs (rest-passes (test i x) (every (suc i) xs) h) k (le-of-suc-le-suc l))
+      (from (suc i) xs (and-right (test i x) (every (suc i) xs) h) k (le-of-suc-le-suc l))
 
   pub holds-at : (xs : List A) → T (every 0 xs) → (k : ℕ) → k < length xs → T (test k (getD xs k other))
   holds-at xs h k l = subst (λ (m : ℕ). T (test m (getD xs k other))) (zero-add k) (from 0 xs h k l)

@@ -1,5 +1,5 @@
--- The derivative is what is left of a rule after its first token, for every rule whose repeats are proper; and the blank rule
--- has the trees that yield no token. By induction on the rule.
+-- For every rule whose repeats are proper, the trees of the derivative are one to one the rule's trees that yield the token first,
+-- less that token, and those of the blank rule are its trees that yield no token. By induction on the rule.
 -- Assumes nothing.
 use mathlib.Core.Path.{_≡_, refl, sym, _∙_, ap, ap₂}
 use mathlib.Core.Bool.{Bool, true, false, _&&_}
@@ -9,17 +9,21 @@ use Prim.Native.Nat.{ℕ}
 use borrow.Author.Tests.{eqb-true, eqb-false}
 use lib.Dec.{T, eqb}
 use Rattle.grammar.specs.Rule.{Rule, never, empty, token, _⨾_, _or_, repeated, last, step, Tree, yield}
-use Rattle.grammar.proofs.Derivative.{sequence, choice, blank, matched, derivative, is-never, proper}
+use Rattle.grammar.proofs.Derivative.{sequence, blank, matched, derivative, is-never, proper}
 use Rattle.grammar.proofs.Every.{and-left, and-right}
-use Rattle.grammar.proofs.Part.{Part, Same, Blank, After, renamed, part-of, either, only-first, both, unchanged, sequence-same, choice-same}
+use Rattle.grammar.proofs.Part.{Same, Blank, After, cases-once, renamed, part-of, either, nothing, both, unchanged, sequence-same, left-alone, choice-same, same-last, same-step, last-no-step}
 
 -- a repeat is its last part, or a step and then the repeat
 unrolled : (r s : Rule) → Same (repeated r s) (s or r ⨾ repeated r s)
 unrolled r s =
     record {
-      back = λ d. elim d [ inl t ↦ last t | inr u ↦ step (u .0) (u .1) ];
+      back = ⊎-elim last (λ u. step (u .0) (u .1));
       yields = λ d. elim d [ inl t ↦ refl | inr u ↦ refl ];
       onto = λ t h. elim t [ last x ↦ (inl x, refl) | step x more ↦ (inr (x, more), refl) ];
+      once =
+          cases-once last (λ u. step (u .0) (u .1)) (λ x y e. same-last e)
+          (λ x y e. ap₂ (λ u v. (u, v)) (same-step e .0) (same-step e .1))
+          (λ x y e. last-no-step e);
     }
 
 is-never-empty : (r : Rule) → T (is-never r) → Tree r → ⊥
@@ -43,20 +47,25 @@ starts : {r p : Rule} (s : Rule) → Blank r p → T (is-never p) → (t : Tree 
 starts {r} {p} s a h t e = is-never-empty p h (a .onto (t .0) (front-nil (yield r (t .0)) (yield s (t .1)) e) .0)
 
 pub blank-part : (r : Rule) → T (proper r) → Blank r (blank r)
-blank-part never h = record { back = λ d. d; yields = λ d. refl; onto = λ t e. (t, refl) }
-blank-part empty h = record { back = λ d. d; yields = λ d. refl; onto = λ t e. (t, refl) }
-blank-part (token c) h = record { back = λ d. absurd d; yields = λ d. absurd d; onto = λ t e. absurd (cons-ne-nil c [] e) }
+blank-part never h = record { back = λ d. d; yields = λ d. refl; onto = λ t e. (t, refl); once = λ d e p. p }
+blank-part empty h = record { back = λ d. d; yields = λ d. refl; onto = λ t e. (t, refl); once = λ d e p. p }
+blank-part (token c) h = nothing (token c) (λ t e. cons-ne-nil c [] e)
 blank-part (r ⨾ s) h =
-    renamed (both (λ l m e. (front-nil l m e, back-nil l m e)) (blank-part r (and-left (proper r) (proper s) h)) (blank-part s (and-right (proper r) (proper s) h)))
+    renamed
+    (both (λ l m e. (front-nil l m e, back-nil l m e)) (blank-part r (and-left (proper r) (proper s) h))
+    (blank-part s (and-right (proper r) (proper s) h)))
     (sequence-same (blank r) (blank s))
 blank-part (r or s) h =
     renamed (either (blank-part r (and-left (proper r) (proper s) h)) (blank-part s (and-right (proper r) (proper s) h)))
     (choice-same (blank r) (blank s))
 blank-part (repeated r s) h =
+    let starting = and-left (is-never (blank r)) (proper r && proper s) h in
     let parts = and-right (is-never (blank r)) (proper r && proper s) h in
     part-of (unrolled r s)
-    (only-first (r ⨾ repeated r s) (blank-part s (and-right (proper r) (proper s) parts))
-    (starts (repeated r s) (blank-part r (and-left (proper r) (proper s) parts)) (and-left (is-never (blank r)) (proper r && proper s) h)))
+    (renamed
+    (either (blank-part s (and-right (proper r) (proper s) parts))
+    (nothing (r ⨾ repeated r s) (starts (repeated r s) (blank-part r (and-left (proper r) (proper s) parts)) starting)))
+    (left-alone (blank s)))
 
 -- no tree of the rule yields a token
 abbrev pub Silent : Rule → Type 0
@@ -90,7 +99,7 @@ after-sequence : {r s p e q : Rule} (c : ℕ) → After (c ∷ []) r p → Blank
     → After (c ∷ []) (r ⨾ s) (p ⨾ s or e ⨾ q)
 after-sequence {r} {s} {p} {e} {q} c a b mute g =
     record {
-      back = λ d. elim d [ inl x ↦ (a .back (x .0), x .1) | inr y ↦ (b .back (y .0), g .back (y .1)) ];
+      back = ⊎-elim (λ x. (a .back (x .0), x .1)) (λ y. (b .back (y .0), g .back (y .1)));
       yields = λ d.
           elim d [
             | inl x ↦ ap (λ l. l ++ yield s (x .1)) (a .yields (x .0))
@@ -106,6 +115,13 @@ after-sequence {r} {s} {p} {e} {q} c a b mute g =
           (inr (x .0, y .0), ap₂ (λ u w. (u, w)) (x .1) (y .1)))
           (λ v. let x = a .onto (t .0) v in (inl (x .0, t .1), ap (λ u. (u, t .1)) (x .1)))
           (first-token (yield r (t .0)) (yield s (t .1)) c (h .0) (h .1));
+      once =
+          cases-once (λ x. (a .back (x .0), x .1)) (λ y. (b .back (y .0), g .back (y .1)))
+          (λ x y w. ap₂ (λ u v. (u, v)) (a .once (x .0) (y .0) (ap (λ t. t .0) w)) (ap (λ t. t .1) w))
+          (λ x y w. ap₂ (λ u v. (u, v)) (b .once (x .0) (y .0) (ap (λ t. t .0) w)) (g .once (x .1) (y .1) (ap (λ t. t .1) w)))
+          (λ x y w.
+          cons-ne-nil c (yield p (x .0))
+          (sym (a .yields (x .0)) ∙ ap (λ t. yield r (t .0)) w ∙ b .yields (y .0) ∙ mute (y .0)));
     }
 
 -- of a sequence whose first rule is never blank, the first token is the first rule's
@@ -119,6 +135,7 @@ after-first {r} {p} {e} s c a b none =
           (λ v. absurd (is-never-empty e none (b .onto (t .0) (v .0) .0)))
           (λ v. let x = a .onto (t .0) v in ((x .0, t .1), ap (λ u. (u, t .1)) (x .1)))
           (first-token (yield r (t .0)) (yield s (t .1)) c (h .0) (h .1));
+      once = λ x y w. ap₂ (λ u v. (u, v)) (a .once (x .0) (y .0) (ap (λ t. t .0) w)) (ap (λ t. t .1) w);
     }
 
 after-token : (k c : ℕ) (b : Bool) → eqb k c ≡ b → After (c ∷ []) (token k) (matched b)
@@ -127,22 +144,13 @@ after-token k c true e =
       back = λ d. tt;
       yields = λ d. ap (λ x. x ∷ []) (eqb-true k c e);
       onto = λ t h. (tt, refl);
+      once = λ d e w. refl;
     }
-after-token k c false e =
-    record {
-      back = λ d. absurd d;
-      yields = λ d. absurd d;
-      onto = λ t h. absurd (eqb-false k c e (head-eq-of-cons-eq (h .1)));
-    }
+after-token k c false e = nothing (token k) (λ t h. eqb-false k c e (head-eq-of-cons-eq (h .1)))
 
 pub derivative-part : (c : ℕ) (r : Rule) → T (proper r) → After (c ∷ []) r (derivative c r)
-derivative-part c never h = record { back = λ d. absurd d; yields = λ d. absurd d; onto = λ t e. absurd t }
-derivative-part c empty h =
-    record {
-      back = λ d. absurd d;
-      yields = λ d. absurd d;
-      onto = λ t e. absurd (cons-ne-nil c (e .0) (sym (e .1)));
-    }
+derivative-part c never h = nothing never (λ t e. t)
+derivative-part c empty h = nothing empty (λ t e. cons-ne-nil c (e .0) (sym (e .1)))
 derivative-part c (token k) h = after-token k c (eqb k c) refl
 derivative-part c (r ⨾ s) h =
     let pr = and-left (proper r) (proper s) h in

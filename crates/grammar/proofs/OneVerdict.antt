@@ -8,8 +8,8 @@ use native.Mathlib.Decide.{decLt}
 use native.Mathlib.Omega.{arith}
 use lib.ListN.{length, take, drop, take-append-drop}
 use lib.Seq.{take-take, take-length}
-use Rattle.grammar.specs.Rule.{Rule, yield}
-use Rattle.grammar.specs.Answer.{Verdict, derived, refused, Derives, Begins, Answers}
+use Rattle.grammar.specs.Rule.{Rule}
+use Rattle.grammar.specs.Answer.{Verdict, derived, refused, Begins, Answers}
 
 module _ (r : Rule) (ts : List ℕ) where
   -- what begins some derived sequence, cut shorter, begins it too

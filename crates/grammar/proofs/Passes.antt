@@ -1,16 +1,16 @@
 -- The test of a transition table, which antt computes: each state has a rule, and the table leads from it, with each class,
 -- to the state that has the derivative. What the test shows at each state and each class is stated below it.
 -- Assumes nothing.
-use mathlib.Core.Path.{_≡_, refl, sym, _∙_, ap, subst}
+use mathlib.Core.Path.{_≡_, sym, subst}
 use mathlib.Core.Bool.{Bool, true, false, _&&_, _||_}
-use mathlib.Core.Logic.{_⊎_, inl, inr, ⊎-elim}
-use mathlib.Core.List.{List, [], _∷_, _++_, cons-ne-nil, head-eq-of-cons-eq}
+use mathlib.Core.Logic.{inl, inr, ⊎-elim}
+use mathlib.Core.List.{List, _∷_, cons-ne-nil, head-eq-of-cons-eq}
 use Prim.Native.Nat.{ℕ, _+_, _*_, _/_, _%_, _<_}
 use native.Mathlib.Decide.{ℕ-discrete}
 use lib.Arith.{digits-lt, digits-div, digits-mod}
 use lib.Dec.{T, eqb, ltb, eqb→eq, ltb→lt}
 use lib.ListN.{length, getD}
-use Rattle.grammar.specs.Rule.{Rule, Rule-discrete, never, empty, token, _⨾_, _or_, repeated, Steps, last, step, Tree, in-order, yield}
+use Rattle.grammar.specs.Rule.{Rule, Rule-discrete, never, empty, token, _⨾_, _or_, repeated, last, step, Tree, yield}
 use Rattle.grammar.specs.Automaton.{Automaton, target}
 use Rattle.grammar.proofs.Derivative.{derivative, blank, proper, matched, simplified}
 use Rattle.grammar.proofs.Left.{first-token}

@@ -19,6 +19,7 @@ pub data Rule : Type 0 where
   _or_ : Rule → Rule → Rule
   -- X, where X is either the last part, or one step and then X again
   repeated : Rule → Rule → Rule
+  -- whether two rules are equal can be computed
   deriving Discrete as Rule-discrete
 
 -- `[ x ]`: x, or nothing

@@ -13,6 +13,7 @@ mod table;
 
 use table::ACCEPTING;
 use table::DEAD;
+use table::ENTRIES;
 use table::START;
 use table::TABLE;
 use terminal::TERMINALS;
@@ -23,35 +24,36 @@ pub struct TokenIndex(pub usize);
 // What the grammar says of a sequence.
 pub enum Reading {
     Derived,
-    // No derived sequence begins with the tokens up to this one and it, or, at the end, is the whole.
+    // The first token with which no derived sequence goes on, or the end, where the sequence is only the beginning of one.
     Refused(TokenIndex),
 }
 
 // The state after a token of this class: DEAD where no derived sequence goes on so, as with a class that is no terminal's.
-fn step(state: u8, class: u8) -> u8
-    requires { ⌜ state < module-automaton .states ⌝ }
+fn step(table: &[u8; ENTRIES], state: u8, class: u8) -> u8
+    requires { ⌜ (now table ≡ module-automaton .table) × (state < module-automaton .states) ⌝ }
     ensures leads { λ r. ⌜ r ≡ next module-automaton state class ⌝ }
     ensures state { λ r. ⌜ r < module-automaton .states ⌝ }
 {
     let row = state as usize;
     let column = class as usize;
     if column < TERMINALS {
-        TABLE[row * TERMINALS + column]
+        table[row * TERMINALS + column]
     } else {
         DEAD
     }
 }
 
-// What the grammar says of the first n classes.
+// What the grammar says of the first n classes. The table is a local, made once: a constant is made anew wherever it is used.
 pub fn recognise(classes: &[u8], n: usize) -> Reading
     requires { ⌜ n ≤ length (now classes) ⌝ }
     ensures ran { λ r. ⌜ verdict r ≡ run module-automaton (take n (now (classes .entry))) ⌝ }
     ensures right { λ r. ⌜ Answers smi-module (take n (now (classes .entry))) (verdict r) ⌝ }
 {
+    let table = TABLE;
     let mut state = START;
     let mut i: usize = 0;
     while i < n {
-        state = step(state, classes[i]);
+        state = step(&table, state, classes[i]);
         if state == DEAD {
             return Reading::Refused(TokenIndex(i));
         }

@@ -1,6 +1,6 @@
 // The transition table of the grammar, printed by tools/grammar_table.py: the state after a token of class c in state s,
 // at s * 58 + c, with the class's name where it leads on. specs/Table.antt has the same, a line for each state, and the
-// proof of `step` holds the two together.
+// proof of `recognise` holds the two together.
 
 // No derived sequence goes on from here.
 pub const DEAD: u8 = 0;
@@ -11,7 +11,10 @@ pub const START: u8 = 1;
 // The module is whole.
 pub const ACCEPTING: u8 = 29;
 
-pub const TABLE: [u8; 7830] = [
+// As many rows as there are states, each with an entry for each class.
+pub const ENTRIES: usize = 7830;
+
+pub const TABLE: [u8; ENTRIES] = [
     // state 0, dead: no derived sequence goes on so
     0,
     0,
