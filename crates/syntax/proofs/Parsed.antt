@@ -16,6 +16,7 @@ use Rattle.token.specs.Table.{Held, overlaid, answerTo as token-answer}
 use Rattle.token.specs.declared.Answer.{Answer as TokenAnswer}
 use Rattle.token.specs.declared.Answer.the-variants.{Tokens, Refused}
 use Rattle.token.specs.declared.Place.{Place}
+use Rattle.token.proofs.Entries.{counted}
 use Rattle.token.proofs.Laws.{few}
 use Rattle.grammar.specs.Grammar.{smi-module}
 use Rattle.grammar.specs.Automaton.{run}
@@ -23,7 +24,7 @@ use Rattle.grammar.specs.Table.{module-automaton}
 use Rattle.grammar.specs.Answer.{Verdict, derived, Answers, Derives, Begins}
 use Rattle.grammar.specs.Answer.{refused as refused-at}
 use Rattle.grammar.proofs.Theorem.{grammar-theorem}
-use Rattle.syntax.specs.Parsing.{classes, placeOf, number, place, answerTo, Parses, Fault, ThirdDemand}
+use Rattle.syntax.specs.Parsing.{classes, placeOf, number, place, count, answerTo, Parses, Fault, ThirdDemand}
 use Rattle.syntax.specs.Placing.{placed}
 use Rattle.syntax.specs.declared.Answer.{Answer}
 use Rattle.syntax.specs.declared.Answer.the-variants.{Derived, Underived, Uncut}
@@ -57,20 +58,11 @@ held-length t held old is short long =
 
 module _ (t : List ℕ) (a : TokenAnswer) (answered : a ≡ token-answer (length (cut t .tokens)) (cut t .ending)) where
   -- how many tokens it has
-  count-at : (count : ℕ) (e : Ending) → cut t .ending ≡ e → a ≡ Tokens count → count ≡ length (cut t .tokens)
-  count-at count whole ending is =
-      let same : Tokens count ≡ Tokens (length (cut t .tokens)) = sym is ∙ answered ∙ ap (token-answer (length (cut t .tokens))) ending in
-      cc
-  count-at count (refused n p) ending is =
-      let same : Tokens count ≡ Refused n (record { 0 = p }) = sym is ∙ answered ∙ ap (token-answer (length (cut t .tokens))) ending in
-      let zero-one : _≡_ {A = ℕ} 0 1 = cc in
-      absurd (omega arith)
+  all-counted : (n : ℕ) → a ≡ Tokens n → n ≡ length (cut t .tokens)
+  all-counted n is = counted n (length (cut t .tokens)) (cut t .ending) (sym is ∙ answered) .0
 
-  pub counted : (count : ℕ) → a ≡ Tokens count → count ≡ length (cut t .tokens)
-  counted count is = count-at count (cut t .ending) refl is
-
-  pub count-fits : (count : ℕ) → a ≡ Tokens count → count ≤ length t
-  count-fits count is = omega (arith, counted count is, few t)
+  pub count-fits : (n : ℕ) → a ≡ Tokens n → n ≤ length t
+  count-fits n is = omega (arith, all-counted n is, few t)
 
   -- a text that the cut refuses
   pub uncut-parses : (n : ℕ) (p : Place) → a ≡ Refused n p → Parses t (Uncut n p)
@@ -85,10 +77,10 @@ module _ (t : List ℕ) (a : TokenAnswer) (answered : a ≡ token-answer (length
   }
 
   -- a text that cuts into tokens
-  pub judged-parses : (count : ℕ) (r : Answer) (held-classes held-starts old-classes old-starts : List ℕ) → a ≡ Tokens count → held-classes ≡ overlaid (classes (cut t .tokens)) old-classes → held-starts ≡ overlaid (starts (cut t .tokens)) old-starts → r ≡ placed count held-starts (length t) (run module-automaton (take count held-classes)) → Parses t r
-  judged-parses count r held-classes held-starts old-classes old-starts is cs ss answer = record {
-    uncut = λ n p ending.
-        let same : Tokens count ≡ Refused n (record { 0 = p }) = sym is ∙ answered ∙ ap (token-answer (length (cut t .tokens))) ending in
+  pub judged-parses : (n : ℕ) (r : Answer) (held-classes held-starts old-classes old-starts : List ℕ) → a ≡ Tokens n → held-classes ≡ overlaid (classes (cut t .tokens)) old-classes → held-starts ≡ overlaid (starts (cut t .tokens)) old-starts → r ≡ placed n held-starts (length t) (run module-automaton (take n held-classes)) → Parses t r
+  judged-parses n r held-classes held-starts old-classes old-starts is cs ss answer = record {
+    uncut = λ m p ending.
+        let same : Tokens n ≡ Refused m (record { 0 = p }) = sym is ∙ answered ∙ ap (token-answer (length (cut t .tokens))) ending in
         let zero-one : _≡_ {A = ℕ} 0 1 = cc in
         absurd (omega arith);
     judged = λ ending.
@@ -96,9 +88,24 @@ module _ (t : List ℕ) (a : TokenAnswer) (answered : a ≡ token-answer (length
         take-at (classes (cut t .tokens)) (drop (length (classes (cut t .tokens))) old-classes) (length (cut t .tokens)) (length-map (cut t .tokens) (λ (x : Tok). x .class)) in (
           run module-automaton (classes (cut t .tokens)),
           grammar-theorem (classes (cut t .tokens)),
-          answer ∙ rw (counted count is, cs, ss, all) (placed-is (cut t .tokens) old-starts (length t) (run module-automaton (classes (cut t .tokens)))),
+          answer ∙ rw (all-counted n is, cs, ss, all) (placed-is (cut t .tokens) old-starts (length t) (run module-automaton (classes (cut t .tokens)))),
         );
   }
+
+-- the answer counts no more tokens than the text has
+module _ (t : List ℕ) (answer : Answer) (right : Parses t answer) where
+  count-of : (v : Verdict) → count (answerTo (cut t .tokens) (length t) v) ≡ length (cut t .tokens)
+  count-of derived = refl
+  count-of (refused-at i) = refl
+
+  count-at : (e : Ending) → cut t .ending ≡ e → count answer ≤ length (cut t .tokens)
+  count-at whole ending =
+      let judged = right .judged ending in
+      omega (arith, ap count (judged .2), count-of (judged .0))
+  count-at (refused n p) ending = omega (arith, ap count (right .uncut n p ending))
+
+  pub count-few : count answer ≤ length (cut t .tokens)
+  count-few = count-at (cut t .ending) refl
 
 -- a refusal is no derivation
 never : (i : ℕ) → refused-at i ≡ derived → ⊥

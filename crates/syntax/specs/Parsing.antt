@@ -29,14 +29,20 @@ placeOf (t ∷ ts) size (suc i) = placeOf ts size i
 
 -- the number of each case of the answer, and its place
 abbrev pub number : Answer → ℕ
-number (Derived count) = 0
-number (Underived count at) = 7
+number (Derived tokens) = 0
+number (Underived tokens at) = 7
 number (Uncut n at) = n
 
 abbrev pub place : Answer → ℕ
-place (Derived count) = 0
-place (Underived count at) = at .0
+place (Derived tokens) = 0
+place (Underived tokens at) = at .0
 place (Uncut n at) = at .0
+
+-- how many tokens the text cuts into
+abbrev pub count : Answer → ℕ
+count (Derived n) = n
+count (Underived n at) = n
+count (Uncut n at) = 0
 
 -- the answer to a verdict of the grammar on all tokens of a text of that size
 abbrev pub answerTo : List Tok → ℕ → Verdict → Answer
