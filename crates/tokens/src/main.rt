@@ -1,13 +1,14 @@
 // Prints the tokens of module files.
 //
-// tokens FILE prints a line for each token: its start, its end and its class, with tabs between them; or, where the text is
-// refused, one line: refused, the number and the place. With several files, a line with the file's name heads each listing.
+// tokens FILE prints a line for each token: its start, its end and its class, with tabs between them; and a last line: derived
+// where the grammar derives the tokens, else refused, 7 and the place. A text that does not cut into tokens gives just one line:
+// refused, the number and the place. With several files, a line with the file's name heads each listing.
 ghost use Prim.Native.Nat.{ℕ, _≤_, _<_};
 ghost use mathlib.Core.Path.{_≡_};
 ghost use lib.ListN.{length, getD};
 ghost use Rattle.tokens.specs.Listed.{Listed};
 use libc::STDOUT_FILENO;
-use token::Answer;
+use syntax::Answer;
 
 // A text may have this many bytes. One byte more is read, to tell a longer file.
 const LONGEST: usize = 65536;
@@ -99,17 +100,25 @@ fn print_refusal(number: u64, place: u64) {
     io::write_all(STDOUT_FILENO, b"\n");
 }
 
-// Lists the tokens of a text, or prints its refusal.
+// Lists the tokens of a text and says whether the grammar derives them, or prints the refusal of a text that does not cut
+// into tokens.
 fn list_text(text: &[u8])
     requires { ⌜ length (now text) ≤ 65536 ⌝ }
 {
     let mut classes = [0u8; 65536];
     let mut starts = [0u32; 65536];
     let mut ends = [0u32; 65536];
-    let answer = token::cut(text, &mut classes, &mut starts, &mut ends);
+    let answer = syntax::parse(text, &mut classes, &mut starts, &mut ends);
     match answer {
-        Answer::Tokens(count) => list_tokens(text, &classes, &starts, &ends, count),
-        Answer::Refused(number, place) => print_refusal(number as u64, place.0 as u64),
+        Answer::Derived(count) => {
+            list_tokens(text, &classes, &starts, &ends, count);
+            print_line(b"derived");
+        }
+        Answer::Underived(count, place) => {
+            list_tokens(text, &classes, &starts, &ends, count);
+            print_refusal(7, place.0 as u64);
+        }
+        Answer::Uncut(number, place) => print_refusal(number as u64, place.0 as u64),
     }
 }
 

@@ -1,43 +1,47 @@
--- `list_text` is safe because each token of a text lies in it, and there are at most as many as bytes.
--- Assumes nothing.
-use mathlib.Core.Path.{_≡_, sym, _∙_}
-use Prim.Native.Nat.{_≤_}
-use native.Mathlib.Omega.{arith}
-use lib.ListN.{length, replicate}
-use Rattle.token.specs.Cut.{cut}
-use Rattle.token.proofs.Laws.{few}
-use Rattle.token.proofs.Entries.{counted, entry-place}
+-- `list_text` is safe because each token of a text lies in it, and the answer counts no more than there are. Assumes nothing.
+use Rattle.tokens.proofs.Listing.{listed}
+use mathlib.Core.Path.{ap}
+use Rattle.syntax.specs.Parsing.{count}
 use borrow.Author.Needs.{needs}
 use Rattle.tokens.proofs.list_text.Statement.{statement}
 use Rattle.tokens.proofs.list_text.Tie as tie
 
-cut-requires : tie.Need-cut-requires
-cut-requires c κs = search needs
+parse-requires : tie.Need-parse-requires
+parse-requires c κs = search needs
 
 enum-known-answer : tie.Need-enum-known-answer
 enum-known-answer c = search needs
 
 list-tokens-requires : tie.Need-list-tokens-requires
-list-tokens-requires c κs =
-    let s = c .before .before .before .before .before .before .before .before .before .before .before in
-    let t = s .args .text .now in
-    let call = c .before .before .before .before .before .before .cut in
-    let held = call .ensures in
-    let count : c .before .before .before .before .answer .given .0 .0 ≡ length (cut t .tokens) =
-    counted (c .before .before .before .before .answer .given .0 .0) (length (cut t .tokens)) (cut t .ending) (sym (c .before .before .before .before .answer .given .1) ∙ held .answered) .0 in
-    record {
-      few = omega (arith, few t, s .pre);
-      inside = λ i h. let place = entry-place t (call .result) (replicate 65536 0) (replicate 65536 0) (replicate 65536 0) (call .last .1 .0) (call .last .1 .1 .0) (call .last .1 .1 .1 .0) held i (omega arith) in (omega (arith, place .0), place .1);
-    }
+list-tokens-requires c κs = 
+    listed _ _ _ _ _ _ _ _ _ (c .before .before .before .before .before .before .before .before .before .before .before .pre) (c .before .before .before .before .before .before .parse .ensures .0) (c .before .before .before .before .before .before .parse .ensures .1)
+    (ap count (c .before .before .before .before .answer .given .1))
+
+slice-aggregate-print-line : tie.Need-slice-aggregate-print-line
+slice-aggregate-print-line c = search needs
+
+print-line-requires : tie.Need-print-line-requires
+print-line-requires c κs = search needs
 
 enum-known-answer-2 : tie.Need-enum-known-answer-2
 enum-known-answer-2 c = search needs
 
-cast-print-refusal : tie.Need-cast-print-refusal
-cast-print-refusal c = search needs
+list-tokens-requires-2 : tie.Need-list-tokens-requires-2
+list-tokens-requires-2 c κs = 
+    listed _ _ _ _ _ _ _ _ _ (c .before .before .before .before .before .before .before .before .before .before .before .pre) (c .before .before .before .before .before .before .parse .ensures .0) (c .before .before .before .before .before .before .parse .ensures .1)
+    (ap count (c .before .before .before .before .answer2 .given .1))
 
 print-refusal-requires : tie.Need-print-refusal-requires
 print-refusal-requires c κs = search needs
+
+enum-known-answer-3 : tie.Need-enum-known-answer-3
+enum-known-answer-3 c = search needs
+
+cast-print-refusal : tie.Need-cast-print-refusal
+cast-print-refusal c = search needs
+
+print-refusal-requires-2 : tie.Need-print-refusal-requires-2
+print-refusal-requires-2 c κs = search needs
 
 returns : tie.Need-returns
 returns c = search needs
@@ -45,15 +49,24 @@ returns c = search needs
 returns-2 : tie.Need-returns-2
 returns-2 c = search needs
 
+returns-3 : tie.Need-returns-3
+returns-3 c = search needs
+
 pub list-text-spec : {M : Type 1} → statement M
 list-text-spec =
     tie.close
     (tie.spec
-    cut-requires
+    parse-requires
     enum-known-answer
     list-tokens-requires
+    slice-aggregate-print-line
+    print-line-requires
     enum-known-answer-2
-    cast-print-refusal
+    list-tokens-requires-2
     print-refusal-requires
+    enum-known-answer-3
+    cast-print-refusal
+    print-refusal-requires-2
     returns
-    returns-2)
+    returns-2
+    returns-3)
