@@ -1,30 +1,30 @@
 #!/usr/bin/env python3
-"""Writes the vectors of the program `tokens`: crates/tokens/data/, args and stdout, from the independent reading tokens.py.
+"""The vectors of the program `tokens`: crates/tokens/data/, args and stdout, from the independent reading tokens.py.
 
-Run it at the root of the repository. Each vector stands below with what the paper says of it, where that is short.
+token_vectors.py          writes the files
+token_vectors.py --check  says whether they are those of the reading, and exits 1 where they are not
+
+Each vector stands below with the tokens that the paper gives it, where they are few; grammar_vectors.py has the texts
+for the grammar.
 """
-import os, shutil, sys
+import os
+import shutil
+import sys
 
-sys.path.insert(0, os.path.dirname(__file__))
-from tokens import read
+sys.dont_write_bytecode = True
+HERE = os.path.dirname(os.path.abspath(__file__))
+sys.path.insert(0, HERE)
+import grammar_vectors  # noqa: E402
+from tokens import CAPITAL, read  # noqa: E402
 
-CRATE = "crates/tokens"
+CRATE = os.path.join(HERE, "..", "crates", "tokens")
 
-SHELF_CARD = b"""T DEFINITIONS ::= BEGIN
-IMPORTS MODULE-IDENTITY FROM SNMPv2-SMI;
-t MODULE-IDENTITY LAST-UPDATED "" ORGANIZATION "" CONTACT-INFO "" DESCRIPTION "" ::= { iso 9 }
-a OBJECT IDENTIFIER ::= { t 1 }
-END
-"""
-
-# name, text, and what must be printed, or None where only the independent reading says it
+# name, text, and what must be printed before the last line that the grammar has, or None where only the reading says it
 VECTORS = [
     ("p1", b"----", []),
     ("p2", b"-----", ["refused\t3\t4"]),
     ("p3", b"a--b", ["0\t1\tlower"]),
     ("p4", b"4294967296", ["refused\t6\t0"]),
-    ("empty", b"", []),
-    ("card", SHELF_CARD, None),
     # comments
     ("comment-three-hyphens", b"---", []),
     ("comment-six-hyphens", b"------ a", []),
@@ -87,7 +87,7 @@ VECTORS = [
     ("line-ends", b"a\r\nb\r\n\r\nc\n", ["0\t1\tlower", "3\t4\tlower", "8\t9\tlower"]),
     ("bytes-65536", b'"' + b"x" * 65534 + b'"', ["0\t65536\ttext"]),
     ("bytes-65537", b'"' + b"x" * 65535 + b'"', ["refused\t2\t0"]),
-    ("words", b" ".join(sorted(__import__("tokens").CAPITAL)) + b" current deprecated obsolete not-accessible accessible-for-notify read-only read-write read-create", None),
+    ("words", b" ".join(sorted(CAPITAL)) + b" current deprecated obsolete not-accessible accessible-for-notify read-only read-write read-create", None),
 ]
 
 for b in range(256):
@@ -95,15 +95,50 @@ for b in range(256):
     VECTORS.append((f"byte-{b:02x}-in-text", b'"' + bytes([b]) + b'" z', None))
     VECTORS.append((f"byte-{b:02x}-in-comment", b"--" + bytes([b]) + b"-- z", None))
 
-assert len({name for name, _, _ in VECTORS}) == len(VECTORS)
-shutil.rmtree(f"{CRATE}/data", ignore_errors=True)
-os.makedirs(f"{CRATE}/data")
-stdout = []
-for name, text, expected in VECTORS:
+VECTORS += [(f"grammar-{name}", text.encode("ascii"), None) for name, text in grammar_vectors.vectors()]
+NAMES = [name for name, text, tokens in VECTORS]
+assert len(set(NAMES)) == len(NAMES)
+
+
+def listing(name, text, tokens):
     lines = read(text)
-    assert expected is None or lines == expected, (name, lines, expected)
-    open(f"{CRATE}/data/{name}", "wb").write(text)
-    stdout += [name] + lines
-open(f"{CRATE}/args", "w").write("".join(f"{name}\n" for name, _, _ in VECTORS))
-open(f"{CRATE}/stdout", "w").write("".join(f"{line}\n" for line in stdout))
-print(len(VECTORS), "vectors")
+    # the tokens, or one refusal, are as the paper has them; a text that cuts has one line more
+    assert tokens is None or lines[: len(tokens)] == tokens, (name, lines, tokens)
+    assert tokens is None or len(lines) == len(tokens) + (not lines[0].startswith("refused") or lines[0].startswith("refused\t7")), (name, lines)
+    return lines
+
+
+def files():
+    """The path below the crate and the bytes of each file."""
+    for name, text, tokens in VECTORS:
+        yield os.path.join("data", name), text
+    yield "args", "".join(f"{name}\n" for name in NAMES).encode("ascii")
+    yield "stdout", "".join(f"{line}\n" for vector in VECTORS for line in [vector[0]] + listing(*vector)).encode("latin-1")
+
+
+def check():
+    wrong = sorted(set(os.listdir(os.path.join(CRATE, "data"))) ^ set(NAMES))
+    for path, text in files():
+        full = os.path.join(CRATE, path)
+        if os.path.exists(full):
+            with open(full, "rb") as file:
+                if file.read() == text:
+                    continue
+        wrong.append(path)
+    for path in wrong:
+        print(f"token_vectors: crates/tokens: {path} is not what the reading gives; run tests/token_vectors.py", file=sys.stderr)
+    sys.exit(1 if wrong else 0)
+
+
+def main():
+    if "--check" in sys.argv:
+        check()
+    shutil.rmtree(os.path.join(CRATE, "data"), ignore_errors=True)
+    os.makedirs(os.path.join(CRATE, "data"))
+    for path, text in files():
+        with open(os.path.join(CRATE, path), "wb") as file:
+            file.write(text)
+    print(len(VECTORS), "vectors")
+
+
+main()

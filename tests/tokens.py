@@ -1,9 +1,14 @@
 #!/usr/bin/env python3
 """An independent reading of document 01, "Tokens": what `tokens FILE..` must print.
 
-It shares nothing with the crate `token` but the paper: it matches each piece with a regular expression.
+It shares nothing with the crates but the paper: it matches each piece with a regular expression. Its last line is
+what grammar.py, beside this file, reads of the classes.
 """
-import re, sys
+import re
+import sys
+
+sys.dont_write_bytecode = True
+import grammar  # noqa: E402
 
 CAPITAL = set(b"""AUGMENTS BEGIN BITS CONTACT-INFO DEFINITIONS DEFVAL DESCRIPTION DISPLAY-HINT END FROM IDENTIFIER IMPLIED
 IMPORTS INDEX INTEGER LAST-UPDATED MAX-ACCESS MODULE-IDENTITY NOTIFICATION-TYPE OBJECT OBJECT-IDENTITY OBJECT-TYPE OBJECTS
@@ -19,11 +24,9 @@ MARK = re.compile(rb"::=|\.\.|[{}(),;|]")
 LETTER = re.compile(rb"[A-Za-z]")
 
 
-def read(data):
-    """The listing of a text: its lines."""
-    if len(data) > 65536:
-        return ["refused\t2\t0"]
-    lines, at = [], 0
+def cut(data):
+    """The tokens of a text, each (start, end, class as printed), and its refusal or None."""
+    tokens, at = [], 0
     while at < len(data):
         gap = BLANK.match(data, at) or COMMENT.match(data, at)
         if gap:
@@ -31,10 +34,39 @@ def read(data):
             continue
         refusal, end, kind = one(data, at)
         if refusal:
-            return [f"refused\t{refusal[0]}\t{refusal[1]}"]
-        lines.append(f"{at}\t{end}\t{kind}")
+            return tokens, refusal
+        tokens.append((at, end, kind))
         at = end
-    return lines
+    return tokens, None
+
+
+def terminal(data, token):
+    """The token's class as the grammar has it: the status and access words and the negative numbers are told apart."""
+    start, end, kind = token
+    word = data[start:end].decode("latin-1")
+    if kind == "lower" and word in grammar.STATUS + grammar.ACCESS:
+        return word
+    if kind == "number" and word.startswith("-"):
+        return "negative"
+    return kind
+
+
+def judgement(data, tokens):
+    """The last line of a listing: derived, or refusal 7 and its place."""
+    fault = grammar.read([terminal(data, token) for token in tokens])
+    if fault is None:
+        return "derived"
+    return f"refused\t7\t{tokens[fault][0] if fault < len(tokens) else len(data)}"
+
+
+def read(data):
+    """The listing of a text: its lines."""
+    if len(data) > 65536:
+        return ["refused\t2\t0"]
+    tokens, refusal = cut(data)
+    if refusal:
+        return [f"refused\t{refusal[0]}\t{refusal[1]}"]
+    return [f"{start}\t{end}\t{kind}" for start, end, kind in tokens] + [judgement(data, tokens)]
 
 
 def one(data, at):

@@ -13,8 +13,8 @@ use Rattle.tokens.specs.Listed.{Listed}
 
 pub listed : (t : List ℕ) (answer : Answer) (n : ℕ) (classes starts ends classes′ starts′ ends′ : List ℕ) → length t ≤ 65536 → Parses t answer → Tabled t classes starts ends classes′ starts′ ends′ → count answer ≡ n → Listed (length t) starts′ ends′ n
 listed t answer n classes starts ends classes′ starts′ ends′ short right tabled counted = record {
-    few = omega (arith, few t, count-few t answer right);
-    inside = λ i h.
+  few = omega (arith, few t, count-few t answer right);
+  inside = λ i h.
       let place = entry-place t (tabled .0) classes starts ends classes′ starts′ ends′ (tabled .1) i (omega (arith, count-few t answer right)) in
-      (omega (arith, place .0), place .1)
-  }
+      (omega (arith, place .0), place .1);
+}

@@ -13,7 +13,7 @@ enum-known-answer : tie.Need-enum-known-answer
 enum-known-answer c = search needs
 
 list-tokens-requires : tie.Need-list-tokens-requires
-list-tokens-requires c κs = 
+list-tokens-requires c κs =
     listed _ _ _ _ _ _ _ _ _ (c .before .before .before .before .before .before .before .before .before .before .before .pre) (c .before .before .before .before .before .before .parse .ensures .0) (c .before .before .before .before .before .before .parse .ensures .1)
     (ap count (c .before .before .before .before .answer .given .1))
 
@@ -27,7 +27,7 @@ enum-known-answer-2 : tie.Need-enum-known-answer-2
 enum-known-answer-2 c = search needs
 
 list-tokens-requires-2 : tie.Need-list-tokens-requires-2
-list-tokens-requires-2 c κs = 
+list-tokens-requires-2 c κs =
     listed _ _ _ _ _ _ _ _ _ (c .before .before .before .before .before .before .before .before .before .before .before .pre) (c .before .before .before .before .before .before .parse .ensures .0) (c .before .before .before .before .before .before .parse .ensures .1)
     (ap count (c .before .before .before .before .answer2 .given .1))
 

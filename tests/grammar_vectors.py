@@ -1,30 +1,26 @@
 #!/usr/bin/env python3
-"""Texts for refusal 7, with what is to be said of each; the recursive reading beside this file says it.
+"""Texts for refusal 7, and a comparison of the transition table with the recursive reading grammar.py beside this file.
 
-    vectors.py --table            compare the reading with the transition table: at every state and class, and on
-                                  random walks with a token put in, left out or changed
-    vectors.py --run COMMAND ..   run COMMAND FILE for each text and compare the last line it prints
-    vectors.py --print            print each text's name and its expected line
+    grammar_vectors.py --table    compare the two: at every state and class, and on random walks with a token put in,
+                                  left out or changed
 
-The expected line is `derived`, or `refused`, 7 and the place in bytes, tabs between. The texts: none
-at all, the whole case of document 01 and its cut after each token, for each kind of definition one
-with every optional part and one with none, and for each state of the automaton one that fails there.
+The texts, which token_vectors.py stores: none at all, the whole case of document 01 and its cut after each token, for
+each kind of definition one with every optional part and one with none, and for each state of the automaton one that
+fails there.
 """
 
-import re
-import subprocess
 import sys
-import tempfile
 from collections import deque
 from pathlib import Path
 from random import Random
 
 sys.dont_write_bytecode = True
 HERE = Path(__file__).resolve().parent
-sys.path[:0] = [str(HERE), str(HERE.parent.parent / "tools")]
+sys.path[:0] = [str(HERE), str(HERE.parent / "tools")]
 
+import grammar  # noqa: E402
 import grammar_table  # noqa: E402
-import reading  # noqa: E402
+import tokens  # noqa: E402
 
 WHOLE = """T DEFINITIONS ::= BEGIN
 IMPORTS MODULE-IDENTITY FROM SNMPv2-SMI;
@@ -45,11 +41,11 @@ FULL_TAIL = 'STATUS obsolete DESCRIPTION "" REFERENCE "" '
 # choice among them.
 KINDS = {
     "plain": ["a OBJECT IDENTIFIER ::= { t 1 } ", "read-only OBJECT IDENTIFIER ::= { t b(1) 2 current(3) } "],
-    "object_identity": [
+    "object-identity": [
         f"a OBJECT-IDENTITY {TAIL}::= {{ t 1 }} ",
         f"a OBJECT-IDENTITY {FULL_TAIL}::= {{ t 1 }} ",
     ],
-    "object_type": [
+    "object-type": [
         f"a OBJECT-TYPE SYNTAX INTEGER MAX-ACCESS read-only {TAIL}::= {{ t 1 }} ",
         f'a OBJECT-TYPE SYNTAX INTEGER {{ b(1), c(-2) }} UNITS "" MAX-ACCESS read-create {FULL_TAIL}'
         "INDEX { b, c, IMPLIED d } DEFVAL { { b, c } } ::= { t 1 } ",
@@ -68,26 +64,19 @@ KINDS = {
         f'a OBJECT-TYPE SYNTAX SEQUENCE OF B UNITS "" MAX-ACCESS not-accessible {FULL_TAIL}'
         "INDEX { b } DEFVAL { { b } } ::= { t 1 } ",
     ],
-    "notification_type": [
+    "notification-type": [
         f"a NOTIFICATION-TYPE {TAIL}::= {{ t 0 1 }} ",
         f"a NOTIFICATION-TYPE OBJECTS {{ b, c }} {FULL_TAIL}::= {{ t 0 1 }} ",
     ],
-    "textual_convention": [
+    "textual-convention": [
         f"A ::= TEXTUAL-CONVENTION {TAIL}SYNTAX OCTET STRING ",
         f'A ::= TEXTUAL-CONVENTION DISPLAY-HINT "" {FULL_TAIL}SYNTAX OCTET STRING (SIZE (0..255)) ',
     ],
-    "sequence_type": [
+    "sequence-type": [
         "A ::= SEQUENCE { a INTEGER } ",
         "A ::= SEQUENCE { a INTEGER, b OCTET STRING, c OBJECT IDENTIFIER, d BITS, e Counter32 } ",
     ],
 }
-
-# The capital words of the grammar.
-CAPITALS = """
-AUGMENTS BEGIN BITS CONTACT-INFO DEFINITIONS DEFVAL DESCRIPTION DISPLAY-HINT END FROM IDENTIFIER IMPLIED IMPORTS INDEX
-INTEGER LAST-UPDATED MAX-ACCESS MODULE-IDENTITY NOTIFICATION-TYPE OBJECT OBJECT-IDENTITY OBJECT-TYPE OBJECTS OCTET OF
-ORGANIZATION REFERENCE REVISION SEQUENCE SIZE STATUS STRING SYNTAX TEXTUAL-CONVENTION UNITS
-""".split()
 
 # What is written for a class that is not its own spelling.
 SPELLED = {"lower": "a", "Upper": "A", "number": "1", "negative": "-1", "text": '""', "hex": "''H"}
@@ -96,45 +85,14 @@ SPELLED = {"lower": "a", "Upper": "A", "number": "1", "negative": "-1", "text": 
 MARKS = {"assign": "::=", "dots": "..", "left-brace": "{", "right-brace": "}", "left-paren": "(", "right-paren": ")"}
 MARKS |= {"comma": ",", "semicolon": ";", "bar": "|"}
 
-TOKEN = re.compile(
-    r"""(?P<mark>::=|\.\.|[{}(),;|])|(?P<text>"[^"]*")|(?P<hex>'[0-9A-Fa-f]*'H)"""
-    r"""|(?P<negative>-[1-9][0-9]*)|(?P<number>[0-9]+)|(?P<name>[A-Za-z](?:-?[A-Za-z0-9])*)"""
-)
-
-
-def cut(text):
-    """The classes of a text's tokens and the tokens' places."""
-    classes, places = [], []
-    for got in TOKEN.finditer(text):
-        kind, word = got.lastgroup, got.group()
-        if kind == "mark":
-            kind = word
-        elif kind == "name" and word in CAPITALS + reading.STATUS + reading.ACCESS:
-            kind = word
-        elif kind == "name":
-            kind = "lower" if word[0].islower() else "Upper"
-        classes.append(kind)
-        places.append(got.start())
-    return classes, places
-
-
-def expected(text):
-    classes, places = cut(text)
-    fault = reading.read(classes)
-    if fault is None:
-        return "derived"
-    place = places[fault] if fault < len(classes) else len(text)
-    return f"refused\t7\t{place}"
-
-
 class Table:
     """The transition table, and for each state the classes of a shortest way to it."""
 
     def __init__(self):
-        grammar = grammar_table.Grammar()
-        start = grammar_table.simplified(grammar.apply("smi-module", [], {}, "smi-module"))
-        automaton = grammar_table.Automaton(grammar, start)
-        names = {n: MARKS.get(name, name) for name, n in grammar.numbers.items() if name != "terminals"}
+        rules = grammar_table.Grammar()
+        start = grammar_table.simplified(rules.apply("smi-module", [], {}, "smi-module"))
+        automaton = grammar_table.Automaton(rules, start)
+        names = {n: MARKS.get(name, name) for name, n in rules.numbers.items() if name != "terminals"}
         self.classes = [names[n] for n in sorted(names)]
         self.rows, self.accepting = automaton.rows, automaton.accepting
         self.way = {1: []}
@@ -149,7 +107,6 @@ class Table:
     def spoiling(self, state):
         """A class with which no derived sequence goes on from the state."""
         return next(name for name, target in zip(self.classes, self.rows[state]) if not target)
-
 
     def fault(self, classes):
         """The index of the token at fault, or None, by the table."""
@@ -190,15 +147,15 @@ def vectors():
     """The name and the text of each vector."""
     yield "empty", ""
     yield "whole", WHOLE
-    for number, place in enumerate(cut(WHOLE)[1][1:], 1):
-        yield f"whole_cut_after_{number}", WHOLE[:place].rstrip()
+    for number, (start, end, kind) in enumerate(tokens.cut(WHOLE.encode())[0], 1):
+        yield f"whole-to-token-{number}", WHOLE[:end]
     for kind, texts in KINDS.items():
         for number, text in enumerate(texts):
             head = FULL_HEAD if number else HEAD
-            yield f"{kind}_{number}", f"{head}::= {{ iso 1 }} {text}END\n"
+            yield f"{kind}-{number}", f"{head}::= {{ iso 1 }} {text}END\n"
     table = Table()
     for state in sorted(table.way):
-        yield f"state_{state}", written(table.way[state] + [table.spoiling(state)])
+        yield f"state-{state}", written(table.way[state] + [table.spoiling(state)])
 
 
 def against_table():
@@ -208,40 +165,17 @@ def against_table():
     random = Random(5)
     for _ in range(5000):
         cases.append(damaged(random, table.walk(random, random.randrange(1, 300)), table.classes))
-    wrong = [classes for classes in cases if reading.read(classes) != table.fault(classes)]
+    wrong = [classes for classes in cases if grammar.read(classes) != table.fault(classes)]
     for classes in wrong:
-        print("differ:", " ".join(classes), "reading", reading.read(classes), "table", table.fault(classes))
+        print("differ:", " ".join(classes), "reading", grammar.read(classes), "table", table.fault(classes))
     print(f"{len(cases)} sequences compared, {len(wrong)} differ")
     return len(wrong)
 
 
-def run(command):
-    wrong = total = 0
-    with tempfile.TemporaryDirectory() as folder:
-        for name, text in vectors():
-            path = Path(folder) / f"{name}.mib"
-            path.write_text(text)
-            got = subprocess.run([*command, str(path)], capture_output=True, text=True, check=False).stdout
-            last = got.rstrip("\n").split("\n")[-1]
-            total += 1
-            if last != expected(text):
-                wrong += 1
-                print(f"{name}: expected {expected(text)!r}, printed {last!r}")
-    print(f"{total} texts, {wrong} wrong")
-    return wrong
-
-
 def main():
-    arguments = sys.argv[1:]
-    if arguments == ["--table"]:
-        sys.exit(1 if against_table() else 0)
-    if arguments == ["--print"]:
-        for name, text in vectors():
-            print(name, expected(text), sep="\t")
-    elif len(arguments) > 1 and arguments[0] == "--run":
-        sys.exit(1 if run(arguments[1:]) else 0)
-    else:
+    if sys.argv[1:] != ["--table"]:
         sys.exit(__doc__)
+    sys.exit(1 if against_table() else 0)
 
 
 if __name__ == "__main__":
