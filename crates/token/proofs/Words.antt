@@ -12,9 +12,9 @@ use lib.Dec.{T, eqb, eqb→eq, ltb, ltb→lt}
 use lib.ListN.{length, getD, take, drop, length-append, length-take, length-drop}
 use lib.Seq.{drop-cons, take-append-seam, drop-append-seam, drop-append-add, getD-take, length-take-le}
 use borrow.Author.Tests.{eq-eqb, ne-eqb, eqb-true}
-use Rattle.token.specs.Word.{words, wordTable, wordClasses, word, bytes, same, placeIn, joined, startOf}
+use Rattle.token.specs.Word.{words, wordTable, wordClasses, word, bytes, same, placeIn, joined, startOf, slotOf, SlotWord}
 use Rattle.token.proofs.Places.{byte-there}
-use Rattle.token.proofs.Tables.{tested}
+use Rattle.token.proofs.Tables.{passes, tested}
 
 -- two spellings that are the same are equal
 pub same-equal : (xs ys : List ℕ) → same xs ys ≡ true → xs ≡ ys
@@ -33,30 +33,26 @@ unfolding same
 same-refl [] = refl
 same-refl (x ∷ xs) = simp (eq-eqb x x refl, same-refl xs)
 
--- the slots of the hash
-unfoldable pub slots : List ℕ
-slots =
-    7 ∷ 43 ∷ 43 ∷ 43 ∷ 43 ∷ 3 ∷ 43 ∷ 43 ∷ 43 ∷ 43 ∷ 43 ∷ 24 ∷ 43 ∷ 29 ∷ 39 ∷ 43 ∷ 43 ∷ 25 ∷ 43 ∷ 43 ∷ 41 ∷ 43 ∷ 5 ∷ 43 ∷ 15 ∷ 43 ∷ 43 ∷ 42 ∷ 43 ∷ 43 ∷ 43 ∷ 43 ∷ 43 ∷ 43 ∷ 43 ∷ 43 ∷ 38 ∷ 43 ∷ 9 ∷ 43 ∷ 17 ∷ 28 ∷ 2 ∷ 43 ∷ 43 ∷ 26 ∷ 20 ∷ 43 ∷ 43 ∷ 43 ∷ 21 ∷ 43 ∷ 43 ∷ 43 ∷ 43 ∷ 43 ∷ 43 ∷ 1 ∷ 35 ∷ 43 ∷ 14 ∷ 43 ∷ 13 ∷ 43 ∷ 43 ∷ 43 ∷ 43 ∷ 0 ∷ 8 ∷ 43 ∷ 43 ∷ 43 ∷ 43 ∷ 43 ∷ 33 ∷ 31 ∷ 43 ∷ 43 ∷ 43 ∷ 43 ∷ 43 ∷ 10 ∷ 36 ∷ 43 ∷ 12 ∷ 43 ∷ 43 ∷ 43 ∷ 43 ∷ 18 ∷ 43 ∷ 43 ∷ 43 ∷ 43 ∷ 43 ∷ 43 ∷ 43 ∷ 4 ∷ 43 ∷ 32 ∷ 43 ∷ 43 ∷ 22 ∷ 43 ∷ 43 ∷ 6 ∷ 34 ∷ 30 ∷ 11 ∷ 40 ∷ 43 ∷ 43 ∷ 23 ∷ 43 ∷ 43 ∷ 43 ∷ 43 ∷ 16 ∷ 43 ∷ 19 ∷ 43 ∷ 43 ∷ 43 ∷ 43 ∷ 43 ∷ 37 ∷ 27 ∷ 43 ∷ []
+in-words : (k : ℕ) → k < 43 → k < length words
+unfolding words wordTable word bytes
+in-words k h = h
 
--- a slot holds a word, or 43
-some-word : ℕ → ℕ → Bool
+-- an entry of the slots is a word or 43, and the slot of the word at k holds k
+unfoldable pub some-word : ℕ → ℕ → Bool
 some-word i k = ltb k 44
 
-pub slot-bound : (i : ℕ) → i < 128 → getD slots i 0 < 44
-unfolding some-word slots
-slot-bound i h = ltb→lt (getD slots i 0) 44 (tested some-word 0 slots tt i h)
+unfoldable pub own-slot : List ℕ → ℕ → List ℕ → Bool
+own-slot slots k w = eqb (getD slots (slotOf w) 0) k
 
--- the slot of a spelling
-abbrev pub slotOf : List ℕ → ℕ
-slotOf s = (3 * getD s 0 0 + 24 * getD s (length s - 1) 0 + 7 * length s) % 128
-
--- the slot of the word at k holds k
-own-slot : ℕ → List ℕ → Bool
-own-slot k w = eqb (getD slots (slotOf w) 0) k
-
-pub word-slot : (k : ℕ) → k < 43 → getD slots (slotOf (getD words k [])) 0 ≡ k
-unfolding own-slot slots words wordTable word bytes
-word-slot k h = eqb→eq _ _ (tested own-slot [] words tt k h)
+-- slots that pass both tests hold every word where its hash leads
+pub slot-word : (slots : List ℕ) → length slots ≡ 128 → T (passes some-word 0 slots) → T (passes (own-slot slots) 0 words) → (slot : ℕ) {place : ℕ} → slot < 128 → place ≡ getD slots slot 0 → SlotWord slot place
+unfolding some-word own-slot
+slot-word slots long few own slot h is =
+    record {
+      few = omega (arith, is, ltb→lt (getD slots slot 0) 44 (tested some-word 0 slots few slot (omega arith)));
+      own = λ k l e.
+          is ∙ ap (λ (i : ℕ). getD slots i 0) (sym e) ∙ eqb→eq (getD slots (slotOf (getD words k [])) 0) k (tested (own-slot slots) [] words own k (in-words k l));
+    }
 
 -- the words stand in the order of the terminals: the word at k has the class k
 own-class : ℕ → ℕ → Bool
@@ -96,30 +92,28 @@ place-first s (w ∷ ws) (suc k) h e = go (same s w) (place-first s ws k (omega 
     go false q = omega arith
 
 -- a word is found in its slot
-slot-of-place : (s : List ℕ) → placeIn s words < 43 → getD slots (slotOf s) 0 ≡ placeIn s words
-unfolding words wordTable word bytes
-slot-of-place s h =
-    let e : s ≡ getD words (placeIn s words) [] = same-equal s (getD words (placeIn s words) []) (place-same s words h) in
-    ap (λ (w : List ℕ). getD slots (slotOf w) 0) e ∙ word-slot (placeIn s words) h
+module _ (s : List ℕ) (k : ℕ) (held : SlotWord (slotOf s) k) where
+  in-slot : placeIn s words < 43 → k ≡ placeIn s words
+  in-slot h =
+      let e : s ≡ getD words (placeIn s words) [] =
+      same-equal s (getD words (placeIn s words) []) (place-same s words (in-words (placeIn s words) h)) in
+      held .own (placeIn s words) h (ap slotOf (sym e))
 
-pub found : (s : List ℕ) (k : ℕ) → getD slots (slotOf s) 0 ≡ k → k < 43 → same s (getD words k []) ≡ true → k ≡ placeIn s words
-unfolding words wordTable word bytes
-found s k e h q =
-    let first : placeIn s words ≤ k = place-first s words k h q in
-    sym e ∙ slot-of-place s (omega arith)
+  pub found : k < 43 → same s (getD words k []) ≡ true → k ≡ placeIn s words
+  found h q = let first : placeIn s words ≤ k = place-first s words k (in-words k h) q in in-slot (omega arith)
 
-pub not-found : (s : List ℕ) (k : ℕ) → getD slots (slotOf s) 0 ≡ k → (k < 43 → same s (getD words k []) ≡ false) → 43 ≡ placeIn s words
-unfolding words wordTable word bytes
-not-found s k e h = go (decLt (placeIn s words) 43)
-  where
-    go : Dec (placeIn s words < 43) → 43 ≡ placeIn s words
-    go (no q) = omega (arith, place-bound s words)
-    go (yes q) =
-        let at-k : placeIn s words ≡ k = sym (slot-of-place s q) ∙ e in
-        let f : same s (getD words k []) ≡ false = h (omega arith) in
-        let t : same s (getD words k []) ≡ true = rw (← at-k) (place-same s words q) in
-        let z : _≡_ {A = ℕ} 0 1 = cc in
-        absurd (omega arith)
+  pub not-found : (k < 43 → same s (getD words k []) ≡ false) → 43 ≡ placeIn s words
+  unfolding words wordTable word bytes
+  not-found h = go (decLt (placeIn s words) 43)
+    where
+      go : Dec (placeIn s words < 43) → 43 ≡ placeIn s words
+      go (no q) = omega (arith, place-bound s words)
+      go (yes q) =
+          let at-k : placeIn s words ≡ k = sym (in-slot q) in
+          let f : same s (getD words k []) ≡ false = h (omega arith) in
+          let t : same s (getD words k []) ≡ true = rw (← at-k) (place-same s words q) in
+          let z : _≡_ {A = ℕ} 0 1 = cc in
+          absurd (omega arith)
 
 -- among the joined spellings, a word's own stands where it starts
 pub word-part : (ws : List (List ℕ)) (k : ℕ) → k < length ws → drop (startOf ws k) (joined ws) ≡ getD ws k [] ++ drop (startOf ws (suc k)) (joined ws)
@@ -174,19 +168,6 @@ module _ (a b : List ℕ) (i j n k : ℕ) (ha : i + n ≤ length a) (hb : j + n 
   unfolding same
   same-ends h = let z : n - k ≡ 0 = omega arith in rw z
 
--- the joined spellings as the code has them
-unfoldable pub spellings : List ℕ
-spellings =
-    65 ∷ 85 ∷ 71 ∷ 77 ∷ 69 ∷ 78 ∷ 84 ∷ 83 ∷ 66 ∷ 69 ∷ 71 ∷ 73 ∷ 78 ∷ 66 ∷ 73 ∷ 84 ∷ 83 ∷ 67 ∷ 79 ∷ 78 ∷ 84 ∷ 65 ∷ 67 ∷ 84 ∷ 45 ∷ 73 ∷ 78 ∷ 70 ∷ 79 ∷ 68 ∷ 69 ∷ 70 ∷ 73 ∷ 78 ∷ 73 ∷ 84 ∷ 73 ∷ 79 ∷ 78 ∷ 83 ∷ 68 ∷ 69 ∷ 70 ∷ 86 ∷ 65 ∷ 76 ∷ 68 ∷ 69 ∷ 83 ∷ 67 ∷ 82 ∷ 73 ∷ 80 ∷ 84 ∷ 73 ∷ 79 ∷ 78 ∷ 68 ∷ 73 ∷ 83 ∷ 80 ∷ 76 ∷ 65 ∷ 89 ∷ 45 ∷ 72 ∷ 73 ∷ 78 ∷ 84 ∷ 69 ∷ 78 ∷ 68 ∷ 70 ∷ 82 ∷ 79 ∷ 77 ∷ 73 ∷ 68 ∷ 69 ∷ 78 ∷ 84 ∷ 73 ∷ 70 ∷ 73 ∷ 69 ∷ 82 ∷ 73 ∷ 77 ∷ 80 ∷ 76 ∷ 73 ∷ 69 ∷ 68 ∷ 73 ∷ 77 ∷ 80 ∷ 79 ∷ 82 ∷ 84 ∷ 83 ∷ 73 ∷ 78 ∷ 68 ∷ 69 ∷ 88 ∷ 73 ∷ 78 ∷ 84 ∷ 69 ∷ 71 ∷ 69 ∷ 82 ∷ 76 ∷ 65 ∷ 83 ∷ 84 ∷ 45 ∷ 85 ∷ 80 ∷ 68 ∷ 65 ∷ 84 ∷ 69 ∷ 68 ∷ 77 ∷ 65 ∷ 88 ∷ 45 ∷ 65 ∷ 67 ∷ 67 ∷ 69 ∷ 83 ∷ 83 ∷ 77 ∷ 79 ∷ 68 ∷ 85 ∷ 76 ∷ 69 ∷ 45 ∷ 73 ∷ 68 ∷ 69 ∷ 78 ∷ 84 ∷ 73 ∷ 84 ∷ 89 ∷ 78 ∷ 79 ∷ 84 ∷ 73 ∷ 70 ∷ 73 ∷ 67 ∷ 65 ∷ 84 ∷ 73 ∷ 79 ∷ 78 ∷ 45 ∷ 84 ∷ 89 ∷ 80 ∷ 69 ∷ 79 ∷ 66 ∷ 74 ∷ 69 ∷ 67 ∷ 84 ∷ 79 ∷ 66 ∷ 74 ∷ 69 ∷ 67 ∷ 84 ∷ 45 ∷ 73 ∷ 68 ∷ 69 ∷ 78 ∷ 84 ∷ 73 ∷ 84 ∷ 89 ∷ 79 ∷ 66 ∷ 74 ∷ 69 ∷ 67 ∷ 84 ∷ 45 ∷ 84 ∷ 89 ∷ 80 ∷ 69 ∷ 79 ∷ 66 ∷ 74 ∷ 69 ∷ 67 ∷ 84 ∷ 83 ∷ 79 ∷ 67 ∷ 84 ∷ 69 ∷ 84 ∷ 79 ∷ 70 ∷ 79 ∷ 82 ∷ 71 ∷ 65 ∷ 78 ∷ 73 ∷ 90 ∷ 65 ∷ 84 ∷ 73 ∷ 79 ∷ 78 ∷ 82 ∷ 69 ∷ 70 ∷ 69 ∷ 82 ∷ 69 ∷ 78 ∷ 67 ∷ 69 ∷ 82 ∷ 69 ∷ 86 ∷ 73 ∷ 83 ∷ 73 ∷ 79 ∷ 78 ∷ 83 ∷ 69 ∷ 81 ∷ 85 ∷ 69 ∷ 78 ∷ 67 ∷ 69 ∷ 83 ∷ 73 ∷ 90 ∷ 69 ∷ 83 ∷ 84 ∷ 65 ∷ 84 ∷ 85 ∷ 83 ∷ 83 ∷ 84 ∷ 82 ∷ 73 ∷ 78 ∷ 71 ∷ 83 ∷ 89 ∷ 78 ∷ 84 ∷ 65 ∷ 88 ∷ 84 ∷ 69 ∷ 88 ∷ 84 ∷ 85 ∷ 65 ∷ 76 ∷ 45 ∷ 67 ∷ 79 ∷ 78 ∷ 86 ∷ 69 ∷ 78 ∷ 84 ∷ 73 ∷ 79 ∷ 78 ∷ 85 ∷ 78 ∷ 73 ∷ 84 ∷ 83 ∷ 99 ∷ 117 ∷ 114 ∷ 114 ∷ 101 ∷ 110 ∷ 116 ∷ 100 ∷ 101 ∷ 112 ∷ 114 ∷ 101 ∷ 99 ∷ 97 ∷ 116 ∷ 101 ∷ 100 ∷ 111 ∷ 98 ∷ 115 ∷ 111 ∷ 108 ∷ 101 ∷ 116 ∷ 101 ∷ 110 ∷ 111 ∷ 116 ∷ 45 ∷ 97 ∷ 99 ∷ 99 ∷ 101 ∷ 115 ∷ 115 ∷ 105 ∷ 98 ∷ 108 ∷ 101 ∷ 97 ∷ 99 ∷ 99 ∷ 101 ∷ 115 ∷ 115 ∷ 105 ∷ 98 ∷ 108 ∷ 101 ∷ 45 ∷ 102 ∷ 111 ∷ 114 ∷ 45 ∷ 110 ∷ 111 ∷ 116 ∷ 105 ∷ 102 ∷ 121 ∷ 114 ∷ 101 ∷ 97 ∷ 100 ∷ 45 ∷ 111 ∷ 110 ∷ 108 ∷ 121 ∷ 114 ∷ 101 ∷ 97 ∷ 100 ∷ 45 ∷ 119 ∷ 114 ∷ 105 ∷ 116 ∷ 101 ∷ 114 ∷ 101 ∷ 97 ∷ 100 ∷ 45 ∷ 99 ∷ 114 ∷ 101 ∷ 97 ∷ 116 ∷ 101 ∷ []
-
-spellings-joined : joined words ≡ spellings
-unfolding words wordTable word bytes joined spellings
-spellings-joined = refl
-
-in-words : (k : ℕ) → k < 43 → k < length words
-unfolding words wordTable word bytes
-in-words k h = h
-
 all-length : length (joined words) ≡ 384
 unfolding words wordTable word bytes joined
 all-length = refl
@@ -198,10 +179,21 @@ word-ends k h = rw (add-one k) (word-next words k (in-words k h))
 pub start-fits : (k : ℕ) → startOf words k ≤ 384
 start-fits k = omega (arith, start-inside words k, all-length)
 
-pub word-at : (k n : ℕ) → k < 43 → n ≡ startOf words (k + 1) - startOf words k → take n (drop (startOf words k) spellings) ≡ getD words k []
-word-at k n h e =
+-- an entry of the starts is where the word at k starts
+unfoldable pub starts-there : ℕ → ℕ → Bool
+starts-there k start = eqb start (startOf words k)
+
+pub start-entry : (starts : List ℕ) → length starts ≡ 44 → T (passes starts-there 0 starts) → (k : ℕ) {start : ℕ} → k ≤ 43 → start ≡ getD starts k 0 → start ≡ startOf words k
+unfolding starts-there
+start-entry starts long t k h is = is ∙ eqb→eq (getD starts k 0) (startOf words k) (tested starts-there 0 starts t k (omega arith))
+
+-- what a comparison with the joined spellings says of the word at k
+pub compared : (spellings : List ℕ) → spellings ≡ joined words → (name : List ℕ) (k from n : ℕ) {r : Bool} → k < 43 → from ≡ startOf words k → n ≡ startOf words (k + 1) - from → r ≡ same name (take n (drop from spellings)) → r ≡ same name (getD words k [])
+compared spellings all name k from n h f e q =
     let m : n ≡ length (getD words k []) = omega (arith, word-ends k h) in
-    rw (m, ← spellings-joined, word-part words k (in-words k h)) (take-append-seam (getD words k []) (drop (startOf words (suc k)) (joined words)))
+    let part : take n (drop from spellings) ≡ getD words k [] =
+    rw (m, f, all, word-part words k (in-words k h)) (take-append-seam (getD words k []) (drop (startOf words (suc k)) (joined words))) in
+    q ∙ ap (same name) part
 
 -- the slot of the name from start to end of a text
 pub slot-part : (t : List ℕ) (start end : ℕ) → start < end → end ≤ length t → slotOf (take (end - start) (drop start t)) ≡ (3 * getD t start 0 + 24 * getD t (end - 1) 0 + 7 * (end - start)) % 128

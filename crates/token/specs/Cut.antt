@@ -1,4 +1,5 @@
 -- The cut of a text into blanks, comments and tokens, taken from the left: document 01, "Tokens", with refusals 3 to 6.
+-- A text is the list of its bytes. `cond t a b` is a where the test t holds, and b where it doesn't.
 -- Assumes nothing.
 use mathlib.Core.Bool.{Bool, true, false, cond, not, _&&_, _||_}
 use mathlib.Core.List.{List, [], _∷_}
@@ -10,7 +11,8 @@ use Rattle.token.specs.Byte.{classOf, quote, feed, newline, space, hyphe
 use Rattle.token.specs.Word.{nameClass}
 use Rattle.token.specs.Token.{Tok, tok, decimal}
 
--- how many bytes at the start of s, one after the other, pass the test p, which is of a byte and the byte after it
+-- how many bytes at the start of s, one after the other, pass the test p: the longest reading. The test is of a byte and the
+-- byte after it (0 at the end)
 unfoldable pub span : (ℕ → ℕ → Bool) → List ℕ → ℕ
 span p [] = 0
 span p (b ∷ bs) = cond (p b (getD bs 0 0)) (suc (span p bs)) 0
@@ -53,71 +55,71 @@ largestNumber = 4294967295
 abbrev pub largestNegative : ℕ
 largestNegative = 2147483648
 
--- at a letter: a name, as long as may be
+-- where s starts with a letter: a name
 unfoldable pub name : List ℕ → Piece
 name s =
     cond (leb (span nameByte s) longestName) (token (nameClass (take (span nameByte s) s)) (span nameByte s)) (refusal longName 0)
 
--- a run of n digits at the start of s is none of a number: it starts with 0 and has more digits, or a letter follows it
--- (another digit doesn't: the run is as long as may be)
+-- the run of digits at the start of s is no number: it has several digits and starts with 0 (byte 48), or stands directly before
+-- a letter (what follows the run is no digit, so that it is a letter if it is one of the two)
 unfoldable pub misfit : List ℕ → Bool
 misfit s =
     (eqb (getD s 0 0) 48 && ltb 1 (span digitByte s)) || alphanumeric (getD s (span digitByte s) 0)
 
--- at a digit: a number that is not negative
+-- where s starts with a digit: a number that is not negative. What is no token comes before what is out of range
 unfoldable pub nonNegative : List ℕ → Piece
 nonNegative s =
     cond (misfit s) (refusal noToken 0)
     (cond (leb (decimal (take (span digitByte s) s)) largestNumber) (token number (span digitByte s)) (refusal outOfRange 0))
 
--- at a hyphen, before the digits s: a negative number, which doesn't start with 0
+-- where a hyphen is followed by s, which starts with a digit: a negative number. A hyphen before 0 makes none
 unfoldable pub belowZero : List ℕ → Piece
 belowZero s =
     cond (eqb (getD s 0 0) 48 || misfit s) (refusal noToken 0)
     (cond (leb (decimal (take (span digitByte s) s)) largestNegative) (token negative (suc (span digitByte s)))
     (refusal outOfRange 0))
 
--- what ends a comment before s is part of it if it is two hyphens
+-- what a comment that is followed by s takes of it: two hyphens
 abbrev pub closing : List ℕ → ℕ
 closing s = cond (twoHyphens (getD s 0 0) (getD s 1 0)) 2 0
 
--- at two hyphens, before s: a comment
+-- where two hyphens are followed by s: a comment, up to and with the next two hyphens, up to byte 10 or 13, or to the text's end
 unfoldable pub comment : List ℕ → Piece
 comment s = gap (2 + span commentByte s + closing (drop (span commentByte s) s))
 
--- at a hyphen, before s: a comment, a negative number, or no token
+-- where a hyphen is followed by s: a comment, a negative number, or no token
 unfoldable pub afterHyphen : List ℕ → Piece
 afterHyphen s =
     cond (eqb (classOf (getD s 0 0)) hyphen) (comment (drop 1 s))
     (cond (eqb (classOf (getD s 0 0)) digit) (belowZero s) (refusal noToken 0))
 
--- at a quote, before s, where n bytes may stand in a text: what comes next is the end quote, the end of the whole text, or a
--- forbidden byte
+-- where a quote is followed by s, of which the first n bytes may stand in a text, and the next not: that one is missing, the end
+-- quote, or a forbidden byte
 abbrev pub textEnd : List ℕ → ℕ → Piece
 textEnd s n =
     cond (leb (length s) n) (refusal noToken 0)
     (cond (eqb (classOf (getD s n 0)) quote) (token text (n + 2)) (refusal forbidden (n + 1)))
 
--- at a quote, before s: a text
+-- where a quote is followed by s: a text
 unfoldable pub quoted : List ℕ → Piece
 quoted s = textEnd s (span textByte s)
 
--- at an apostrophe, before s: hex digits or none, an apostrophe, and H (72)
+-- where an apostrophe is followed by s: hex digits or none, an apostrophe and H (byte 72)
 unfoldable pub hexString : List ℕ → Piece
 hexString s =
     cond (eqb (classOf (getD s (span hexByte s) 0)) apostrophe && eqb (getD s (span hexByte s + 1) 0) 72)
     (token hex (span hexByte s + 3))
     (refusal noToken 0)
 
--- at a colon, before s: `::=`, whose other bytes are a colon (58) and an equals sign (61)
+-- where a colon is followed by s: `::=`, whose other bytes are 58 and 61
 unfoldable pub afterColon : List ℕ → Piece
 afterColon s = cond (eqb (getD s 0 0) 58 && eqb (getD s 1 0) 61) (token assign 3) (refusal noToken 0)
 
--- at a dot, before s: `..` (a dot is 46)
+-- where a dot is followed by s: `..`, whose other byte is 46
 unfoldable pub afterDot : List ℕ → Piece
 afterDot s = cond (eqb (getD s 0 0) 46) (token dots 2) (refusal noToken 0)
 
--- at a byte of the class c, which is no letter and no digit, before s
+-- where a byte of the class c, which is no letter, no digit and no blank, is followed by s
 unfoldable pub punctuation : ℕ → List ℕ → Piece
 punctuation c s =
     cond (leb left-brace c) (token c 1)
@@ -125,8 +127,7 @@ punctuation c s =
     (cond (eqb c quote) (quoted s)
     (cond (eqb c colon) (afterColon s) (cond (eqb c dot) (afterDot s) (cond (eqb c apostrophe) (hexString s) (refusal noToken 0))))))
 
--- what the text holds where s is left of it, s not empty, by the class of its first byte: a number, a name, blanks, or
--- something else
+-- what a text holds at the start of s, which is what is left of it and not empty, by the class of the first byte
 unfoldable pub piece : List ℕ → Piece
 piece s =
     cond (alphanumeric (getD s 0 0)) (cond (eqb (classOf (getD s 0 0)) digit) (nonNegative s) (name s))
@@ -155,7 +156,8 @@ startingWith at s (token c n) rest =
     record { tokens = tok c at (at + n) (take n s) ∷ rest .tokens; ending = rest .ending }
 startingWith at s (refusal r d) rest = record { tokens = []; ending = refused r (at + d) }
 
--- the cut of what is left of a text at the place `at`, of which the first n bytes belong to a piece before it
+-- the cut of what is left of a text at the place `at`, of which the first n bytes belong to a piece that started before. Each
+-- piece but a refusal has a byte at least, and `pred` counts those after its first
 unfoldable pub cutFrom : ℕ → ℕ → List ℕ → Cut
 cutFrom at n [] = record { tokens = []; ending = whole }
 cutFrom at zero (b ∷ bs) =

@@ -1,8 +1,9 @@
 -- The words of the grammar: the capital words, and the status and access words. One table serves the code and the definition.
 -- Assumes nothing.
 use mathlib.Core.Bool.{Bool, true, false, cond, _&&_}
+use mathlib.Core.Path.{_≡_}
 use mathlib.Core.List.{List, [], _∷_, _++_, map}
-use Prim.Native.Nat.{ℕ, suc}
+use Prim.Native.Nat.{ℕ, suc, _+_, _-_, _*_, _%_, _≤_, _<_}
 use Prim.Native.Char.{code}
 use Prim.Native.String.{String, [] as none, _∷_ as char-and}
 use lib.Dec.{eqb, leb, ltb}
@@ -100,6 +101,10 @@ joined (w ∷ ws) = w ++ joined ws
 abbrev pub startOf : List (List ℕ) → ℕ → ℕ
 startOf ws k = length (joined (take k ws))
 
+-- the slot of a spelling, by which the code looks words up: a hash of its first byte, last byte and length
+abbrev pub slotOf : List ℕ → ℕ
+slotOf s = (3 * getD s 0 0 + 24 * getD s (length s - 1) 0 + 7 * length s) % 128
+
 -- how many words there are
 abbrev pub wordCount : ℕ
 wordCount = 43
@@ -109,3 +114,8 @@ unfoldable pub nameClass : List ℕ → ℕ
 nameClass s =
     cond (ltb (placeIn s words) wordCount) (getD wordClasses (placeIn s words) 0)
     (cond (leb capital-hex (classOf (getD s 0 0))) Upper lower)
+
+-- what the code holds in a slot: the place of every word of that slot (there is one at most), or else at most wordCount
+pub record SlotWord (slot place : ℕ) : Type 0 where
+  pub few : place ≤ wordCount
+  pub own : (k : ℕ) → k < wordCount → slotOf (getD words k []) ≡ slot → place ≡ k

@@ -20,11 +20,10 @@ use crate::byte::SMALL;
 use crate::byte::SMALL_HEX;
 use crate::byte::SPACE;
 use crate::byte::class_of;
+use crate::scan::Run;
 use crate::scan::byte_at;
 use crate::scan::class_at;
-use crate::scan::comment_end;
 use crate::scan::digit_run;
-use crate::scan::name_end;
 use crate::scan::run_end;
 use crate::word::name_class;
 
@@ -58,7 +57,7 @@ fn name_at(table: &[u8; 256], text: &[u8], at: usize) -> Found
     requires { ⌜ (at < length (now text)) × (1 ≤ span nameByte (drop at (now text))) × ClassTable (now table) ⌝ }
     ensures { λ r. ⌜ r ≡ foundAt at (name (drop at (now (text .entry)))) ⌝ }
 {
-    let end = name_end(table, text, at);
+    let end = run_end(table, text, at, Run::Name);
     if LONGEST_NAME < end - at {
         return Found::Refused(LONG_NAME, Place(at));
     }
@@ -118,7 +117,7 @@ fn comment_at(table: &[u8; 256], text: &[u8], at: usize) -> Found
     requires { ⌜ (at + 2 ≤ length (now text)) × ClassTable (now table) ⌝ }
     ensures { λ r. ⌜ r ≡ foundAt at (comment (drop (at + 2) (now (text .entry)))) ⌝ }
 {
-    let end = comment_end(table, text, at + 2);
+    let end = run_end(table, text, at + 2, Run::Comment);
     if class_at(table, text, end) == HYPHEN {
         if class_at(table, text, end + 1) == HYPHEN {
             return Found::Piece(GAP, end + 2);
@@ -147,7 +146,7 @@ fn text_at(table: &[u8; 256], text: &[u8], at: usize) -> Found
     requires { ⌜ (at < length (now text)) × ClassTable (now table) ⌝ }
     ensures { λ r. ⌜ r ≡ foundAt at (quoted (drop (at + 1) (now (text .entry)))) ⌝ }
 {
-    let end = run_end(table, text, at + 1, NEWLINE, CAPITAL);
+    let end = run_end(table, text, at + 1, Run::Classes(NEWLINE, CAPITAL));
     if text.len() <= end {
         return Found::Refused(NO_TOKEN, Place(at));
     }
@@ -162,7 +161,7 @@ fn hex_at(table: &[u8; 256], text: &[u8], at: usize) -> Found
     requires { ⌜ (at < length (now text)) × ClassTable (now table) ⌝ }
     ensures { λ r. ⌜ r ≡ foundAt at (hexString (drop (at + 1) (now (text .entry)))) ⌝ }
 {
-    let end = run_end(table, text, at + 1, SMALL_HEX, CAPITAL_HEX);
+    let end = run_end(table, text, at + 1, Run::Classes(SMALL_HEX, CAPITAL_HEX));
     if class_at(table, text, end) == APOSTROPHE {
         if byte_at(text, end + 1) == b'H' {
             return Found::Piece(terminal::HEX, end + 2);
@@ -235,7 +234,7 @@ pub fn piece_at(table: &[u8; 256], text: &[u8], at: usize) -> Found
     }
     if FEED <= class {
         if class <= SPACE {
-            return Found::Piece(GAP, run_end(table, text, at, FEED, SPACE));
+            return Found::Piece(GAP, run_end(table, text, at, Run::Classes(FEED, SPACE)));
         }
     }
     punctuation_at(table, text, at, class)

@@ -6,6 +6,7 @@ ghost use lib.ListN.{length, getD, take, drop};
 ghost use Rattle.token.specs.Byte.{ClassTable, classOf, classed, digitByte, nameByte, commentByte};
 ghost use Rattle.token.specs.Token.{decimal};
 ghost use Rattle.token.specs.Cut.{span};
+ghost use Rattle.token.specs.Run.{belongsTo};
 use crate::byte::DIGIT;
 use crate::byte::HYPHEN;
 use crate::byte::NEWLINE;
@@ -31,7 +32,7 @@ pub fn class_at(table: &[u8; 256], text: &[u8], at: usize) -> u8
 }
 
 // Whether the byte's class lies from low to high.
-fn in_run(table: &[u8; 256], text: &[u8], at: usize, low: u8, high: u8) -> bool
+fn in_classes(table: &[u8; 256], text: &[u8], at: usize, low: u8, high: u8) -> bool
     requires { ⌜ (at < length (now text)) × ClassTable (now table) ⌝ }
     ensures { λ r. ⌜ r ≡ classed low high (getD (now (text .entry)) at 0) (getD (now (text .entry)) (at + 1) 0) ⌝ }
 {
@@ -40,22 +41,6 @@ fn in_run(table: &[u8; 256], text: &[u8], at: usize, low: u8, high: u8) -> bool
         return class <= high;
     }
     false
-}
-
-// The end of the run of bytes with classes from low to high.
-pub fn run_end(table: &[u8; 256], text: &[u8], at: usize, low: u8, high: u8) -> usize
-    requires { ⌜ (at ≤ length (now text)) × ClassTable (now table) ⌝ }
-    ensures { λ r. ⌜ r ≡ at + span (classed low high) (drop at (now (text .entry))) ⌝ }
-{
-    let mut i = at;
-    while i < text.len() {
-        if in_run(table, text, i, low, high) {
-            i += 1;
-        } else {
-            return i;
-        }
-    }
-    i
 }
 
 // Whether the byte is a letter, a digit, or a hyphen that a letter or digit follows.
@@ -71,22 +56,6 @@ fn in_name(table: &[u8; 256], text: &[u8], at: usize) -> bool
         return SMALL <= class_at(table, text, at + 1);
     }
     false
-}
-
-// The end of the run of letters, digits, and hyphens that a letter or digit follows.
-pub fn name_end(table: &[u8; 256], text: &[u8], at: usize) -> usize
-    requires { ⌜ (at ≤ length (now text)) × ClassTable (now table) ⌝ }
-    ensures { λ r. ⌜ r ≡ at + span nameByte (drop at (now (text .entry))) ⌝ }
-{
-    let mut i = at;
-    while i < text.len() {
-        if in_name(table, text, i) {
-            i += 1;
-        } else {
-            return i;
-        }
-    }
-    i
 }
 
 // Whether the byte doesn't end a comment: it is not 10 or 13, and not the first of two hyphens.
@@ -107,14 +76,36 @@ fn in_comment(table: &[u8; 256], text: &[u8], at: usize) -> bool
     true
 }
 
-// The place of what ends a comment: the first of two hyphens, byte 10 or 13, or the end of the text.
-pub fn comment_end(table: &[u8; 256], text: &[u8], at: usize) -> usize
+// Which bytes a run has.
+pub enum Run {
+    // bytes with classes from the first to the second
+    Classes(u8, u8),
+    // letters, digits, and hyphens that a letter or digit follows
+    Name,
+    // bytes that don't end a comment
+    Comment,
+}
+
+// Whether the byte belongs to the run.
+fn belongs(table: &[u8; 256], text: &[u8], at: usize, run: Run) -> bool
+    requires { ⌜ (at < length (now text)) × ClassTable (now table) ⌝ }
+    ensures { λ r. ⌜ r ≡ belongsTo run (getD (now (text .entry)) at 0) (getD (now (text .entry)) (at + 1) 0) ⌝ }
+{
+    match run {
+        Run::Classes(low, high) => in_classes(table, text, at, low, high),
+        Run::Name => in_name(table, text, at),
+        Run::Comment => in_comment(table, text, at),
+    }
+}
+
+// The end of the run: the place of the first byte that doesn't belong to it, or the end of the text.
+pub fn run_end(table: &[u8; 256], text: &[u8], at: usize, run: Run) -> usize
     requires { ⌜ (at ≤ length (now text)) × ClassTable (now table) ⌝ }
-    ensures { λ r. ⌜ r ≡ at + span commentByte (drop at (now (text .entry))) ⌝ }
+    ensures { λ r. ⌜ r ≡ at + span (belongsTo run) (drop at (now (text .entry))) ⌝ }
 {
     let mut i = at;
     while i < text.len() {
-        if in_comment(table, text, i) {
+        if belongs(table, text, i, run) {
             i += 1;
         } else {
             return i;

@@ -4,7 +4,7 @@ ghost use mathlib.Core.Path.{_≡_};
 ghost use Prim.Native.Nat.{_+_, _-_, _<_, _≤_};
 ghost use lib.ListN.{length, getD, take, drop};
 ghost use mathlib.Core.List.{[]};
-ghost use Rattle.token.specs.Word.{words, same, startOf, placeIn, nameClass};
+ghost use Rattle.token.specs.Word.{words, same, startOf, placeIn, nameClass, SlotWord};
 ghost use Rattle.token.specs.Byte.{ClassTable};
 ghost use Rattle.token.specs.Table.{between};
 use crate::byte::CAPITAL_HEX;
@@ -583,12 +583,25 @@ const SLOTS: [u8; 128] = [
     NO_WORD, // 127
 ];
 
+// The same number in a wider type.
+fn wide_u16(x: u16) -> usize
+    ensures { λ r. ⌜ r ≡ x ⌝ }
+{
+    x as usize
+}
+
+fn wide_u8(x: u8) -> usize
+    ensures { λ r. ⌜ r ≡ x ⌝ }
+{
+    x as usize
+}
+
 // Where the spelling of the word k starts; of 43, where the last one ends.
 fn spelling_start(k: usize) -> usize
     requires { ⌜ k ≤ 43 ⌝ }
     ensures { λ r. ⌜ r ≡ startOf words k ⌝ }
 {
-    SPELLING_STARTS[k] as usize
+    wide_u16(SPELLING_STARTS[k])
 }
 
 // Whether n bytes of a, from its place i on, are those of b from its place j on.
@@ -620,6 +633,14 @@ fn is_word(text: &[u8], start: usize, end: usize, k: usize) -> bool
     same_part(text, start, &SPELLINGS, from, n)
 }
 
+// The word in a slot of the hash, or WORDS where there is none.
+fn slot_word(slot: usize) -> usize
+    requires { ⌜ slot < 128 ⌝ }
+    ensures { λ r. ⌜ SlotWord slot r ⌝ }
+{
+    wide_u8(SLOTS[slot])
+}
+
 // The word's class that the name from start to end of the text has, or 43 where it is no word.
 fn word_of(text: &[u8], start: usize, end: usize) -> usize
     requires { ⌜ (start < end) × (end ≤ length (now text)) × (end - start ≤ 64) ⌝ }
@@ -627,7 +648,7 @@ fn word_of(text: &[u8], start: usize, end: usize) -> usize
 {
     let first = text[start] as usize;
     let last = text[end - 1] as usize;
-    let k = SLOTS[(3 * first + 24 * last + 7 * (end - start)) % 128] as usize;
+    let k = slot_word((3 * first + 24 * last + 7 * (end - start)) % 128);
     if WORDS <= k {
         return WORDS;
     }

@@ -5,11 +5,12 @@ use Prim.Native.Nat.{ℕ, _+_, _-_, _≤_, _<_}
 use native.Mathlib.Omega.{arith}
 use borrow.Author.Needs.{needs}
 use lib.ListN.{length, drop}
+use Rattle.token.specs.Byte.{classOf, classIn, rows}
 use Rattle.token.specs.Cut.{whole, piece}
 use Rattle.token.specs.Table.{foundAt}
 use Rattle.token.specs.declared.piece.Found.{Found}
 use Rattle.token.specs.declared.Answer.the-variants.{Tokens}
-use Rattle.token.proofs.Bytes.{byteClasses, class-table}
+use Rattle.token.proofs.Bytes.{right, class-table}
 use Rattle.token.proofs.Left.{step-end}
 use Rattle.token.proofs.Progress.{Progress, progress-start, progress-done, read-forward, read-gap, read-token, read-refusal}
 use Rattle.token.proofs.cut.Statement.{statement}
@@ -25,8 +26,8 @@ loop-holds : tie.Need-loop-holds Inv-loop μ-loop
 loop-holds c = progress-start _ _ _ _
 
 piece-at-requires : tie.Need-piece-at-requires Inv-loop μ-loop
-unfolding byteClasses
-piece-at-requires c κs = (c .before .loop-test .taken, class-table)
+unfolding right classOf classIn rows
+piece-at-requires c κs = (c .before .loop-test .taken, class-table _ refl tt)
 
 enum-known-found : tie.Need-enum-known-found Inv-loop μ-loop
 enum-known-found c = search needs

@@ -13,11 +13,11 @@ use borrow.Author.Needs.{needs}
 use Rattle.token.proofs.piece.comment_at.Statement.{statement}
 use Rattle.token.proofs.piece.comment_at.Tie as tie
 
-add-comment-end : tie.Need-add-comment-end
-add-comment-end c = search needs
+add-run-end : tie.Need-add-run-end
+add-run-end c = search needs
 
-comment-end-requires : tie.Need-comment-end-requires
-comment-end-requires c κs = search needs
+run-end-requires : tie.Need-run-end-requires
+run-end-requires c κs = search needs
 
 class-at-requires : tie.Need-class-at-requires
 class-at-requires c κs = search needs
@@ -27,17 +27,17 @@ add-class-at c =
     let s = c .before .before .before .before in
     let t = s .args .text .now in
     let at = s .args .at in
-    omega (arith, inside t (c .before .before .comment-end .result) 6 (sym (c .before .class-at .ensures) ∙ c .if1 .taken) (omega arith))
+    omega (arith, inside t (c .before .before .run-end .result) 6 (sym (c .before .class-at .ensures) ∙ c .if1 .taken) (omega arith))
 
 class-at-requires-2 : tie.Need-class-at-requires-2
 class-at-requires-2 c κs = search needs
 
-add-t11 : tie.Need-add-t11
-add-t11 c =
+add-t12 : tie.Need-add-t12
+add-t12 c =
     let s = c .before .before .before .before .before .before in
     let t = s .args .text .now in
     let at = s .args .at in
-    omega (arith, inside t (c .before .before .before .before .comment-end .result + 1) 6 (sym (c .before .class-at2 .ensures) ∙ c .if2 .taken) (omega arith))
+    omega (arith, inside t (c .before .before .before .before .run-end .result + 1) 6 (sym (c .before .class-at2 .ensures) ∙ c .if2 .taken) (omega arith))
 
 returns : tie.Need-returns
 unfolding comment
@@ -45,8 +45,8 @@ returns c =
     let s = c .before .before .before .before .before .before in
     let t = s .args .text .now in
     let at = s .args .at in
-    let end = c .before .before .before .before .comment-end .result in
-    let ends : end ≡ at + 2 + span commentByte (drop (at + 2) t) = c .before .before .before .before .comment-end .ensures in
+    let end = c .before .before .before .before .run-end .result in
+    let ends : end ≡ at + 2 + span commentByte (drop (at + 2) t) = c .before .before .before .before .run-end .ensures in
     simp (rest-at t (at + 2) (span commentByte (drop (at + 2) t)) end (sym ends), class-is t end 0 end (omega arith) (c .before .before .before .class-at .ensures) (c .before .before .if1 .taken), class-is t end 1 (end + 1) refl (c .before .class-at2 .ensures) (c .if2 .taken))
     (ap (λ (e : ℕ). Found.Piece 58 e) (omega arith))
 
@@ -56,8 +56,8 @@ returns-2 c =
     let s = c .before .before .before .before .before .before in
     let t = s .args .text .now in
     let at = s .args .at in
-    let end = c .before .before .before .before .comment-end .result in
-    let ends : end ≡ at + 2 + span commentByte (drop (at + 2) t) = c .before .before .before .before .comment-end .ensures in
+    let end = c .before .before .before .before .run-end .result in
+    let ends : end ≡ at + 2 + span commentByte (drop (at + 2) t) = c .before .before .before .before .run-end .ensures in
     simp (rest-at t (at + 2) (span commentByte (drop (at + 2) t)) end (sym ends), class-is t end 0 end (omega arith) (c .before .before .before .class-at .ensures) (c .before .before .if1 .taken), class-not t end 1 (end + 1) refl (c .before .class-at2 .ensures) (c .if2 .left))
     (ap (λ (e : ℕ). Found.Piece 58 e) (omega arith))
 
@@ -67,8 +67,8 @@ returns-3 c =
     let s = c .before .before .before .before in
     let t = s .args .text .now in
     let at = s .args .at in
-    let end = c .before .before .comment-end .result in
-    let ends : end ≡ at + 2 + span commentByte (drop (at + 2) t) = c .before .before .comment-end .ensures in
+    let end = c .before .before .run-end .result in
+    let ends : end ≡ at + 2 + span commentByte (drop (at + 2) t) = c .before .before .run-end .ensures in
     simp (rest-at t (at + 2) (span commentByte (drop (at + 2) t)) end (sym ends), class-not t end 0 end (omega arith) (c .before .class-at .ensures) (c .if1 .left))
     (ap (λ (e : ℕ). Found.Piece 58 e) (omega arith))
 
@@ -76,12 +76,12 @@ pub comment-at-spec : {M : Type 1} → statement M
 comment-at-spec =
     tie.close
     (tie.spec
-    add-comment-end
-    comment-end-requires
+    add-run-end
+    run-end-requires
     class-at-requires
     add-class-at
     class-at-requires-2
-    add-t11
+    add-t12
     returns
     returns-2
     returns-3)

@@ -32,8 +32,8 @@ add-byte-at c =
 byte-at-requires : tie.Need-byte-at-requires
 byte-at-requires c κs = search needs
 
-add-t11 : tie.Need-add-t11
-add-t11 c =
+add-t12 : tie.Need-add-t12
+add-t12 c =
     let s = c .before .before .before .before .before .before in
     let t = s .args .text .now in
     let at = s .args .at in
@@ -79,7 +79,7 @@ hex-at-spec =
     class-at-requires
     add-byte-at
     byte-at-requires
-    add-t11
+    add-t12
     returns
     returns-2
     returns-3)

@@ -15,8 +15,8 @@ use borrow.Author.Needs.{needs}
 use Rattle.token.proofs.piece.name_at.Statement.{statement}
 use Rattle.token.proofs.piece.name_at.Tie as tie
 
-name-end-requires : tie.Need-name-end-requires
-name-end-requires c κs = search needs
+run-end-requires : tie.Need-run-end-requires
+run-end-requires c κs = search needs
 
 sub-if1 : tie.Need-sub-if1
 sub-if1 c = search needs
@@ -28,7 +28,7 @@ returns c =
     let t = s .args .text .now in
     let at = s .args .at in
     let n = span nameByte (drop at t) in
-    simp (lt-leb n 64 (omega (arith, c .before .name-end .ensures)), add-zero)
+    simp (lt-leb n 64 (omega (arith, c .before .run-end .ensures)), add-zero)
 
 name-class-requires : tie.Need-name-class-requires
 name-class-requires c κs =
@@ -36,7 +36,7 @@ name-class-requires c κs =
     let t = s .args .text .now in
     let at = s .args .at in
     let end = span-end-in nameByte t at (omega arith) in
-    (omega (arith, c .before .name-end .ensures, s .pre .1), omega (arith, c .before .name-end .ensures), omega arith, s .pre .2)
+    (omega (arith, c .before .run-end .ensures, s .pre .1), omega (arith, c .before .run-end .ensures), omega arith, s .pre .2)
 
 returns-2 : tie.Need-returns-2
 unfolding name
@@ -45,11 +45,11 @@ returns-2 c =
     let t = s .args .text .now in
     let at = s .args .at in
     let n = span nameByte (drop at t) in
-    let end = c .before .before .name-end in
+    let end = c .before .before .run-end in
     let length-n : end .result - at ≡ n = omega (arith, end .ensures) in
     let class : c .name-class .result ≡ nameClass (take n (drop at t)) =
     c .name-class .ensures ∙ ap (λ (k : ℕ). nameClass (take k (drop at t))) length-n in
     simp (le-leb n 64 (omega (arith, end .ensures, c .before .if1 .left))) (λ i. Found.Piece (class i) (end .ensures i))
 
 pub name-at-spec : {M : Type 1} → statement M
-name-at-spec = tie.close (tie.spec name-end-requires sub-if1 returns name-class-requires returns-2)
+name-at-spec = tie.close (tie.spec run-end-requires sub-if1 returns name-class-requires returns-2)

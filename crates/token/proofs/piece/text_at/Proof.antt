@@ -35,8 +35,8 @@ shared-slice-read-class-of c = search needs
 class-of-requires : tie.Need-class-of-requires
 class-of-requires c κs = search needs
 
-add-t11 : tie.Need-add-t11
-add-t11 c = search needs
+add-t12 : tie.Need-add-t12
+add-t12 c = search needs
 
 returns-2 : tie.Need-returns-2
 unfolding quoted
@@ -69,6 +69,6 @@ text-at-spec =
     returns
     shared-slice-read-class-of
     class-of-requires
-    add-t11
+    add-t12
     returns-2
     returns-3)

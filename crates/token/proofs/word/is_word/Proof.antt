@@ -6,9 +6,9 @@ use Prim.Native.Nat.{ℕ, _+_, _-_, _≤_, _<_}
 use native.Mathlib.Omega.{arith}
 use lib.ListN.{length, getD, take, drop, length-drop}
 use lib.Seq.{length-take-le}
-use Rattle.token.specs.Word.{words, same, placeIn, startOf, nameClass}
+use Rattle.token.specs.Word.{words, wordTable, word, bytes, joined, same}
 use Rattle.token.specs.Table.{between}
-use Rattle.token.proofs.Words.{word-ends, start-fits, word-at, same-length, spellings}
+use Rattle.token.proofs.Words.{word-ends, start-fits, compared, same-length}
 use borrow.Author.Needs.{needs}
 use Rattle.token.proofs.word.is_word.Statement.{statement}
 use Rattle.token.proofs.word.is_word.Tie as tie
@@ -46,18 +46,16 @@ same-part-requires c κs =
     omega (arith, word-ends (c .before .before .before .before .before .args .k) (c .before .before .before .before .before .pre .2), start-fits (c .before .before .before .before .before .args .k + 1), c .before .before .before .spelling-start .ensures, c .before .before .spelling-start2 .ensures)
 
 returns-2 : tie.Need-returns-2
-unfolding spellings
+unfolding words wordTable word bytes joined
 returns-2 c =
     let s = c .before .before .before .before .before .before in
     let a = s .args in
     let from = c .before .before .before .before .spelling-start in
     let to = c .before .before .before .spelling-start2 in
     let n : to .result - from .result ≡ a .end - a .start = c .before .before .if1 .left in
-    let word : take (to .result - from .result) (drop (from .result) spellings) ≡ getD words (a .k) [] =
-    rw (from .ensures) (word-at (a .k) (to .result - startOf words (a .k)) (s .pre .2) (ap (λ (m : ℕ). m - startOf words (a .k)) (to .ensures))) in
-    c .same-part .ensures
-    ∙ ap (λ (m : ℕ). same (take m (drop (a .start) (a .text .now))) (take (to .result - from .result) (drop (from .result) spellings))) n
-    ∙ ap (λ (w : List ℕ). same (between (a .text .now) (a .start) (a .end)) w) word
+    compared _ refl (take (to .result - from .result) (drop (a .start) (a .text .now))) (a .k) (from .result) (to .result - from .result)
+    (s .pre .2) (from .ensures) (ap (λ (m : ℕ). m - from .result) (to .ensures)) (c .same-part .ensures)
+    ∙ ap (λ (m : ℕ). same (take m (drop (a .start) (a .text .now))) (getD words (a .k) [])) n
 
 pub is-word-spec : {M : Type 1} → statement M
 is-word-spec =

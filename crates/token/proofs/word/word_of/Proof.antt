@@ -5,9 +5,9 @@ use mathlib.Core.Bool.{Bool, true, false}
 use Prim.Native.Nat.{ℕ, _+_, _-_, _*_, _%_, _≤_, _<_}
 use native.Mathlib.Omega.{arith}
 use lib.ListN.{length, getD, take, drop, length-drop}
-use Rattle.token.specs.Word.{words, same, placeIn, startOf, nameClass}
+use Rattle.token.specs.Word.{SlotWord, slotOf}
 use Rattle.token.specs.Table.{between}
-use Rattle.token.proofs.Words.{slots, slot-bound, found, not-found, slot-part}
+use Rattle.token.proofs.Words.{found, not-found, slot-part}
 use borrow.Author.Needs.{needs}
 use Rattle.token.proofs.word.word_of.Statement.{statement}
 use Rattle.token.proofs.word.word_of.Tie as tie
@@ -29,67 +29,63 @@ cast-last : tie.Need-cast-last
 cast-last c =
     omega (arith, c .shared-slice-known3 .given (c .before .before .before .args .end - 1))
 
-mul-k : tie.Need-mul-k
-mul-k c =
+mul-slot-word : tie.Need-mul-slot-word
+mul-slot-word c =
     omega (arith, c .before .shared-slice-known2 .given (c .before .before .before .args .start), c .shared-slice-known3 .given (c .before .before .before .args .end - 1))
 
-mul-k-2 : tie.Need-mul-k-2
-mul-k-2 c =
+mul-slot-word-2 : tie.Need-mul-slot-word-2
+mul-slot-word-2 c =
     omega (arith, c .before .shared-slice-known2 .given (c .before .before .before .args .start), c .shared-slice-known3 .given (c .before .before .before .args .end - 1))
 
-add-k : tie.Need-add-k
-add-k c =
+add-slot-word : tie.Need-add-slot-word
+add-slot-word c =
     omega (arith, c .before .shared-slice-known2 .given (c .before .before .before .args .start), c .shared-slice-known3 .given (c .before .before .before .args .end - 1))
 
-sub-k : tie.Need-sub-k
-sub-k c = search needs
+sub-slot-word : tie.Need-sub-slot-word
+sub-slot-word c = search needs
 
-mul-k-3 : tie.Need-mul-k-3
-mul-k-3 c = search needs
+mul-slot-word-3 : tie.Need-mul-slot-word-3
+mul-slot-word-3 c = search needs
 
-add-k-2 : tie.Need-add-k-2
-add-k-2 c =
+add-slot-word-2 : tie.Need-add-slot-word-2
+add-slot-word-2 c =
     omega (arith, c .before .shared-slice-known2 .given (c .before .before .before .args .start), c .shared-slice-known3 .given (c .before .before .before .args .end - 1))
 
-array-read-k : tie.Need-array-read-k
-array-read-k c = search needs
-
-cast-k : tie.Need-cast-k
-unfolding slots
-cast-k c =
-    let a = c .before .before .before .args in
-    let i = (3 * getD (a .text .now) (a .start) 0 + 24 * getD (a .text .now) (a .end - 1) 0 + 7 * (a .end - a .start)) % 128 in
-    record { fits = omega (arith, slot-bound i (omega arith)) }
+slot-word-requires : tie.Need-slot-word-requires
+slot-word-requires c κs = omega arith
 
 returns : tie.Need-returns
-unfolding slots
 returns c =
-    let s = c .before .before .before .before in
+    let s = c .before .before .before .before .before in
     let a = s .args in
     let name = between (a .text .now) (a .start) (a .end) in
-    let slot = slot-part (a .text .now) (a .start) (a .end) (s .pre .0) (s .pre .1) in
-    not-found name _ (ap (λ (n : ℕ). getD slots n 0) slot) (λ h. absurd (omega arith))
+    let call = c .before .slot-word in
+    let held : SlotWord (slotOf name) (call .result) =
+    rw (slot-part (a .text .now) (a .start) (a .end) (s .pre .0) (s .pre .1)) (call .ensures) in
+    not-found name (call .result) held (λ h. absurd (omega arith))
 
 is-word-requires : tie.Need-is-word-requires
 is-word-requires c κs = search needs
 
 returns-2 : tie.Need-returns-2
-unfolding slots
 returns-2 c =
-    let s = c .before .before .before .before .before .before in
+    let s = c .before .before .before .before .before .before .before in
     let a = s .args in
     let name = between (a .text .now) (a .start) (a .end) in
-    let slot = slot-part (a .text .now) (a .start) (a .end) (s .pre .0) (s .pre .1) in
-    found name _ (ap (λ (n : ℕ). getD slots n 0) slot) (omega arith) (sym (c .before .is-word .ensures) ∙ c .if2 .taken)
+    let call = c .before .before .before .slot-word in
+    let held : SlotWord (slotOf name) (call .result) =
+    rw (slot-part (a .text .now) (a .start) (a .end) (s .pre .0) (s .pre .1)) (call .ensures) in
+    found name (call .result) held (omega arith) (sym (c .before .is-word .ensures) ∙ c .if2 .taken)
 
 returns-3 : tie.Need-returns-3
-unfolding slots
 returns-3 c =
-    let s = c .before .before .before .before .before .before in
+    let s = c .before .before .before .before .before .before .before in
     let a = s .args in
     let name = between (a .text .now) (a .start) (a .end) in
-    let slot = slot-part (a .text .now) (a .start) (a .end) (s .pre .0) (s .pre .1) in
-    not-found name _ (ap (λ (n : ℕ). getD slots n 0) slot) (λ h. sym (c .before .is-word .ensures) ∙ c .if2 .left)
+    let call = c .before .before .before .slot-word in
+    let held : SlotWord (slotOf name) (call .result) =
+    rw (slot-part (a .text .now) (a .start) (a .end) (s .pre .0) (s .pre .1)) (call .ensures) in
+    not-found name (call .result) held (λ h. sym (c .before .is-word .ensures) ∙ c .if2 .left)
 
 pub word-of-spec : {M : Type 1} → statement M
 word-of-spec =
@@ -100,14 +96,13 @@ word-of-spec =
     sub-last
     shared-slice-read-last
     cast-last
-    mul-k
-    mul-k-2
-    add-k
-    sub-k
-    mul-k-3
-    add-k-2
-    array-read-k
-    cast-k
+    mul-slot-word
+    mul-slot-word-2
+    add-slot-word
+    sub-slot-word
+    mul-slot-word-3
+    add-slot-word-2
+    slot-word-requires
     returns
     is-word-requires
     returns-2

@@ -1,9 +1,9 @@
--- `in_run` is right because each of its answers is what the two tests on the class say.
+-- `in_classes` is right because each of its answers is what the two tests on the class say.
 -- Assumes nothing.
 use borrow.Author.Tests.{le-leb, lt-leb, eq-eqb, ne-eqb}
 use borrow.Author.Needs.{needs}
-use Rattle.token.proofs.scan.in_run.Statement.{statement}
-use Rattle.token.proofs.scan.in_run.Tie as tie
+use Rattle.token.proofs.scan.in_classes.Statement.{statement}
+use Rattle.token.proofs.scan.in_classes.Tie as tie
 
 shared-slice-read-class-of : tie.Need-shared-slice-read-class-of
 shared-slice-read-class-of c = search needs
@@ -17,5 +17,5 @@ returns c = rw (← c .before .class-of .ensures) (simp (le-leb _ _ (c .if1 .tak
 returns-2 : tie.Need-returns-2
 returns-2 c = rw (← c .before .class-of .ensures) (simp (lt-leb _ _ (c .if1 .left)))
 
-pub in-run-spec : {M : Type 1} → statement M
-in-run-spec = tie.close (tie.spec shared-slice-read-class-of class-of-requires returns returns-2)
+pub in-classes-spec : {M : Type 1} → statement M
+in-classes-spec = tie.close (tie.spec shared-slice-read-class-of class-of-requires returns returns-2)
