@@ -1,0 +1,1 @@
+// Prints octets by pieces.
