@@ -1,0 +1,41 @@
+-- Laws of digits, each over the base.
+-- Assumes nothing.
+use Prim.Native.Nat.{ℕ, zero, suc, _+_, _*_, _/_, _%_, _^_, _≤_, _<_}
+use native.Mathlib.Nat.{div-lt-self, not-suc-le-zero}
+use native.Mathlib.Omega.{arith}
+use mathlib.Core.Path.{_≡_, refl, sym, ap, _∙_}
+use mathlib.Core.Bool.{Bool, true, false}
+use mathlib.Core.List.{List, [], _∷_, _++_}
+use lib.Dec.{ltb}
+use lib.ListN.{length, length-append}
+use borrow.Author.Tests.{lt-ltb, le-ltb, ltb-true, ltb-false}
+use Rattle.hint.specs.Digits.{digits, digitsWithin, glyph}
+
+quotient-less : (base n : ℕ) → 2 ≤ base → base ≤ n → n / base < n
+quotient-less base n h l = div-lt-self (omega arith) h
+
+-- as many steps as are enough give the same digits
+within-enough : (j k base n : ℕ) → 2 ≤ base → n < j → n < k → digitsWithin j base n ≡ digitsWithin k base n
+unfolding digitsWithin
+within-enough zero k base n h p q = absurd (not-suc-le-zero p)
+within-enough (suc j) zero base n h p q = absurd (not-suc-le-zero q)
+within-enough (suc j) (suc k) base n h p q = go (λ (m : ℕ) (r : m < j) (s : m < k). within-enough j k base m h r s) (ltb n base) refl
+  where
+    go : ((m : ℕ) → m < j → m < k → digitsWithin j base m ≡ digitsWithin k base m) → (t : Bool) → ltb n base ≡ t → digitsWithin (suc j) base n ≡ digitsWithin (suc k) base n
+    go same true e = rw (e, digitsWithin)
+    go same false e =
+        let l : base ≤ n = ltb-false n base e in
+        let less : n / base < n = quotient-less base n h l in
+        rw (e, digitsWithin) (ap (λ (ds : List ℕ). ds ++ (glyph (n % base) ∷ [])) (same (n / base) (omega arith) (omega arith)))
+
+-- a number below the base is one digit
+pub digits-last : (base n : ℕ) → n < base → digits base n ≡ glyph n ∷ []
+unfolding digits digitsWithin
+digits-last base n h = rw (lt-ltb n base h, digitsWithin)
+
+-- any other number has its quotient's digits and then its remainder's
+pub digits-step : (base n : ℕ) → 2 ≤ base → base ≤ n → digits base n ≡ digits base (n / base) ++ (glyph (n % base) ∷ [])
+unfolding digits digitsWithin
+digits-step base n h l =
+    let less : n / base < n = quotient-less base n h l in
+    rw (le-ltb n base l, digitsWithin) (ap (λ (ds : List ℕ). ds ++ (glyph (n % base) ∷ [])) (within-enough n (suc (n / base)) base (n / base) h less (omega arith)))

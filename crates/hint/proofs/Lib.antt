@@ -1,0 +1,3 @@
+pub mod Writing
+pub mod DigitLaws
+pub mod Examples

@@ -1,0 +1,24 @@
+use borrow.Author.Needs.{needs}
+use Rattle.hint.proofs.buffer.put.Statement.{statement}
+use Rattle.hint.proofs.buffer.put.Tie as tie
+use Rattle.hint.proofs.buffer.put.Reads as reads
+use Rattle.hint.proofs.buffer.put.Lts as lts
+
+-- src/buffer.rt:21:5
+slice-write-out : tie.Need-slice-write-out
+slice-write-out c = search needs
+
+-- src/buffer.rt:22:5
+add-result : tie.Need-add-result
+add-result c = search needs
+
+-- src/buffer.rt:17:1
+same-length : tie.Need-same-length
+same-length c = search needs
+
+-- src/buffer.rt:17:1
+returns : tie.Need-returns
+returns c = ?
+
+pub put-spec : {M : Type 1} → statement M
+put-spec = tie.close (tie.spec slice-write-out add-result same-length returns)

@@ -1,0 +1,19 @@
+use Rattle.hint.proofs.character.second_low.Statement.{statement}
+use Rattle.hint.proofs.character.second_low.Tie as tie
+use Rattle.hint.proofs.character.second_low.Reads as reads
+use Rattle.hint.proofs.character.second_low.Lts as lts
+
+-- src/character.rt:35:1
+returns : tie.Need-returns
+returns c = ?
+
+-- src/character.rt:35:1
+returns-2 : tie.Need-returns-2
+returns-2 c = ?
+
+-- src/character.rt:35:1
+returns-3 : tie.Need-returns-3
+returns-3 c = ?
+
+pub second-low-spec : {M : Type 1} → statement M
+second-low-spec = tie.close (tie.spec returns returns-2 returns-3)

@@ -1,0 +1,33 @@
+use borrow.Author.Needs.{needs}
+use Rattle.hint.proofs.digit.glyph_of.Statement.{statement}
+use Rattle.hint.proofs.digit.glyph_of.Tie as tie
+use Rattle.hint.proofs.digit.glyph_of.Reads as reads
+use Rattle.hint.proofs.digit.glyph_of.Lts as lts
+
+-- src/digit.rt:29:18
+add-result : tie.Need-add-result
+add-result c = search needs
+
+-- src/digit.rt:29:17
+cast-result : tie.Need-cast-result
+cast-result c = search needs
+
+-- src/digit.rt:29:42
+add-result-2 : tie.Need-add-result-2
+add-result-2 c = search needs
+
+-- src/digit.rt:29:41
+cast-result-2 : tie.Need-cast-result-2
+cast-result-2 c = search needs
+
+-- src/digit.rt:25:1
+returns : tie.Need-returns
+returns c = ?
+
+-- src/digit.rt:25:1
+returns-2 : tie.Need-returns-2
+returns-2 c = ?
+
+pub glyph-of-spec : {M : Type 1} → statement M
+glyph-of-spec =
+    tie.close (tie.spec add-result cast-result add-result-2 cast-result-2 returns returns-2)
