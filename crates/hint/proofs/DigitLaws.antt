@@ -1,7 +1,8 @@
 -- Laws of digits, each over the base.
 -- Assumes nothing.
-use Prim.Native.Nat.{ℕ, zero, suc, _+_, _*_, _/_, _%_, _^_, _≤_, _<_}
+use Prim.Native.Nat.{ℕ, zero, suc, _+_, _-_, _*_, _/_, _%_, _^_, _≤_, _<_}
 use native.Mathlib.Nat.{div-lt-self, not-suc-le-zero}
+use native.Mathlib.Numerals.{sub-one}
 use native.Mathlib.Omega.{arith}
 use mathlib.Core.Path.{_≡_, refl, sym, ap, _∙_}
 use mathlib.Core.Bool.{Bool, true, false}
@@ -9,9 +10,9 @@ use mathlib.Core.List.{List, [], _∷_, _++_}
 use lib.Dec.{ltb}
 use lib.ListN.{length, length-append}
 use borrow.Author.Tests.{lt-ltb, le-ltb, ltb-true, ltb-false}
-use Rattle.hint.specs.Digits.{digits, digitsWithin, glyph}
+use Rattle.hint.specs.Digits.{digits, digitsWithin, glyph, pointed}
 
-quotient-less : (base n : ℕ) → 2 ≤ base → base ≤ n → n / base < n
+pub quotient-less : (base n : ℕ) → 2 ≤ base → base ≤ n → n / base < n
 quotient-less base n h l = div-lt-self (omega arith) h
 
 -- as many steps as are enough give the same digits
@@ -39,3 +40,21 @@ unfolding digits digitsWithin
 digits-step base n h l =
     let less : n / base < n = quotient-less base n h l in
     rw (le-ltb n base l, digitsWithin) (ap (λ (ds : List ℕ). ds ++ (glyph (n % base) ∷ [])) (within-enough n (suc (n / base)) base (n / base) h less (omega arith)))
+
+-- the point comes after all digits where no places are left
+pub pointed-none : (places n : ℕ) → places ≡ 0 → pointed places n ≡ digits 10 n ++ (46 ∷ [])
+unfolding pointed
+pointed-none places n e = rw e
+
+-- the same of the decimal point, where digits are left after it
+pub pointed-step : (places n : ℕ) → 1 ≤ places → pointed places n ≡ pointed (places - 1) (n / 10) ++ (glyph (n % 10) ∷ [])
+unfolding pointed
+pointed-step zero n h = absurd (not-suc-le-zero h)
+pointed-step (suc places) n h = rw (sub-one (suc places))
+
+pub digits-longer : (base n : ℕ) → 2 ≤ base → base ≤ n → length (digits base n) ≡ length (digits base (n / base)) + 1
+digits-longer base n h l = ap length (digits-step base n h l) ∙ length-append (digits base (n / base)) (glyph (n % base) ∷ [])
+
+-- the digits before the last, and the point, where places are left
+pub pointed-longer : (places n : ℕ) → 1 ≤ places → length (pointed places n) ≡ length (pointed (places - 1) (n / 10)) + 1
+pointed-longer places n h = ap length (pointed-step places n h) ∙ length-append (pointed (places - 1) (n / 10)) (glyph (n % 10) ∷ [])

@@ -1,13 +1,13 @@
 -- Laws of writing to the output buffer: a write keeps its length, and two writes in a row are one.
 -- Assumes nothing.
 use Prim.Native.Nat.{ℕ, suc, _+_, _≤_, _<_}
-use native.Mathlib.Nat.{add-zero, add-assoc}
+use native.Mathlib.Nat.{add-zero, add-assoc, le-of-lt}
 use native.Mathlib.Numerals.{add-one}
 use native.Mathlib.Omega.{arith}
 use mathlib.Core.Path.{_≡_, refl, sym, ap, ap₂, _∙_}
 use mathlib.Core.List.{List, [], _∷_, _++_, append-assoc}
-use lib.ListN.{length, take, drop, set, length-append, length-take, length-drop, take-append-drop}
-use lib.Seq.{take-at, drop-append-add, drop-drop, set-split}
+use lib.ListN.{length, getD, take, drop, set, length-append, length-take, length-drop, take-append-drop}
+use lib.Seq.{take-at, drop-append-add, drop-drop, set-split, take-suc, length-take-le}
 use Rattle.hint.specs.Buffer.{written}
 use Rattle.hint.specs.Inner.{Wrote}
 
@@ -46,3 +46,14 @@ wrote-more {a} {b} {o} {o₁} {o₂} {at} {n} {n₁} h p q =
         q .buffer-is ∙ ap (λ (l : List ℕ). written l n b) (p .buffer-is) ∙ ap (λ (k : ℕ). written (written o at a) k b) (p .next-is)
         ∙ written-more o at a b h
     }
+
+-- one byte more of those to be written
+pub written-next : (o : List ℕ) (at : ℕ) (s : List ℕ) (i : ℕ) → at + length s ≤ length o → i < length s
+    → set (written o at (take i s)) (at + i) (getD s i 0) ≡ written o at (take (i + 1) s)
+written-next o at s i h l =
+    let part : length (take i s) ≡ i = length-take-le i s (le-of-lt l) in
+    let kept : length (written o at (take i s)) ≡ length o = length-written o at (take i s) (omega arith) in
+    written-one (written o at (take i s)) (at + i) (getD s i 0) (omega arith)
+    ∙ ap (λ (k : ℕ). written (written o at (take i s)) (at + k) (getD s i 0 ∷ [])) (sym part)
+    ∙ written-more o at (take i s) (getD s i 0 ∷ []) (omega arith)
+    ∙ ap (λ (l₁ : List ℕ). written o at l₁) (sym (take-suc s i 0 l) ∙ ap (λ (k : ℕ). take k s) (sym (add-one i)))

@@ -1,41 +1,62 @@
+-- `clear` is right: at i the first i bytes are 0 and the others are as they were.
+-- Assumes nothing.
+use borrow.Author.Needs.{needs}
+use borrow.Author.Fill.{fill-none, fill-more}
+use Prim.Native.Nat.{_≤_, _-_}
+use mathlib.Core.Path.{_≡_, ap, _∙_}
+use mathlib.Core.List.{_++_}
+use native.Mathlib.Omega.{arith}
+use lib.ListN.{length, drop, set, replicate, length-set, length-append, length-replicate, length-drop}
+use Prim.Native.Nat.{ℕ, _<_}
+use mathlib.Core.Path.{refl}
+use mathlib.Core.List.{List}
 use Rattle.hint.proofs.buffer.clear.Statement.{statement}
 use Rattle.hint.proofs.buffer.clear.Tie as tie
 use Rattle.hint.proofs.buffer.clear.Reads as reads
 use Rattle.hint.proofs.buffer.clear.Lts as lts
 
 abbrev Inv-loop : tie.InvT-loop
-Inv-loop out₀ count i₀ out i = ?
+Inv-loop out₀ count i₀ out i = (out ≡ replicate i 0 ++ drop i out₀) × (i ≤ count) × (length out ≡ length out₀)
 
 abbrev μ-loop : tie.MeasureT-loop
-μ-loop out₀ count i₀ out i = ?
+μ-loop out₀ count i₀ out i = count - i
 
 -- src/buffer.rt:44:5
 loop-holds : tie.Need-loop-holds Inv-loop μ-loop
-loop-holds c = ?
+loop-holds c = (fill-none _ 0, omega arith, refl)
 
 -- src/buffer.rt:45:9
 slice-write-out : tie.Need-slice-write-out Inv-loop μ-loop
-slice-write-out c = ?
+slice-write-out c = omega arith
 
 -- src/buffer.rt:46:9
 add-i : tie.Need-add-i Inv-loop μ-loop
-add-i c = ?
+add-i c = omega arith
 
 -- src/buffer.rt:44:5
 loop-less : tie.Need-loop-less Inv-loop μ-loop
-loop-less c = ?
+loop-less c = omega arith
 
 -- src/buffer.rt:44:5
 loop-again : tie.Need-loop-again Inv-loop μ-loop
-loop-again c = ?
+loop-again c = 
+    let inv = c .before .loop .inv in
+    let i = c .before .loop .i in
+    let o = c .before .before .args .out .now in
+    let below : i < length o = omega arith in
+    (ap (λ (l : List ℕ). set l i 0) (inv .0) ∙ fill-more i 0 o below, omega arith, simp length-set (inv .2))
 
 -- src/buffer.rt:39:1
 same-length : tie.Need-same-length Inv-loop μ-loop
-same-length c = ?
+same-length c = c .before .loop .inv .2
 
 -- src/buffer.rt:39:1
 returns : tie.Need-returns Inv-loop μ-loop
-returns c = ?
+returns c = 
+    let inv = c .before .loop .inv in
+    let o = c .before .before .args .out .now in
+    let end : c .before .loop .i ≡ c .before .before .args .count = omega arith in
+    inv .0 ∙ ap (λ (k : ℕ). replicate k 0 ++ drop k o) end
 
 pub clear-spec : {M : Type 1} → statement M
 clear-spec =

@@ -1,4 +1,8 @@
+-- `put` is right: one store is the write of one byte.
+-- Assumes nothing.
 use borrow.Author.Needs.{needs}
+use mathlib.Core.Path.{refl}
+use Rattle.hint.proofs.Writing.{written-one}
 use Rattle.hint.proofs.buffer.put.Statement.{statement}
 use Rattle.hint.proofs.buffer.put.Tie as tie
 use Rattle.hint.proofs.buffer.put.Reads as reads
@@ -18,7 +22,7 @@ same-length c = search needs
 
 -- src/buffer.rt:17:1
 returns : tie.Need-returns
-returns c = ?
+returns c = record { next-is = refl; buffer-is = written-one (c .args .out .now) (c .args .at) (c .args .b) (c .pre) }
 
 pub put-spec : {M : Type 1} → statement M
 put-spec = tie.close (tie.spec slice-write-out add-result same-length returns)

@@ -1,3 +1,7 @@
+-- `is_between` is right: it is the definition, test by test.
+-- Assumes nothing.
+use mathlib.Core.Path.{sym}
+use borrow.Author.Tests.{le-leb, lt-leb}
 use Rattle.hint.proofs.character.is_between.Statement.{statement}
 use Rattle.hint.proofs.character.is_between.Tie as tie
 use Rattle.hint.proofs.character.is_between.Reads as reads
@@ -5,11 +9,13 @@ use Rattle.hint.proofs.character.is_between.Lts as lts
 
 -- src/character.rt:11:1
 returns : tie.Need-returns
-returns c = ?
+unfolding Rattle.hint.specs.Character.between
+returns c = simp (le-leb _ _ (c .if1 .taken))
 
 -- src/character.rt:11:1
 returns-2 : tie.Need-returns-2
-returns-2 c = ?
+unfolding Rattle.hint.specs.Character.between
+returns-2 c = simp (lt-leb _ _ (c .if1 .left))
 
 pub is-between-spec : {M : Type 1} → statement M
 is-between-spec = tie.close (tie.spec returns returns-2)

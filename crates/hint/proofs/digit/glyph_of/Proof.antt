@@ -1,4 +1,7 @@
+-- `glyph_of` is right: the test picks the case.
+-- Assumes nothing.
 use borrow.Author.Needs.{needs}
+use borrow.Author.Tests.{lt-ltb, le-ltb}
 use Rattle.hint.proofs.digit.glyph_of.Statement.{statement}
 use Rattle.hint.proofs.digit.glyph_of.Tie as tie
 use Rattle.hint.proofs.digit.glyph_of.Reads as reads
@@ -22,11 +25,13 @@ cast-result-2 c = search needs
 
 -- src/digit.rt:25:1
 returns : tie.Need-returns
-returns c = ?
+unfolding Rattle.hint.specs.Digits.glyph
+returns c = simp (lt-ltb _ _ (c .if1 .taken))
 
 -- src/digit.rt:25:1
 returns-2 : tie.Need-returns-2
-returns-2 c = ?
+unfolding Rattle.hint.specs.Digits.glyph
+returns-2 c = simp (le-ltb _ _ (c .if1 .left))
 
 pub glyph-of-spec : {M : Type 1} → statement M
 glyph-of-spec =

@@ -1,0 +1,26 @@
+use borrow.Author.Needs.{needs}
+use Rattle.hint.proofs.grammar.mark_at.Statement.{statement}
+use Rattle.hint.proofs.grammar.mark_at.Tie as tie
+use Rattle.hint.proofs.grammar.mark_at.Reads as reads
+use Rattle.hint.proofs.grammar.mark_at.Lts as lts
+use Rattle.hint.proofs.buffer.byte_at.Reads as byte-at-reads
+use Rattle.hint.proofs.grammar.is_mark.Reads as is-mark-reads
+
+-- src/grammar.rt:40:9
+byte-at-requires : tie.Need-byte-at-requires
+byte-at-requires c κs = search needs
+
+-- src/grammar.rt:41:8
+is-mark-requires : tie.Need-is-mark-requires
+is-mark-requires c κs = search needs
+
+-- src/grammar.rt:37:1
+returns : tie.Need-returns
+returns c = ?
+
+-- src/grammar.rt:37:1
+returns-2 : tie.Need-returns-2
+returns-2 c = ?
+
+pub mark-at-spec : {M : Type 1} → statement M
+mark-at-spec = tie.close (tie.spec byte-at-requires is-mark-requires returns returns-2)
