@@ -1,3 +1,6 @@
 pub mod Writing
 pub mod DigitLaws
+pub mod HintLaws
+pub mod CutLaws
+pub mod CharacterLaws
 pub mod Examples

@@ -1,4 +1,10 @@
+-- `length_place` is right: the test picks the case.
+-- Assumes nothing.
 use borrow.Author.Needs.{needs}
+use Prim.Native.Nat.{ℕ}
+use mathlib.Core.Path.{sym, ap, _∙_}
+use lib.Dec.{eqb}
+use borrow.Author.Tests.{eq-eqb, ne-eqb}
 use Rattle.hint.proofs.grammar.length_place.Statement.{statement}
 use Rattle.hint.proofs.grammar.length_place.Tie as tie
 use Rattle.hint.proofs.grammar.length_place.Reads as reads
@@ -15,11 +21,13 @@ add-result c = search needs
 
 -- src/grammar.rt:94:1
 returns : tie.Need-returns
-returns c = ?
+unfolding Rattle.hint.specs.Hint.lengthPlace Rattle.hint.specs.Hint.starred
+returns c = simp (ap (λ (b : ℕ). eqb b 42) (sym (c .before .byte-at .ensures)) ∙ eq-eqb _ _ (c .if1 .taken))
 
 -- src/grammar.rt:94:1
 returns-2 : tie.Need-returns-2
-returns-2 c = ?
+unfolding Rattle.hint.specs.Hint.lengthPlace Rattle.hint.specs.Hint.starred
+returns-2 c = simp (ap (λ (b : ℕ). eqb b 42) (sym (c .before .byte-at .ensures)) ∙ ne-eqb _ _ (c .if1 .left))
 
 pub length-place-spec : {M : Type 1} → statement M
 length-place-spec = tie.close (tie.spec byte-at-requires add-result returns returns-2)

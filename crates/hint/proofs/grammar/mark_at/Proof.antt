@@ -1,4 +1,8 @@
+-- `mark_at` is right: the test picks the case.
+-- Assumes nothing.
 use borrow.Author.Needs.{needs}
+use mathlib.Core.Path.{sym, ap, _∙_}
+use Rattle.hint.specs.Hint.{mark}
 use Rattle.hint.proofs.grammar.mark_at.Statement.{statement}
 use Rattle.hint.proofs.grammar.mark_at.Tie as tie
 use Rattle.hint.proofs.grammar.mark_at.Reads as reads
@@ -16,11 +20,13 @@ is-mark-requires c κs = search needs
 
 -- src/grammar.rt:37:1
 returns : tie.Need-returns
-returns c = ?
+unfolding Rattle.hint.specs.Hint.markAt
+returns c = simp (ap mark (sym (c .before .before .byte-at .ensures)) ∙ sym (c .before .is-mark .ensures) ∙ c .if1 .taken) (c .before .before .byte-at .ensures)
 
 -- src/grammar.rt:37:1
 returns-2 : tie.Need-returns-2
-returns-2 c = ?
+unfolding Rattle.hint.specs.Hint.markAt
+returns-2 c = simp (ap mark (sym (c .before .before .byte-at .ensures)) ∙ sym (c .before .is-mark .ensures) ∙ c .if1 .left)
 
 pub mark-at-spec : {M : Type 1} → statement M
 mark-at-spec = tie.close (tie.spec byte-at-requires is-mark-requires returns returns-2)

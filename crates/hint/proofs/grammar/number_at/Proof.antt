@@ -1,4 +1,15 @@
+-- `number_at` is right: each digit that was read is one step of the definition.
+-- Assumes nothing.
 use borrow.Author.Needs.{needs}
+use mathlib.Core.Path.{sym, ap, _∙_}
+use borrow.Author.Tests.{not-true, not-false}
+use native.Mathlib.Omega.{arith}
+use Prim.Native.Nat.{_+_}
+use mathlib.Core.Path.{_≡_}
+use mathlib.Core.Bool.{true, false}
+use Rattle.hint.proofs.HintLaws.{digit-low, digit-high, number-is}
+use Rattle.hint.specs.Buffer.{byteAt}
+use Rattle.hint.specs.Hint.{digit}
 use Rattle.hint.proofs.grammar.number_at.Statement.{statement}
 use Rattle.hint.proofs.grammar.number_at.Tie as tie
 use Rattle.hint.proofs.grammar.number_at.Reads as reads
@@ -16,11 +27,15 @@ is-digit-requires c κs = search needs
 
 -- src/grammar.rt:58:9
 returns : tie.Need-returns
-returns c = ?
+unfolding Rattle.hint.specs.Hint.numberAt Rattle.hint.specs.Hint.numberAfter
+returns c = 
+    let a = c .before .before .before .before .args in
+    let d₁ : digit (byteAt (a .hint .now) (a .i)) ≡ false = ap digit (sym (c .before .before .byte-at .ensures)) ∙ sym (c .before .is-digit .ensures) ∙ not-true _ (c .if1 .taken) in
+    simp (d₁) (number-is (omega arith) (omega arith))
 
 -- src/grammar.rt:60:16
 sub-one : tie.Need-sub-one
-sub-one c = ?
+sub-one c = digit-low _ (sym (c .before .is-digit .ensures) ∙ not-false _ (c .if1 .left))
 
 -- src/grammar.rt:60:15
 cast-one : tie.Need-cast-one
@@ -44,7 +59,12 @@ add-t12 c = search needs
 
 -- src/grammar.rt:63:9
 returns-2 : tie.Need-returns-2
-returns-2 c = ?
+unfolding Rattle.hint.specs.Hint.numberAt Rattle.hint.specs.Hint.numberAfter
+returns-2 c = 
+    let a = c .before .before .before .before .before .before .before .args in
+    let d₁ : digit (byteAt (a .hint .now) (a .i)) ≡ true = ap digit (sym (c .before .before .before .before .before .byte-at .ensures)) ∙ sym (c .before .before .before .before .is-digit .ensures) ∙ not-false _ (c .before .before .before .if1 .left) in
+    let d₂ : digit (byteAt (a .hint .now) (a .i + 1)) ≡ false = ap digit (sym (c .before .before .byte-at2 .ensures)) ∙ sym (c .before .is-digit2 .ensures) ∙ not-true _ (c .if2 .taken) in
+    simp (d₁, d₂) (number-is (omega arith) (omega arith))
 
 -- src/grammar.rt:68:15
 mul-two : tie.Need-mul-two
@@ -52,7 +72,7 @@ mul-two c = search needs
 
 -- src/grammar.rt:68:27
 sub-two : tie.Need-sub-two
-sub-two c = ?
+sub-two c = digit-low _ (sym (c .before .is-digit2 .ensures) ∙ not-false _ (c .if2 .left))
 
 -- src/grammar.rt:68:26
 cast-two : tie.Need-cast-two
@@ -80,7 +100,14 @@ add-t14 c = search needs
 
 -- src/grammar.rt:71:9
 returns-3 : tie.Need-returns-3
-returns-3 c = ?
+unfolding Rattle.hint.specs.Hint.numberAt Rattle.hint.specs.Hint.numberAfter
+returns-3 c = 
+    let a = c .before .before .before .before .before .before .before .before .before .before .args in
+    let d₁ : digit (byteAt (a .hint .now) (a .i)) ≡ true = ap digit (sym (c .before .before .before .before .before .before .before .before .byte-at .ensures)) ∙ sym (c .before .before .before .before .before .before .before .is-digit .ensures) ∙ not-false _ (c .before .before .before .before .before .before .if1 .left) in
+    let d₂ : digit (byteAt (a .hint .now) (a .i + 1)) ≡ true = ap digit (sym (c .before .before .before .before .before .byte-at2 .ensures)) ∙ sym (c .before .before .before .before .is-digit2 .ensures) ∙ not-false _ (c .before .before .before .if2 .left) in
+    let e₃ : c .before .before .byte-at3 .result ≡ byteAt (a .hint .now) (a .i + 1 + 1) = c .before .before .byte-at3 .ensures ∙ ap (byteAt (a .hint .now)) (omega arith) in
+    let d₃ : digit (byteAt (a .hint .now) (a .i + 1 + 1)) ≡ false = ap digit (sym (e₃)) ∙ sym (c .before .is-digit3 .ensures) ∙ not-true _ (c .if3 .taken) in
+    simp (d₁, d₂, d₃) (number-is (omega arith) (omega arith))
 
 -- src/grammar.rt:77:16
 mul-t11 : tie.Need-mul-t11
@@ -88,7 +115,7 @@ mul-t11 c = search needs
 
 -- src/grammar.rt:77:28
 sub-t10 : tie.Need-sub-t10
-sub-t10 c = ?
+sub-t10 c = digit-low _ (sym (c .before .is-digit3 .ensures) ∙ not-false _ (c .if3 .left))
 
 -- src/grammar.rt:77:27
 cast-t13 : tie.Need-cast-t13
@@ -104,7 +131,14 @@ add-t16 c = search needs
 
 -- src/grammar.rt:52:1
 returns-4 : tie.Need-returns-4
-returns-4 c = ?
+unfolding Rattle.hint.specs.Hint.numberAt Rattle.hint.specs.Hint.numberAfter
+returns-4 c = 
+    let a = c .before .before .before .before .before .before .before .before .before .before .args in
+    let d₁ : digit (byteAt (a .hint .now) (a .i)) ≡ true = ap digit (sym (c .before .before .before .before .before .before .before .before .byte-at .ensures)) ∙ sym (c .before .before .before .before .before .before .before .is-digit .ensures) ∙ not-false _ (c .before .before .before .before .before .before .if1 .left) in
+    let d₂ : digit (byteAt (a .hint .now) (a .i + 1)) ≡ true = ap digit (sym (c .before .before .before .before .before .byte-at2 .ensures)) ∙ sym (c .before .before .before .before .is-digit2 .ensures) ∙ not-false _ (c .before .before .before .if2 .left) in
+    let e₃ : c .before .before .byte-at3 .result ≡ byteAt (a .hint .now) (a .i + 1 + 1) = c .before .before .byte-at3 .ensures ∙ ap (byteAt (a .hint .now)) (omega arith) in
+    let d₃ : digit (byteAt (a .hint .now) (a .i + 1 + 1)) ≡ true = ap digit (sym (e₃)) ∙ sym (c .before .is-digit3 .ensures) ∙ not-false _ (c .if3 .left) in
+    simp (d₁, d₂, d₃) (number-is (omega arith) (omega arith))
 
 pub number-at-spec : {M : Type 1} → statement M
 number-at-spec =
