@@ -1,13 +1,13 @@
 -- Laws of digits, each over the base.
 -- Assumes nothing.
 use Prim.Native.Nat.{ℕ, zero, suc, _+_, _-_, _*_, _/_, _%_, _^_, _≤_, _<_}
-use native.Mathlib.Nat.{div-lt-self, not-suc-le-zero}
+use native.Mathlib.Nat.{div-lt-self, not-suc-le-zero, pow-le-pow-right}
 use native.Mathlib.Numerals.{sub-one}
 use native.Mathlib.Omega.{arith}
 use mathlib.Core.Path.{_≡_, refl, sym, ap, _∙_}
 use mathlib.Core.Bool.{Bool, true, false}
 use mathlib.Core.List.{List, [], _∷_, _++_}
-use lib.Dec.{ltb}
+use lib.Dec.{ltb, lit<}
 use lib.ListN.{length, length-append}
 use borrow.Author.Tests.{lt-ltb, le-ltb, ltb-true, ltb-false}
 use Rattle.hint.specs.Digits.{digits, digitsWithin, glyph, pointed}
@@ -58,3 +58,7 @@ digits-longer base n h l = ap length (digits-step base n h l) ∙ length-append 
 -- the digits before the last, and the point, where places are left
 pub pointed-longer : (places n : ℕ) → 1 ≤ places → length (pointed places n) ≡ length (pointed (places - 1) (n / 10)) + 1
 pointed-longer places n h = ap length (pointed-step places n h) ∙ length-append (pointed (places - 1) (n / 10)) (glyph (n % 10) ∷ [])
+
+-- eight octets fit 64 bits
+pub power-fits : (i : ℕ) → i < 8 → 256 ^ suc i ≤ 2 ^ 64
+power-fits i h = pow-le-pow-right {n = 256} (lit< tt) {i = suc i} {j = 8} h

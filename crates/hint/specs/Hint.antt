@@ -40,9 +40,13 @@ numberAfter (suc more) n hint i =
 unfoldable pub numberAt : List ℕ → ℕ → Number
 numberAt hint i = numberAfter 3 0 hint i
 
--- a number from 1 to a bound, without leading zero, stands at a place
+-- a number with this first byte has no leading zero and is from 1 to a bound
+unfoldable pub allowed : ℕ → ℕ → ℕ → Bool
+allowed first value most = not (eqb first 48) && ltb 0 value && leb value most
+
+-- such a number stands at a place
 unfoldable pub bounded : List ℕ → ℕ → ℕ → Bool
-bounded hint i most = not (eqb (byteAt hint i) 48) && ltb 0 (numberAt hint i .value) && leb (numberAt hint i .value) most
+bounded hint i most = allowed (byteAt hint i) (numberAt hint i .value) most
 
 -- the greatest length that a format allows: 8 for x d o, 255 for a t; no other byte is a format
 unfoldable pub longest : ℕ → ℕ

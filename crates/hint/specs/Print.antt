@@ -41,12 +41,16 @@ useText format at octets =
 unfoldable pub optional : ℕ → List ℕ
 optional b = cond (eqb b 0) [] (b ∷ [])
 
--- what follows a use after which the next octet is at a place and so many uses are left: nothing where no octet remains, the
--- terminator, if any, after the last, and else the separator, if any
-unfoldable pub following : Piece → ℕ → List ℕ → ℕ → List ℕ
+-- the byte that follows a use after which the next octet is at a place and so many uses are left: none, 0, where no octet remains;
+-- the terminator, if any, after the last; else the separator, if any
+unfoldable pub following : Piece → ℕ → List ℕ → ℕ → ℕ
 following p left value next =
-    cond (leb (length value) next) []
-    (optional (cond (eqb left 0 && not (eqb (p .terminator) 0)) (p .terminator) (p .separator)))
+    cond (leb (length value) next) 0 (cond (eqb left 0 && not (eqb (p .terminator) 0)) (p .terminator) (p .separator))
+
+-- one use at a place, with so many left after it: its octets' text and what follows
+unfoldable pub oneUse : Piece → ℕ → List ℕ → ℕ → Outcome
+oneUse p left value at =
+    joined (useText (p .format) at (take (p .size) (drop at value))) (printed (optional (following p left value (at + p .size))))
 
 -- so many uses of a piece, the first at a place; with no octet left printing ends
 unfoldable pub uses : ℕ → Piece → List ℕ → ℕ → Outcome
@@ -54,10 +58,7 @@ uses zero p value at = printed []
 uses (suc left) p value at =
     elim (leb (length value) at) [
       true ↦ printed []
-    | false ↦
-        joined
-        (joined (useText (p .format) at (take (p .size) (drop at value))) (printed (following p left value (at + p .size))))
-        (uses left p value (at + p .size))
+    | false ↦ joined (oneUse p left value at) (uses left p value (at + p .size))
     ]
 
 -- how often a piece is used, and where its uses start: after `*` the octet there is the repeat count
