@@ -78,9 +78,17 @@ number-short base (b ∷ bs) large some h =
     omega (arith, digits-short 8 base (3 * length bs + 2) (bigEndian 0 (b ∷ bs)) (lit≤ tt) large below)
 
 -- a format that allows a length and doesn't pass characters on is x, d or o: its base is 8 at least, and its length 8 at most
-letters : (format : ℕ) → passes format ≡ false → 0 < longest format → (8 ≤ baseOf format) × (baseOf format ≤ 16) × (longest format ≤ 8)
+pub letters : (format : ℕ) → passes format ≡ false → 0 < longest format → (8 ≤ baseOf format) × (baseOf format ≤ 16) × (longest format ≤ 8)
 unfolding passes longest baseOf
-letters format p l = ?
+letters format p l = go (eqb format 120) (eqb format 111) (eqb format 98) (eqb format 100) refl refl refl refl
+  where
+    go : (x o b d : Bool) → eqb format 120 ≡ x → eqb format 111 ≡ o → eqb format 98 ≡ b → eqb format 100 ≡ d
+        → (8 ≤ baseOf format) × (baseOf format ≤ 16) × (longest format ≤ 8)
+    go true o b d ex eo eb ed = rw (eqb-true format 120 ex) (lit≤ tt, lit≤ tt, lit≤ tt)
+    go false true b d ex eo eb ed = rw (eqb-true format 111 eo) (lit≤ tt, lit≤ tt, lit≤ tt)
+    go false false true d ex eo eb ed = absurd (omega (arith, ap longest (eqb-true format 98 eb)))
+    go false false false true ex eo eb ed = rw (eqb-true format 100 ed) (lit≤ tt, lit≤ tt, lit≤ tt)
+    go false false false false ex eo eb ed = let none : longest format ≡ 0 = simp (ex, eo, ed, p) in absurd (omega arith)
 
 pub longest-small : (format : ℕ) → longest format ≤ 255
 unfolding longest
@@ -105,7 +113,7 @@ use-size format at s some allowed h = go (passes format) refl
     go true e = omega (arith, passed-size at s (cut (characterSize format s) (length s)))
     go false e = number-short (baseOf format) s (letters format e (omega arith) .0) some h
 
-optional-size : (b : ℕ) → length (optional b) ≤ 1
+pub optional-size : (b : ℕ) → length (optional b) ≤ 1
 unfolding optional
 optional-size b = go (eqb b 0)
   where

@@ -9,7 +9,10 @@ use mathlib.Core.List.{List, [], _∷_}
 use lib.Dec.{leb}
 use borrow.Author.Tests.{le-leb, lt-leb, leb-true, leb-false}
 use Rattle.hint.specs.Cut.{Cut, whole, stuck, before, cut, cutWithin}
+use Rattle.hint.specs.Print.{Outcome, printed, fault, passed}
 use Rattle.hint.specs.Inner.{stuckAt}
+use Rattle.hint.specs.declared.Search.{Search}
+use Rattle.hint.specs.declared.Search.the-variants.{At, Nowhere}
 
 whole-not-stuck : (places : List ℕ) (j : ℕ) → whole places ≡ stuck j → ⊥
 whole-not-stuck places j h = let z : _≡_ {A = ℕ} 0 1 = cc in omega arith
@@ -82,3 +85,19 @@ pub stuck-before : (i : ℕ) (c : Cut) → stuckAt (before i c) ≡ stuckAt c
 unfolding stuckAt before
 stuck-before i (whole places) = refl
 stuck-before i (stuck j) = refl
+
+-- where a search found something, or nothing, the cut is known
+pub passed-stuck : (at : ℕ) (s : List ℕ) (c : Cut) (i : ℕ) → stuckAt c ≡ At i → passed at s c ≡ fault (at + i)
+unfolding stuckAt passed
+passed-stuck at s (whole places) i h = let z : _≡_ {A = ℕ} 0 1 = cc in absurd (omega arith)
+passed-stuck at s (stuck j) i h = let e : j ≡ i = cc in ap (λ (k : ℕ). fault (at + k)) e
+
+pub passed-whole : (at : ℕ) (s : List ℕ) (c : Cut) → stuckAt c ≡ Nowhere → passed at s c ≡ printed s
+unfolding stuckAt passed
+passed-whole at s (whole places) h = refl
+passed-whole at s (stuck j) h = let z : _≡_ {A = ℕ} 0 1 = cc in absurd (omega arith)
+
+pub stuck-at : (c : Cut) (i : ℕ) → stuckAt c ≡ At i → c ≡ stuck i
+unfolding stuckAt
+stuck-at (whole places) i h = let z : _≡_ {A = ℕ} 0 1 = cc in absurd (omega arith)
+stuck-at (stuck j) i h = let e : j ≡ i = cc in ap stuck e

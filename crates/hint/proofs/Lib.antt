@@ -5,4 +5,5 @@ pub mod CutLaws
 pub mod CharacterLaws
 pub mod Outcomes
 pub mod Bounds
+pub mod UsesLaws
 pub mod Examples

@@ -1,4 +1,14 @@
+-- `use_octets` is right: where fewer octets are left than the length says, taking more takes the same.
+-- Assumes nothing.
 use borrow.Author.Needs.{needs}
+use Prim.Native.Nat.{ℕ}
+use mathlib.Core.Path.{ap, sym, _∙_}
+use native.Mathlib.Omega.{arith}
+use lib.ListN.{take, drop, length, length-drop}
+use lib.Seq.{take-all}
+use Prim.Native.Nat.{_-_}
+use Prim.Native.Nat.{_+_}
+use mathlib.Core.Path.{_≡_}
 use Rattle.hint.proofs.pieces.use_octets.Statement.{statement}
 use Rattle.hint.proofs.pieces.use_octets.Tie as tie
 use Rattle.hint.proofs.pieces.use_octets.Reads as reads
@@ -38,11 +48,18 @@ part-result-end-2 c = search needs
 
 -- src/pieces.rt:73:1
 returns : tie.Need-returns
-returns c = ?
+returns c = 
+    let a = c .before .before .args in
+    let same : a .at + a .size - a .at ≡ a .size = omega arith in
+    ap (λ (k : ℕ). take k (drop (a .at) (a .value .now))) same
 
 -- src/pieces.rt:73:1
 returns-2 : tie.Need-returns-2
-returns-2 c = ?
+returns-2 c = 
+    let a = c .before .before .args in
+    let rest = drop (a .at) (a .value .now) in
+    let long = length-drop (a .at) (a .value .now) in
+    take-all (length (a .value .now) - a .at) rest (omega arith) ∙ sym (take-all (a .size) rest (omega arith))
 
 pub use-octets-spec : {M : Type 1} → statement M
 use-octets-spec =
