@@ -6,4 +6,5 @@ pub mod CharacterLaws
 pub mod Outcomes
 pub mod Bounds
 pub mod UsesLaws
+pub mod PrintingLaws
 pub mod Examples
