@@ -7,4 +7,6 @@ pub mod Outcomes
 pub mod Bounds
 pub mod UsesLaws
 pub mod PrintingLaws
+pub mod SignedLaws
+pub mod Answers
 pub mod Examples

@@ -1,6 +1,6 @@
 -- What the functions below the two calls promise of the output buffer.
 -- Assumes nothing.
-use Prim.Native.Nat.{ℕ, _+_}
+use Prim.Native.Nat.{ℕ, _+_, _≤_}
 use mathlib.Core.Path.{_≡_}
 use mathlib.Core.Bool.{Bool, true, false, cond}
 use mathlib.Core.List.{List, []}
@@ -12,6 +12,8 @@ use Rattle.hint.specs.Print.{Outcome, printed, fault}
 use Rattle.hint.specs.declared.Piece.{Piece}
 use Rattle.hint.specs.declared.Found.{Found}
 use Rattle.hint.specs.declared.Found.the-variants.{Whole, Nothing}
+use Rattle.hint.specs.declared.Form.{Form}
+use Rattle.hint.specs.declared.Form.the-variants.{Base, Point, Bad}
 use Rattle.hint.specs.declared.Search.{Search}
 use Rattle.hint.specs.declared.Search.the-variants.{At, Nowhere}
 use Rattle.hint.specs.declared.Progress.{Progress}
@@ -44,3 +46,15 @@ isPieces none = false
 unfoldable pub piecesIn : Reading → List Piece
 piecesIn (pieces ps) = ps
 piecesIn none = []
+
+-- a form that can be printed by: a base from 2 to 16, or at most ten places
+abbrev pub Usable : Form → Type 0
+Usable (Base base) = (2 ≤ base) × (base ≤ 16)
+Usable (Point places) = places ≤ 10
+Usable Bad = Unit {0}
+
+-- whether a form is none
+abbrev pub isBad : Form → Bool
+isBad (Base base) = false
+isBad (Point places) = false
+isBad Bad = true

@@ -5,9 +5,17 @@ mod character;
 mod digit;
 mod grammar;
 mod pieces;
+mod signed;
 
 ghost use Rattle.hint.specs.Answer.{Answered, octetsVerdict, integerVerdict, octetsPart, integerPart};
 ghost use lib.ListN.{length};
+use buffer::clear;
+use grammar::form_of;
+use grammar::is_hint;
+use pieces::print_pieces;
+use signed::in_range;
+use signed::is_bad;
+use signed::print_signed;
 
 // What a call answers. Answer.antt gives the number, place and length of each case.
 pub enum Answer {
@@ -61,4 +69,46 @@ pub enum Progress {
 pub enum Found {
     Whole(Piece, usize),
     Nothing,
+}
+
+// Prints octets by a hint for octets. Works on the first 4,096 bytes of the output: the text, then zeros. A refusal zeroes
+// them too, but for a buffer that is shorter, of which nothing changes.
+pub fn octets(hint: &[u8], value: &[u8], out: &mut [u8]) -> Answer
+    ensures { λ r. ⌜ Answered octetsPart (octetsVerdict (length (now (out .entry))) (now (hint .entry)) (now (value .entry))) r (now (out .entry)) (now (out .exit)) ⌝ }
+{
+    if out.len() < 4096 {
+        return Answer::ShortBuffer;
+    }
+    clear(out, 4096);
+    if 1024 < value.len() {
+        return Answer::LongValue;
+    }
+    if !is_hint(hint) {
+        return Answer::BadHint;
+    }
+    match print_pieces(hint, value, &mut out[..4096]) {
+        Progress::To(n) => Answer::Printed(n),
+        Progress::Fault(place) => {
+            clear(out, 4096);
+            Answer::BadOctet(place)
+        }
+    }
+}
+
+// Prints an integer by a hint for integers, likewise in the first 64 bytes of the output.
+pub fn integer(hint: &[u8], value: i64, out: &mut [u8]) -> Answer
+    ensures { λ r. ⌜ Answered integerPart (integerVerdict (length (now (out .entry))) (now (hint .entry)) value) r (now (out .entry)) (now (out .exit)) ⌝ }
+{
+    if out.len() < 64 {
+        return Answer::ShortBuffer;
+    }
+    clear(out, 64);
+    let form = form_of(hint);
+    if is_bad(form) {
+        return Answer::BadHint;
+    }
+    if !in_range(value) {
+        return Answer::OutOfRange;
+    }
+    Answer::Printed(print_signed(form, value, &mut out[..64]))
 }

@@ -8,7 +8,6 @@ use native.Mathlib.Omega.{arith}
 use borrow.Author.Needs.{needs}
 use lib.ListN.{length}
 use Rattle.hint.proofs.PrintingLaws.{Allowed, piecesFrom, printFrom, print-start, print-end, print-turn, pieces-allowed, piece-there, stuck-step, turn-next, turn-last, turn-either, hint-pieces, uses-start-near, uses-octets-small, uses-end-after, uses-end-is}
-use Rattle.hint.proofs.PrintingLaws.{Allowed, piecesFrom, printFrom, print-start, print-end, print-turn, pieces-allowed, piece-there, stuck-step, turn-next, turn-last, hint-pieces, uses-start-near, uses-octets-small, uses-end-after}
 use Rattle.hint.proofs.Bounds.{Octets, uses-size, longest-small}
 use Rattle.hint.proofs.Outcomes.{followed-none, followed-next, followed-joined, followed-fault}
 use Rattle.hint.proofs.HintLaws.{found-whole, found-nothing, piece-allowed, piece-end-after}
