@@ -34,8 +34,8 @@ print-magnitude-requires : tie.Need-print-magnitude-requires
 print-magnitude-requires c κs = 
     let a = c .before .before .before .before .before .before .before .before .args in
     let q = c .before .before .before .before .before .before .before .before .pre in
-    let n = c .before .before .before .before .before .before .magnitude-of .ensures in
     let same = toZ-ofZ (c .before .before .before .before .before .before .before .before .fits .value) in
+    let n : c .before .before .before .before .before .before .magnitude-of .result ≡ natAbs (a .value) = c .before .before .before .before .before .before .magnitude-of .ensures ∙ ap natAbs same in
     let short = magnitude-size (a .form) (natAbs (a .value)) (q .0) (magnitude-small (a .value) (q .1 .0)) in
     let digits = ap (magnitude (a .form)) n in
     let long = ap length digits in
@@ -50,8 +50,8 @@ returns : tie.Need-returns
 returns c = 
     let a = c .before .before .before .before .before .before .before .before .before .before .before .args in
     let q = c .before .before .before .before .before .before .before .before .before .before .before .pre in
-    let n = c .before .before .before .before .before .before .before .before .before .magnitude-of .ensures in
     let same = toZ-ofZ (c .before .before .before .before .before .before .before .before .before .before .before .fits .value) in
+    let n : c .before .before .before .before .before .before .before .before .before .magnitude-of .result ≡ natAbs (a .value) = c .before .before .before .before .before .before .before .before .before .magnitude-of .ensures ∙ ap natAbs same in
     let short = magnitude-size (a .form) (natAbs (a .value)) (q .0) (magnitude-small (a .value) (q .1 .0)) in
     let digits = ap (magnitude (a .form)) n in
     let long = ap length digits in
@@ -66,8 +66,8 @@ print-magnitude-requires-2 : tie.Need-print-magnitude-requires-2
 print-magnitude-requires-2 c κs = 
     let a = c .before .before .before .before .args in
     let q = c .before .before .before .before .pre in
-    let n = c .before .before .magnitude-of .ensures in
     let same = toZ-ofZ (c .before .before .before .before .fits .value) in
+    let n : c .before .before .magnitude-of .result ≡ natAbs (a .value) = c .before .before .magnitude-of .ensures ∙ ap natAbs same in
     let short = magnitude-size (a .form) (natAbs (a .value)) (q .0) (magnitude-small (a .value) (q .1 .0)) in
     let digits = ap (magnitude (a .form)) n in
     let long = ap length digits in
@@ -82,8 +82,8 @@ returns-2 : tie.Need-returns-2
 returns-2 c = 
     let a = c .before .before .before .before .before .before .before .args in
     let q = c .before .before .before .before .before .before .before .pre in
-    let n = c .before .before .before .before .before .magnitude-of .ensures in
     let same = toZ-ofZ (c .before .before .before .before .before .before .before .fits .value) in
+    let n : c .before .before .before .before .before .magnitude-of .result ≡ natAbs (a .value) = c .before .before .before .before .before .magnitude-of .ensures ∙ ap natAbs same in
     let short = magnitude-size (a .form) (natAbs (a .value)) (q .0) (magnitude-small (a .value) (q .1 .0)) in
     let digits = ap (magnitude (a .form)) n in
     let long = ap length digits in
