@@ -57,10 +57,10 @@ module _ (part : ℕ) (o cleared : List ℕ) (zeros : cleared ≡ replicate part
         place-is = refl;
         length-is = done .next-is ∙ zero-add (length t);
         buffer-is =
-          ap (λ (l : List ℕ). l ++ drop part cleared) (done .buffer-is ∙ ap (λ (l : List ℕ). t ++ drop (0 + length t) l) part-zeros
+            ap (λ (l : List ℕ). l ++ drop part cleared) (done .buffer-is ∙ ap (λ (l : List ℕ). t ++ drop (0 + length t) l) part-zeros
             ∙ ap (λ (k : ℕ). t ++ drop k (replicate part 0)) (zero-add (length t)) ∙ ap (λ (l : List ℕ). t ++ l) (drop-replicate (length t) part 0))
-          ∙ append-assoc t (replicate (part - length t) 0) (drop part cleared)
-          ∙ ap (λ (l : List ℕ). t ++ (replicate (part - length t) 0 ++ l)) rest-kept
+            ∙ append-assoc t (replicate (part - length t) 0) (drop part cleared)
+            ∙ ap (λ (l : List ℕ). t ++ (replicate (part - length t) 0 ++ l)) rest-kept;
       }
 
   pub answered-printed : {v : Verdict} {out : Outcome} {w : List ℕ} {n : ℕ} → v ≡ ofOutcome out → Followed out 0 (To n) (take part cleared) w

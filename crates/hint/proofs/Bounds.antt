@@ -42,7 +42,7 @@ big-endian-below n (b ∷ bs) h =
     let first : b < 256 = h 0 in
     let more : suc (n * 256 + b) * 256 ^ length bs ≤ (suc n * 256) * 256 ^ length bs = mul-le-mul-right (256 ^ length bs) (omega arith) in
     let same : (suc n * 256) * 256 ^ length bs ≡ suc n * 256 ^ suc (length bs) =
-        mul-assoc (suc n) 256 (256 ^ length bs) ∙ ap (λ (k : ℕ). suc n * k) (mul-comm 256 (256 ^ length bs) ∙ sym (pow-suc 256 (length bs))) in
+    mul-assoc (suc n) 256 (256 ^ length bs) ∙ ap (λ (k : ℕ). suc n * k) (mul-comm 256 (256 ^ length bs) ∙ sym (pow-suc 256 (length bs))) in
     omega arith
 
 -- one law for every base: a number below c ^ m has m digits at most, at any base from c on

@@ -89,8 +89,8 @@ module _ (value : List ℕ) where
       let after = uses-end-after p value at (a .0 .0) in
       within-enough (length value - at) (suc (length value)) (p ∷ ps) at a (omega arith) (omega arith)
       ∙ rw (lt-leb (length value) at h, printingWithin)
-        (ap (joined (uses (repeats p value at) p value (usesStart p at)))
-        (within-enough (length value) (length value - usesEnd p value at) (turn p ps) (usesEnd p value at) (turn-allowed p ps a) (omega arith) (omega arith)))
+      (ap (joined (uses (repeats p value at) p value (usesStart p at)))
+      (within-enough (length value) (length value - usesEnd p value at) (turn p ps) (usesEnd p value at) (turn-allowed p ps a) (omega arith) (omega arith)))
 
 -- the places of a cut
 abbrev pub placesIn : Cut → List ℕ
@@ -147,9 +147,11 @@ module _ (hint : List ℕ) where
       more : (c : Cut) → isPiece hint i ≡ true → AllAllowed (map (pieceAt hint) (placesIn c)) → AllAllowed (map (pieceAt hint) (placesIn (before i c)))
       more (whole places) t a = (piece-allowed hint i t, a)
       more (stuck j) t a = tt
+
       there : (n : ℕ) → pieceSize hint i ≡ suc n → (t : Bool) → isPiece hint i ≡ t → t ≡ true
       there n f true e = refl
       there n f false e = absurd (omega (arith, piece-size-none hint i e))
+
       go : ((m : ℕ) → AllAllowed (map (pieceAt hint) (placesIn (cutWithin k (pieceSize hint) (length hint) m)))) → (t : Bool) (n : ℕ)
           → leb (length hint) i ≡ t → pieceSize hint i ≡ n → AllAllowed (map (pieceAt hint) (placesIn (cutWithin (suc k) (pieceSize hint) (length hint) i)))
       go deeper true n e f = rw (e, cutWithin) tt
@@ -193,6 +195,7 @@ module _ (hint : List ℕ) where
       sized : (c : Cut) → isPieces (piecesOf hint c) ≡ true → (piecesIn (piecesOf hint c) ≡ map (pieceAt hint) (placesIn c)) × (stuckAt c ≡ Nowhere)
       sized (whole places) e = (refl, refl)
       sized (stuck i) e = let z : _≡_ {A = ℕ} 0 1 = cc in absurd (omega arith)
+
       go : (low high : Bool) → leb 1 (length hint) ≡ low → isPieces (cond (low && high) (piecesOf hint (cut (pieceSize hint) (length hint))) none) ≡ true
           → (piecesIn (cond (low && high) (piecesOf hint (cut (pieceSize hint) (length hint))) none) ≡ piecesFrom 0) × (0 < length hint)
           × (stuckAt (from (pieceSize hint) (length hint) 0) ≡ Nowhere)
@@ -208,7 +211,7 @@ pub print-turn : (hint value : List ℕ) (cursor at next : ℕ) → cursor < len
     → at < length value → turn (pieceAt hint cursor) (piecesFrom hint (pieceEnd hint cursor)) ≡ piecesFrom hint next
     → printFrom value (piecesFrom hint cursor) at
     ≡ joined (uses (repeats (pieceAt hint cursor) value at) (pieceAt hint cursor) value (usesStart (pieceAt hint cursor) at))
-      (printFrom value (piecesFrom hint next) (usesEnd (pieceAt hint cursor) value at))
+    (printFrom value (piecesFrom hint next) (usesEnd (pieceAt hint cursor) value at))
 print-turn hint value cursor at next h s l t =
     let p : Piece = pieceAt hint cursor in
     let these = pieces-step hint cursor h s in

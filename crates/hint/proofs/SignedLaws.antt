@@ -88,12 +88,16 @@ point-usable hint = go (front && (leading && least) && end) refl
   where
     front : Bool
     front = eqb (byteAt hint 0) 100 && eqb (byteAt hint 1) 45
+
     leading : Bool
     leading = not (eqb (byteAt hint 2) 48) && ltb 0 (numberAt hint 2 .value)
+
     least : Bool
     least = leb (numberAt hint 2 .value) 10
+
     end : Bool
     end = eqb (numberAt hint 2 .next) (length hint)
+
     go : (t : Bool) → (front && (leading && least) && end) ≡ t → Usable (cond t (Point (numberAt hint 2 .value)) Bad)
     go true e = leb-true (numberAt hint 2 .value) 10 (and-right leading least (and-right front (leading && least) (and-left (front && (leading && least)) end e)))
     go false e = tt

@@ -31,11 +31,11 @@ written-more o at a b h =
     let rest : List ℕ = drop (at + length a) o in
     let long : length front ≡ at + length a = simp (length-append, length-take) (omega arith) in
     let taken : take (at + length a) (take at o ++ (a ++ rest)) ≡ front =
-        rw (← append-assoc (take at o) a rest) (take-at front rest (at + length a) long) in
+    rw (← append-assoc (take at o) a rest) (take-at front rest (at + length a) long) in
     let dropped : drop (at + length a + length b) (take at o ++ (a ++ rest)) ≡ drop (at + length a + length b) o =
-        rw (← append-assoc (take at o) a rest)
-        (ap (λ (k : ℕ). drop (k + length b) (front ++ rest)) (sym long) ∙ drop-append-add front rest (length b)
-        ∙ drop-drop (length b) (at + length a) o) in
+    rw (← append-assoc (take at o) a rest)
+    (ap (λ (k : ℕ). drop (k + length b) (front ++ rest)) (sym long) ∙ drop-append-add front rest (length b)
+    ∙ drop-drop (length b) (at + length a) o) in
     rw (taken, dropped) (simp (append-assoc, length-append, add-assoc))
 
 pub wrote-more : {a b o o₁ o₂ : List ℕ} {at n n₁ : ℕ} → at + length a ≤ length o → Wrote a at n o o₁ → Wrote b n n₁ o₁ o₂ → Wrote (a ++ b) at n₁ o o₂
@@ -43,8 +43,8 @@ wrote-more {a} {b} {o} {o₁} {o₂} {at} {n} {n₁} h p q =
     record {
       next-is = q .next-is ∙ ap (λ (k : ℕ). k + length b) (p .next-is) ∙ add-assoc at (length a) (length b) ∙ ap (λ (k : ℕ). at + k) (sym (length-append a b));
       buffer-is =
-        q .buffer-is ∙ ap (λ (l : List ℕ). written l n b) (p .buffer-is) ∙ ap (λ (k : ℕ). written (written o at a) k b) (p .next-is)
-        ∙ written-more o at a b h
+          q .buffer-is ∙ ap (λ (l : List ℕ). written l n b) (p .buffer-is) ∙ ap (λ (k : ℕ). written (written o at a) k b) (p .next-is)
+          ∙ written-more o at a b h;
     }
 
 -- one byte more of those to be written

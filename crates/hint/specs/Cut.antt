@@ -20,8 +20,8 @@ unfoldable pub cutWithin : ℕ → (ℕ → ℕ) → ℕ → ℕ → Cut
 cutWithin zero size end i = whole []
 cutWithin (suc steps) size end i =
     elim (leb end i) [
-      true ↦ whole []
-    | false ↦ elim (size i) [ zero ↦ stuck i | suc n ↦ before i (cutWithin steps size end (i + suc n)) ]
+      | true ↦ whole []
+      | false ↦ elim (size i) [ zero ↦ stuck i | suc n ↦ before i (cutWithin steps size end (i + suc n)) ]
     ]
 
 -- the cut of all bytes up to the end. An item has at least one byte, so as many steps as there are bytes suffice

@@ -79,12 +79,12 @@ isPiece hint i = bounded hint (lengthPlace hint i) (longest (byteAt hint (format
 -- the piece at i
 unfoldable pub pieceAt : List ℕ → ℕ → Piece
 pieceAt hint i = record {
-    starred = starred hint i;
-    size = numberAt hint (lengthPlace hint i) .value;
-    format = byteAt hint (formatPlace hint i);
-    separator = separatorOf hint i;
-    terminator = terminatorOf hint i
-  }
+  starred = starred hint i;
+  size = numberAt hint (lengthPlace hint i) .value;
+  format = byteAt hint (formatPlace hint i);
+  separator = separatorOf hint i;
+  terminator = terminatorOf hint i;
+}
 
 -- where the piece at i ends
 unfoldable pub pieceEnd : List ℕ → ℕ → ℕ

@@ -57,8 +57,8 @@ unfoldable pub uses : ℕ → Piece → List ℕ → ℕ → Outcome
 uses zero p value at = printed []
 uses (suc left) p value at =
     elim (leb (length value) at) [
-      true ↦ printed []
-    | false ↦ joined (oneUse p left value at) (uses left p value (at + p .size))
+      | true ↦ printed []
+      | false ↦ joined (oneUse p left value at) (uses left p value (at + p .size))
     ]
 
 -- how often a piece is used, and where its uses start: after `*` the octet there is the repeat count
@@ -83,10 +83,10 @@ printingWithin zero ps value at = printed []
 printingWithin (suc steps) [] value at = printed []
 printingWithin (suc steps) (p ∷ ps) value at =
     elim (leb (length value) at) [
-      true ↦ printed []
-    | false ↦
-        joined (uses (repeats p value at) p value (usesStart p at))
-        (printingWithin steps (turn p ps) value (usesEnd p value at))
+      | true ↦ printed []
+      | false ↦
+          joined (uses (repeats p value at) p value (usesStart p at))
+          (printingWithin steps (turn p ps) value (usesEnd p value at))
     ]
 
 -- the whole value. A piece takes an octet at least, the count or one of its length, so as many steps as octets suffice

@@ -26,7 +26,11 @@ pub fn glyph_of(d: u64) -> u8
     requires { ⌜ d < 16 ⌝ }
     ensures { λ r. ⌜ r ≡ glyph d ⌝ }
 {
-    if d < 10 { (48 + d) as u8 } else { (87 + d) as u8 }
+    if d < 10 {
+        (48 + d) as u8
+    } else {
+        (87 + d) as u8
+    }
 }
 
 // Writes the digits of n: those of the quotient by the base, then the remainder's. Answers the place after them.

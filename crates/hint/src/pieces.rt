@@ -82,7 +82,14 @@ fn use_octets(value: &[u8], at: usize, size: usize) -> &[u8]
 }
 
 // Writes one use and what follows it.
-fn print_one(value: &[u8], at: usize, piece: Piece, left: usize, out: &mut [u8], pos: usize) -> Progress
+fn print_one(
+    value: &[u8],
+    at: usize,
+    piece: Piece,
+    left: usize,
+    out: &mut [u8],
+    pos: usize,
+) -> Progress
     requires { ⌜ (at < length (now value)) × (length (now value) ≤ 1024) ⌝ }
     requires { ⌜ (0 < piece .size) × (piece .size ≤ longest (piece .format)) ⌝ }
     requires { ⌜ pos + 4 * (length (now value) - at) ≤ length (now out) ⌝ }
@@ -100,7 +107,14 @@ fn print_one(value: &[u8], at: usize, piece: Piece, left: usize, out: &mut [u8],
 }
 
 // Writes so many uses of a piece, or fewer where no octet is left.
-fn print_uses(value: &[u8], start: usize, piece: Piece, count: usize, out: &mut [u8], pos: usize) -> Progress
+fn print_uses(
+    value: &[u8],
+    start: usize,
+    piece: Piece,
+    count: usize,
+    out: &mut [u8],
+    pos: usize,
+) -> Progress
     requires { ⌜ (length (now value) ≤ 1024) × (start ≤ 1024) ⌝ }
     requires { ⌜ (0 < piece .size) × (piece .size ≤ longest (piece .format)) ⌝ }
     requires { ⌜ pos + 4 * (length (now value) - start) ≤ length (now out) ⌝ }
@@ -133,11 +147,7 @@ fn repeats_of(piece: Piece, value: &[u8], at: usize) -> usize
     requires { ⌜ at < length (now value) ⌝ }
     ensures { λ r. ⌜ r ≡ repeats piece (now (value .entry)) at ⌝ }
 {
-    if piece.starred {
-        value[at] as usize
-    } else {
-        1
-    }
+    if piece.starred { value[at] as usize } else { 1 }
 }
 
 // Where its uses start.

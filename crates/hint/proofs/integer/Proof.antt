@@ -31,7 +31,7 @@ use Rattle.hint.proofs.signed.print_signed.Reads as print-signed-reads
 
 -- src/lib.rt:103:9
 returns : tie.Need-returns
-returns c = 
+returns c =
     let a = c .before .before .before .args in
     let h = a .hint .now in
     let o = a .out .now in
@@ -56,7 +56,7 @@ same-length c = search needs
 -- src/lib.rt:108:9
 returns-2 : tie.Need-returns-2
 unfolding Rattle.hint.specs.Answer.numberOf Rattle.hint.specs.Answer.placeOf Rattle.hint.specs.Answer.lengthOf
-returns-2 c = 
+returns-2 c =
     let a = c .before .before .before .before .before .before .before .before .before .before .args in
     let h = a .hint .now in
     let o = a .out .now in
@@ -77,7 +77,7 @@ same-length-2 c = search needs
 -- src/lib.rt:111:9
 returns-3 : tie.Need-returns-3
 unfolding Rattle.hint.specs.Answer.numberOf Rattle.hint.specs.Answer.placeOf Rattle.hint.specs.Answer.lengthOf
-returns-3 c = 
+returns-3 c =
     let a = c .before .before .before .before .before .before .before .before .before .before .before .before .args in
     let h = a .hint .now in
     let o = a .out .now in
@@ -98,7 +98,7 @@ slice-aggregate-print-signed c = search needs
 
 -- src/lib.rt:113:21
 print-signed-requires : tie.Need-print-signed-requires
-print-signed-requires c κs = 
+print-signed-requires c κs =
     let a = c .before .before .before .before .before .before .before .before .before .before .before .before .before .args in
     let h = a .hint .now in
     let o = a .out .now in
@@ -115,7 +115,7 @@ same-length-3 c = search needs
 
 -- src/lib.rt:99:1
 returns-4 : tie.Need-returns-4
-returns-4 c = 
+returns-4 c =
     let a = c .before .before .before .before .before .before .before .before .before .before .before .before .before .before .before .before .args in
     let h = a .hint .now in
     let o = a .out .now in
@@ -124,8 +124,8 @@ returns-4 c =
     let bad : c .before .before .before .before .before .before .before .is-bad .result ≡ isBad (readForm h) = c .before .before .before .before .before .before .before .is-bad .ensures ∙ ap isBad form in
     let within : inRange (a .value) ≡ true = sym (c .before .before .before .before .before .in-range .ensures ∙ ap inRange same) ∙ not-false _ (c .before .before .before .before .if3 .left) in
     let done : Wrote (signed (readForm h) (a .value)) 0 (c .before .before .print-signed .result) (take 64 (c .before .before .before .before .before .before .before .before .before .before .before .clear .last .0)) (c .before .before .print-signed .last .1 .1 .0) =
-        subst (λ (z : ℤ). Wrote (signed (readForm h) z) 0 (c .before .before .print-signed .result) (take 64 (c .before .before .before .before .before .before .before .before .before .before .before .clear .last .0)) (c .before .before .print-signed .last .1 .1 .0)) same
-        (subst (λ (f : Form). Wrote (signed f (toZ w64 (ofZ w64 (a .value)))) 0 (c .before .before .print-signed .result) (take 64 (c .before .before .before .before .before .before .before .before .before .before .before .clear .last .0)) (c .before .before .print-signed .last .1 .1 .0)) form (c .before .before .print-signed .ensures)) in
+    subst (λ (z : ℤ). Wrote (signed (readForm h) z) 0 (c .before .before .print-signed .result) (take 64 (c .before .before .before .before .before .before .before .before .before .before .before .clear .last .0)) (c .before .before .print-signed .last .1 .1 .0)) same
+    (subst (λ (f : Form). Wrote (signed f (toZ w64 (ofZ w64 (a .value)))) 0 (c .before .before .print-signed .result) (take 64 (c .before .before .before .before .before .before .before .before .before .before .before .clear .last .0)) (c .before .before .print-signed .last .1 .1 .0)) form (c .before .before .print-signed .ensures)) in
     subst (λ (u : Verdict). Answered 64 u (Printed (c .before .before .print-signed .result)) o (c .before .before .print-signed .last .1 .1 .0 ++ drop 64 (c .before .before .before .before .before .before .before .before .before .before .before .clear .last .0)))
     (sym (integer-text (length o) h (a .value) (c .before .before .before .before .before .before .before .before .before .before .before .before .before .if1 .left) (sym bad ∙ c .before .before .before .before .before .before .if2 .left) within))
     (answered-text 64 o (c .before .before .before .before .before .before .before .before .before .before .before .clear .last .0) (c .before .before .before .before .before .before .before .before .before .before .before .clear .ensures) done)

@@ -26,7 +26,7 @@ use Rattle.hint.proofs.pieces.print_pieces.Reads as print-pieces-reads
 
 -- src/lib.rt:79:9
 returns : tie.Need-returns
-returns c = 
+returns c =
     let a = c .before .before .before .before .args in
     let h = a .hint .now in
     let v = a .value .now in
@@ -44,7 +44,7 @@ same-length c = search needs
 -- src/lib.rt:83:9
 returns-2 : tie.Need-returns-2
 unfolding Rattle.hint.specs.Answer.numberOf Rattle.hint.specs.Answer.placeOf Rattle.hint.specs.Answer.lengthOf
-returns-2 c = 
+returns-2 c =
     let a = c .before .before .before .before .before .before .before .before .before .args in
     let h = a .hint .now in
     let v = a .value .now in
@@ -62,7 +62,7 @@ same-length-2 c = search needs
 -- src/lib.rt:86:9
 returns-3 : tie.Need-returns-3
 unfolding Rattle.hint.specs.Answer.numberOf Rattle.hint.specs.Answer.placeOf Rattle.hint.specs.Answer.lengthOf
-returns-3 c = 
+returns-3 c =
     let a = c .before .before .before .before .before .before .before .before .before .before .before .args in
     let h = a .hint .now in
     let v = a .value .now in
@@ -76,14 +76,14 @@ slice-relend-prefix-print-pieces c = search needs
 
 -- src/lib.rt:88:37
 slice-aggregate-print-pieces : tie.Need-slice-aggregate-print-pieces
-slice-aggregate-print-pieces c = 
+slice-aggregate-print-pieces c =
     let o = c .before .before .before .before .before .before .clear .last .0 in
     let kept = c .before .before .before .before .before .before .clear .kept .0 in
     sym (length-take 4096 o ∙ omega (arith, c .before .before .before .before .before .before .before .before .if1 .left))
 
 -- src/lib.rt:88:11
 print-pieces-requires : tie.Need-print-pieces-requires
-print-pieces-requires c κs = 
+print-pieces-requires c κs =
     let o = c .before .before .before .before .before .before .clear .last .0 in
     let kept = c .before .before .before .before .before .before .clear .kept .0 in
     (sym (c .before .before .is-hint .ensures) ∙ not-false _ (c .before .if3 .left), (c .before .before .before .if2 .left, length-take 4096 o ∙ omega (arith, c .before .before .before .before .before .before .before .before .if1 .left)))
@@ -106,14 +106,14 @@ same-length-3 c = search needs
 
 -- src/lib.rt:75:1
 returns-4 : tie.Need-returns-4
-returns-4 c = 
+returns-4 c =
     let a = c .before .before .before .before .before .before .before .before .before .before .before .before .before .before .before .before .before .before .args in
     let h = a .hint .now in
     let v = a .value .now in
     let o = a .out .now in
     let yes₁ = sym (c .before .before .before .before .before .before .before .before .is-hint .ensures) ∙ not-false _ (c .before .before .before .before .before .before .before .if3 .left) in
     let done : Followed (printing (piecesIn (readHint h)) v) 0 (To (c .before .n .given .0 .0)) (take 4096 (c .before .before .before .before .before .before .before .before .before .before .before .before .clear .last .0)) (c .before .before .before .before .before .print-pieces .last .1 .1 .0) =
-        subst (λ (r : Progress). Followed (printing (piecesIn (readHint h)) v) 0 r (take 4096 (c .before .before .before .before .before .before .before .before .before .before .before .before .clear .last .0)) (c .before .before .before .before .before .print-pieces .last .1 .1 .0)) (c .before .n .given .1) (c .before .before .before .before .before .print-pieces .ensures) in
+    subst (λ (r : Progress). Followed (printing (piecesIn (readHint h)) v) 0 r (take 4096 (c .before .before .before .before .before .before .before .before .before .before .before .before .clear .last .0)) (c .before .before .before .before .before .print-pieces .last .1 .1 .0)) (c .before .n .given .1) (c .before .before .before .before .before .print-pieces .ensures) in
     answered-printed 4096 o (c .before .before .before .before .before .before .before .before .before .before .before .before .clear .last .0) (c .before .before .before .before .before .before .before .before .before .before .before .before .clear .ensures) (octets-printed (length o) h v (c .before .before .before .before .before .before .before .before .before .before .before .before .before .before .if1 .left) (c .before .before .before .before .before .before .before .before .before .if2 .left) yes₁) done
 
 -- src/lib.rt:75:1
@@ -123,7 +123,7 @@ same-length-4 c = search needs
 -- src/lib.rt:75:1
 returns-5 : tie.Need-returns-5
 unfolding Rattle.hint.specs.Answer.numberOf Rattle.hint.specs.Answer.placeOf Rattle.hint.specs.Answer.lengthOf
-returns-5 c = 
+returns-5 c =
     let a = c .before .before .before .before .before .before .before .before .before .before .before .before .before .before .before .before .before .before .before .before .before .before .args in
     let h = a .hint .now in
     let v = a .value .now in
@@ -131,7 +131,7 @@ returns-5 c =
     let yes₁ = sym (c .before .before .before .before .before .before .before .before .before .before .before .before .is-hint .ensures) ∙ not-false _ (c .before .before .before .before .before .before .before .before .before .before .before .if3 .left) in
     let at = c .before .before .before .before .before .place .given .0 .0 in
     let done : Followed (printing (piecesIn (readHint h)) v) 0 (Fault at) (take 4096 (c .before .before .before .before .before .before .before .before .before .before .before .before .before .before .before .before .clear .last .0)) (c .before .before .before .before .before .before .before .before .before .print-pieces .last .1 .1 .0) =
-        subst (λ (r : Progress). Followed (printing (piecesIn (readHint h)) v) 0 r (take 4096 (c .before .before .before .before .before .before .before .before .before .before .before .before .before .before .before .before .clear .last .0)) (c .before .before .before .before .before .before .before .before .before .print-pieces .last .1 .1 .0)) (c .before .before .before .before .before .place .given .1) (c .before .before .before .before .before .before .before .before .before .print-pieces .ensures) in
+    subst (λ (r : Progress). Followed (printing (piecesIn (readHint h)) v) 0 r (take 4096 (c .before .before .before .before .before .before .before .before .before .before .before .before .before .before .before .before .clear .last .0)) (c .before .before .before .before .before .before .before .before .before .print-pieces .last .1 .1 .0)) (c .before .before .before .before .before .place .given .1) (c .before .before .before .before .before .before .before .before .before .print-pieces .ensures) in
     let kept = c .before .before .before .before .before .before .before .before .before .before .before .before .before .before .before .before .clear .kept .0 in
     let long : length (c .before .before .before .before .before .before .before .before .before .print-pieces .last .1 .1 .0) ≡ 4096 = c .before .before .before .before .before .before .before .before .before .print-pieces .kept .1 .1 .0 ∙ length-take 4096 (c .before .before .before .before .before .before .before .before .before .before .before .before .before .before .before .before .clear .last .0) ∙ omega (arith, c .before .before .before .before .before .before .before .before .before .before .before .before .before .before .before .before .before .before .if1 .left) in
     answered-refusal 4096 (octetsVerdict (length o) h v) (BadOctet at) o (c .before .before .clear2 .last .0) 33 at

@@ -39,7 +39,7 @@ loop-less c = omega arith
 
 -- src/buffer.rt:44:5
 loop-again : tie.Need-loop-again Inv-loop μ-loop
-loop-again c = 
+loop-again c =
     let inv = c .before .loop .inv in
     let i = c .before .loop .i in
     let o = c .before .before .args .out .now in
@@ -52,7 +52,7 @@ same-length c = c .before .loop .inv .2
 
 -- src/buffer.rt:39:1
 returns : tie.Need-returns Inv-loop μ-loop
-returns c = 
+returns c =
     let inv = c .before .loop .inv in
     let o = c .before .before .args .out .now in
     let end : c .before .loop .i ≡ c .before .before .args .count = omega arith in

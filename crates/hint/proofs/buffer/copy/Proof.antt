@@ -49,15 +49,16 @@ loop-less c = omega arith
 
 -- src/buffer.rt:31:5
 loop-again : tie.Need-loop-again Inv-loop μ-loop
-loop-again c = 
+loop-again c =
     let inv = c .before .before .loop .inv in
     let i = c .before .before .loop .i in
     let a = c .before .before .before .args in
     let room : a .at + length (a .s .now) ≤ length (a .out .now) = c .before .before .before .pre in
-    let below : i < length (a .s .now) = c .before .loop-test .taken in
-    (ap (λ (l : List ℕ). set l (a .at + i) (getD (a .s .now) i 0)) (inv .0) ∙ written-next (a .out .now) (a .at) (a .s .now) i room below,
-    omega arith,
-    simp length-set (inv .2))
+    let below : i < length (a .s .now) = c .before .loop-test .taken in (
+      ap (λ (l : List ℕ). set l (a .at + i) (getD (a .s .now) i 0)) (inv .0) ∙ written-next (a .out .now) (a .at) (a .s .now) i room below,
+      omega arith,
+      simp length-set (inv .2),
+    )
 
 -- src/buffer.rt:35:5
 add-result : tie.Need-add-result Inv-loop μ-loop
@@ -69,14 +70,14 @@ same-length c = c .before .loop .inv .2
 
 -- src/buffer.rt:26:1
 returns : tie.Need-returns Inv-loop μ-loop
-returns c = 
+returns c =
     let inv = c .before .loop .inv in
     let a = c .before .before .args in
     let end : c .before .loop .i ≡ length (a .s .now) = omega arith in
     record {
       next-is = ap (λ (k : ℕ). a .at + k) end;
       buffer-is = inv .0 ∙ ap (λ (k : ℕ). written (a .out .now) (a .at) (take k (a .s .now))) end
-        ∙ ap (λ (l : List ℕ). written (a .out .now) (a .at) l) (take-length (a .s .now))
+          ∙ ap (λ (l : List ℕ). written (a .out .now) (a .at) l) (take-length (a .s .now));
     }
 
 pub copy-spec : {M : Type 1} → statement M

@@ -32,7 +32,7 @@ character-size-requires c κs = c .loop-test .taken
 -- src/character.rt:110:13
 returns : tie.Need-returns Inv-loop μ-loop
 unfolding Rattle.hint.specs.Inner.stuckAt
-returns c = 
+returns c =
     let a = c .before .before .before .before .before .args in
     let none = sym (c .before .character-size .ensures) ∙ c .if1 .taken in
     sym (ap stuckAt (from-stuck (characterSize (a .format) (a .s .now)) (length (a .s .now)) (c .before .before .before .loop .i) (c .before .before .loop-test .taken) none))
@@ -40,7 +40,7 @@ returns c =
 
 -- src/character.rt:112:9
 add-i : tie.Need-add-i Inv-loop μ-loop
-add-i c = 
+add-i c =
     let a = c .before .before .before .before .before .args in
     let small = character-small (a .format) (a .s .now) (c .before .before .before .loop .i) in
     let size = c .before .character-size .ensures in
@@ -52,7 +52,7 @@ loop-less c = omega arith
 
 -- src/character.rt:107:5
 loop-again : tie.Need-loop-again Inv-loop μ-loop
-loop-again c = 
+loop-again c =
     let a = c .before .before .before .before .before .args in
     let i = c .before .before .before .loop .i in
     let size : ℕ → ℕ = characterSize (a .format) (a .s .now) in
@@ -66,7 +66,7 @@ loop-again c =
 -- src/character.rt:103:1
 returns-2 : tie.Need-returns-2 Inv-loop μ-loop
 unfolding Rattle.hint.specs.Inner.stuckAt
-returns-2 c = 
+returns-2 c =
     let a = c .before .before .before .args in
     sym (ap stuckAt (from-end (characterSize (a .format) (a .s .now)) (length (a .s .now)) (c .before .loop .i) (c .loop-test .left))) ∙ c .before .loop .inv
 

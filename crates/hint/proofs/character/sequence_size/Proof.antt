@@ -30,7 +30,7 @@ lead-size-requires c κs = search needs
 -- src/character.rt:68:9
 returns : tie.Need-returns
 unfolding Rattle.hint.specs.Character.sequenceSize Rattle.hint.specs.Character.tails Rattle.hint.specs.Character.tail
-returns c = 
+returns c =
     let a = c .before .before .before .before .args in
     let s = a .s .now in
     let n : c .before .lead-size .result ≡ leadSize (byteAt s (a .i)) = c .before .lead-size .ensures ∙ ap leadSize (c .before .before .byte-at .ensures) in
@@ -62,7 +62,7 @@ is-between-requires c κs = search needs
 -- src/character.rt:71:9
 returns-2 : tie.Need-returns-2
 unfolding Rattle.hint.specs.Character.sequenceSize Rattle.hint.specs.Character.tails Rattle.hint.specs.Character.tail
-returns-2 c = 
+returns-2 c =
     let a = c .before .before .before .before .before .before .before .before .before .args in
     let s = a .s .now in
     let n : c .before .before .before .before .before .before .lead-size .result ≡ leadSize (byteAt s (a .i)) = c .before .before .before .before .before .before .lead-size .ensures ∙ ap leadSize (c .before .before .before .before .before .before .before .byte-at .ensures) in
@@ -74,7 +74,7 @@ returns-2 c =
 -- src/character.rt:74:9
 returns-3 : tie.Need-returns-3
 unfolding Rattle.hint.specs.Character.sequenceSize Rattle.hint.specs.Character.tails Rattle.hint.specs.Character.tail
-returns-3 c = 
+returns-3 c =
     let a = c .before .before .before .before .before .before .before .before .before .before .args in
     let s = a .s .now in
     let n : c .before .before .before .before .before .before .before .lead-size .result ≡ leadSize (byteAt s (a .i)) = c .before .before .before .before .before .before .before .lead-size .ensures ∙ ap leadSize (c .before .before .before .before .before .before .before .before .byte-at .ensures) in
@@ -100,7 +100,7 @@ is-between-requires-2 c κs = search needs
 -- src/character.rt:77:9
 returns-4 : tie.Need-returns-4
 unfolding Rattle.hint.specs.Character.sequenceSize Rattle.hint.specs.Character.tails Rattle.hint.specs.Character.tail
-returns-4 c = 
+returns-4 c =
     let a = c .before .before .before .before .before .before .before .before .before .before .before .before .before .args in
     let s = a .s .now in
     let n : c .before .before .before .before .before .before .before .before .before .before .lead-size .result ≡ leadSize (byteAt s (a .i)) = c .before .before .before .before .before .before .before .before .before .before .lead-size .ensures ∙ ap leadSize (c .before .before .before .before .before .before .before .before .before .before .before .byte-at .ensures) in
@@ -114,7 +114,7 @@ returns-4 c =
 -- src/character.rt:80:9
 returns-5 : tie.Need-returns-5
 unfolding Rattle.hint.specs.Character.sequenceSize Rattle.hint.specs.Character.tails Rattle.hint.specs.Character.tail
-returns-5 c = 
+returns-5 c =
     let a = c .before .before .before .before .before .before .before .before .before .before .before .before .before .before .args in
     let s = a .s .now in
     let n : c .before .before .before .before .before .before .before .before .before .before .before .lead-size .result ≡ leadSize (byteAt s (a .i)) = c .before .before .before .before .before .before .before .before .before .before .before .lead-size .ensures ∙ ap leadSize (c .before .before .before .before .before .before .before .before .before .before .before .before .byte-at .ensures) in
@@ -141,7 +141,7 @@ is-between-requires-3 c κs = search needs
 -- src/character.rt:83:9
 returns-6 : tie.Need-returns-6
 unfolding Rattle.hint.specs.Character.sequenceSize Rattle.hint.specs.Character.tails Rattle.hint.specs.Character.tail
-returns-6 c = 
+returns-6 c =
     let a = c .before .before .before .before .before .before .before .before .before .before .before .before .before .before .before .before .before .args in
     let s = a .s .now in
     let n : c .before .before .before .before .before .before .before .before .before .before .before .before .before .before .lead-size .result ≡ leadSize (byteAt s (a .i)) = c .before .before .before .before .before .before .before .before .before .before .before .before .before .before .lead-size .ensures ∙ ap leadSize (c .before .before .before .before .before .before .before .before .before .before .before .before .before .before .before .byte-at .ensures) in
@@ -157,7 +157,7 @@ returns-6 c =
 -- src/character.rt:61:1
 returns-7 : tie.Need-returns-7
 unfolding Rattle.hint.specs.Character.sequenceSize Rattle.hint.specs.Character.tails Rattle.hint.specs.Character.tail
-returns-7 c = 
+returns-7 c =
     let a = c .before .before .before .before .before .before .before .before .before .before .before .before .before .before .before .before .before .args in
     let s = a .s .now in
     let n : c .before .before .before .before .before .before .before .before .before .before .before .before .before .before .lead-size .result ≡ leadSize (byteAt s (a .i)) = c .before .before .before .before .before .before .before .before .before .before .before .before .before .before .lead-size .ensures ∙ ap leadSize (c .before .before .before .before .before .before .before .before .before .before .before .before .before .before .before .byte-at .ensures) in

@@ -56,7 +56,7 @@ print-digits-put-requires : (t : ℕ) → print-digits-lts.Need-put-requires (
   print-digits-below t,
   print-digits.Post,
 ) (print-digits-at t) print-digits.Post
-print-digits-put-requires t c κs = 
+print-digits-put-requires t c κs =
     let a = c .before .before .before .before .args in
     let one = ap length (digits-last (a .base) (a .n) (c .before .before .if1 .taken)) in
     omega arith
@@ -81,10 +81,10 @@ print-digits-returns : (t : ℕ) → print-digits-lts.Need-returns (
   print-digits-below t,
   print-digits.Post,
 ) (print-digits-at t) print-digits.Post
-print-digits-returns t c = 
+print-digits-returns t c =
     let a = c .before .before .before .before .before .before .before .args in
     let one : c .before .before .before .glyph-of .result ∷ [] ≡ digits (a .base) (a .n) =
-        ap (λ (b : ℕ). b ∷ []) (c .before .before .before .glyph-of .ensures) ∙ sym (digits-last (a .base) (a .n) (c .before .before .before .before .before .if1 .taken)) in
+    ap (λ (b : ℕ). b ∷ []) (c .before .before .before .glyph-of .ensures) ∙ sym (digits-last (a .base) (a .n) (c .before .before .before .before .before .if1 .taken)) in
     subst (λ (l : List ℕ). Wrote l (a .at) (c .before .before .put .result) (a .out .now) (c .before .before .put .last .0)) one (c .before .before .put .ensures)
 
 -- src/digit.rt:41:29
@@ -107,7 +107,7 @@ print-digits-print-digits-requires : (t : ℕ) → print-digits-lts.Need-print-d
   print-digits-below t,
   print-digits.Post,
 ) (print-digits-at t) print-digits.Post
-print-digits-print-digits-requires t c κs = 
+print-digits-print-digits-requires t c κs =
     let a = c .before .before .before .args in
     let large : a .base ≤ a .n = c .before .if1 .left in
     let p = c .before .before .before .pre in
@@ -135,7 +135,7 @@ print-digits-glyph-of-requires-2 : (t : ℕ) → print-digits-lts.Need-glyph-of-
   print-digits-below t,
   print-digits.Post,
 ) (print-digits-at t) print-digits.Post
-print-digits-glyph-of-requires-2 t c κs = 
+print-digits-glyph-of-requires-2 t c κs =
     let a = c .before .before .before .before .before .before .before .args in
     let p = c .before .before .before .before .before .before .before .pre in
     let two : 2 ≤ a .base = p .1 .0 .0 in
@@ -152,7 +152,7 @@ print-digits-put-requires-2 : (t : ℕ) → print-digits-lts.Need-put-requires-2
   print-digits-below t,
   print-digits.Post,
 ) (print-digits-at t) print-digits.Post
-print-digits-put-requires-2 t c κs = 
+print-digits-put-requires-2 t c κs =
     let a = c .before .before .before .before .before .before .before .before .args in
     let p = c .before .before .before .before .before .before .before .before .pre .1 in
     let longer = digits-longer (a .base) (a .n) (p .0 .0) (c .before .before .before .before .before .before .if1 .left) in
@@ -180,13 +180,13 @@ print-digits-returns-2 : (t : ℕ) → print-digits-lts.Need-returns-2 (
   print-digits-below t,
   print-digits.Post,
 ) (print-digits-at t) print-digits.Post
-print-digits-returns-2 t c = 
+print-digits-returns-2 t c =
     let a = c .before .before .before .before .before .before .before .before .before .before .before .args in
     let p = c .before .before .before .before .before .before .before .before .before .before .before .pre .1 in
     let large : a .base ≤ a .n = c .before .before .before .before .before .before .before .before .before .if1 .left in
     let longer = digits-longer (a .base) (a .n) (p .0 .0) large in
     let all : digits (a .base) (a .n / a .base) ++ (c .before .before .before .glyph-of2 .result ∷ []) ≡ digits (a .base) (a .n) =
-        ap (λ (b : ℕ). digits (a .base) (a .n / a .base) ++ (b ∷ [])) (c .before .before .before .glyph-of2 .ensures) ∙ sym (digits-step (a .base) (a .n) (p .0 .0) large) in
+    ap (λ (b : ℕ). digits (a .base) (a .n / a .base) ++ (b ∷ [])) (c .before .before .before .glyph-of2 .ensures) ∙ sym (digits-step (a .base) (a .n) (p .0 .0) large) in
     subst (λ (l : List ℕ). Wrote l (a .at) (c .before .before .put2 .result) (a .out .now) (c .before .before .put2 .last .0)) all
     (wrote-more (omega (arith, p .1)) (c .before .before .before .before .before .before .before .print-digits .ensures) (c .before .before .put2 .ensures))
 

@@ -47,7 +47,7 @@ print-pointed-print-digits-requires : (t : ℕ) → print-pointed-lts.Need-print
   glyph-of-reads.Asked,
   glyph-of-reads.Learnt,
 ) (print-pointed-at t) print-pointed.Post
-print-pointed-print-digits-requires t c κs = 
+print-pointed-print-digits-requires t c κs =
     let a = c .before .before .before .args in
     let none = ap length (pointed-none (a .places) (a .n) (c .before .if1 .taken)) in
     let more = length-append (digits 10 (a .n)) (46 ∷ []) in
@@ -64,7 +64,7 @@ print-pointed-put-requires : (t : ℕ) → print-pointed-lts.Need-put-requires (
   glyph-of-reads.Asked,
   glyph-of-reads.Learnt,
 ) (print-pointed-at t) print-pointed.Post
-print-pointed-put-requires t c κs = 
+print-pointed-put-requires t c κs =
     let a = c .before .before .before .before .before .before .before .args in
     let none = ap length (pointed-none (a .places) (a .n) (c .before .before .before .before .before .if1 .taken)) in
     let more = length-append (digits 10 (a .n)) (46 ∷ []) in
@@ -96,7 +96,7 @@ print-pointed-returns : (t : ℕ) → print-pointed-lts.Need-returns (
   glyph-of-reads.Asked,
   glyph-of-reads.Learnt,
 ) (print-pointed-at t) print-pointed.Post
-print-pointed-returns t c = 
+print-pointed-returns t c =
     let a = c .before .before .before .before .before .before .before .before .before .before .args in
     let none = pointed-none (a .places) (a .n) (c .before .before .before .before .before .before .before .before .if1 .taken) in
     let long = ap length none in
@@ -128,7 +128,7 @@ print-pointed-print-pointed-requires : (t : ℕ) → print-pointed-lts.Need-prin
   glyph-of-reads.Asked,
   glyph-of-reads.Learnt,
 ) (print-pointed-at t) print-pointed.Post
-print-pointed-print-pointed-requires t c κs = 
+print-pointed-print-pointed-requires t c κs =
     let a = c .before .before .before .args in
     let some : 1 ≤ a .places = omega (arith, c .before .if1 .left) in
     let longer = pointed-longer (a .places) (a .n) some in
@@ -158,7 +158,7 @@ print-pointed-put-requires-2 : (t : ℕ) → print-pointed-lts.Need-put-requires
   glyph-of-reads.Asked,
   glyph-of-reads.Learnt,
 ) (print-pointed-at t) print-pointed.Post
-print-pointed-put-requires-2 t c κs = 
+print-pointed-put-requires-2 t c κs =
     let a = c .before .before .before .before .before .before .before .before .args in
     let some : 1 ≤ a .places = omega (arith, c .before .before .before .before .before .before .if1 .left) in
     let longer = pointed-longer (a .places) (a .n) some in
@@ -190,12 +190,12 @@ print-pointed-returns-2 : (t : ℕ) → print-pointed-lts.Need-returns-2 (
   glyph-of-reads.Asked,
   glyph-of-reads.Learnt,
 ) (print-pointed-at t) print-pointed.Post
-print-pointed-returns-2 t c = 
+print-pointed-returns-2 t c =
     let a = c .before .before .before .before .before .before .before .before .before .before .before .args in
     let some : 1 ≤ a .places = omega (arith, c .before .before .before .before .before .before .before .before .before .if1 .left) in
     let longer = pointed-longer (a .places) (a .n) some in
     let all : pointed (a .places - 1) (a .n / 10) ++ (c .before .before .before .glyph-of .result ∷ []) ≡ pointed (a .places) (a .n) =
-        ap (λ (b : ℕ). pointed (a .places - 1) (a .n / 10) ++ (b ∷ [])) (c .before .before .before .glyph-of .ensures) ∙ sym (pointed-step (a .places) (a .n) some) in
+    ap (λ (b : ℕ). pointed (a .places - 1) (a .n / 10) ++ (b ∷ [])) (c .before .before .before .glyph-of .ensures) ∙ sym (pointed-step (a .places) (a .n) some) in
     subst (λ (l : List ℕ). Wrote l (a .at) (c .before .before .put2 .result) (a .out .now) (c .before .before .put2 .last .0)) all
     (wrote-more (omega (arith, c .before .before .before .before .before .before .before .before .before .before .before .pre)) (c .before .before .before .before .before .before .before .print-pointed .ensures) (c .before .before .put2 .ensures))
 

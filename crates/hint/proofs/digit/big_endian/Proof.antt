@@ -28,7 +28,7 @@ loop-holds c = (refl, lit< tt, omega arith)
 
 -- src/digit.rt:66:13
 mul-n : tie.Need-mul-n Inv-loop μ-loop
-mul-n c = 
+mul-n c =
     let i = c .before .loop .i in
     let large = power-fits i (omega arith) in
     omega (arith, pow-suc 256 i)
@@ -43,7 +43,7 @@ cast-n c = omega (arith, c .shared-slice-known .given (c .before .before .loop .
 
 -- src/digit.rt:66:13
 add-n : tie.Need-add-n Inv-loop μ-loop
-add-n c = 
+add-n c =
     let i = c .before .before .loop .i in
     let large = power-fits i (omega arith) in
     omega (arith, pow-suc 256 i, c .shared-slice-known .given i)
@@ -59,21 +59,21 @@ loop-less c = omega arith
 -- src/digit.rt:65:5
 loop-again : tie.Need-loop-again Inv-loop μ-loop
 unfolding Rattle.hint.specs.Digits.bigEndian
-loop-again c = 
+loop-again c =
     let i = c .before .before .loop .i in
     let n = c .before .before .loop .n in
     let s = c .before .before .before .args .s .now in
     let inv = c .before .before .loop .inv in
     let below : i < length s = c .before .loop-test .taken in
     let step : bigEndian n (drop i s) ≡ bigEndian (n * 256 + getD s i 0) (drop (i + 1) s) =
-        ap (bigEndian n) (drop-cons s i 0 below) ∙ ap (λ (k : ℕ). bigEndian (n * 256 + getD s i 0) (drop k s)) (sym (add-one i)) in
+    ap (bigEndian n) (drop-cons s i 0 below) ∙ ap (λ (k : ℕ). bigEndian (n * 256 + getD s i 0) (drop k s)) (sym (add-one i)) in
     let power : 256 ^ (i + 1) ≡ 256 ^ i * 256 = ap (λ (k : ℕ). 256 ^ k) (add-one i) ∙ pow-suc 256 i in
     (sym step ∙ inv .0, omega (arith, c .shared-slice-known .given i), omega arith)
 
 -- src/digit.rt:59:1
 returns : tie.Need-returns Inv-loop μ-loop
 unfolding Rattle.hint.specs.Digits.bigEndian
-returns c = 
+returns c =
     let s = c .before .before .args .s .now in
     let inv = c .before .loop .inv in
     let end : c .before .loop .i ≡ length s = omega arith in

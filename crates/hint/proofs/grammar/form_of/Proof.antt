@@ -39,18 +39,18 @@ base-of-requires c κs = search needs
 -- src/grammar.rt:209:1
 returns-2 : tie.Need-returns-2
 unfolding Rattle.hint.specs.Hint.readForm
-returns-2 c = 
+returns-2 c =
     let h = c .before .before .before .before .before .args .hint .now in
     let letter = c .before .before .byte-at .ensures in
     let one : (eqb (c .before .before .byte-at .result) 120 || eqb (c .before .before .byte-at .result) 111 || eqb (c .before .before .byte-at .result) 98 || eqb (c .before .before .byte-at .result) 100) ≡ true =
-        ⊎-elim (λ e. rw e) (⊎-elim (λ e. rw e) (⊎-elim (λ e. rw e) (λ e. rw e))) (c .before .match .keys1) in
+    ⊎-elim (λ e. rw e) (⊎-elim (λ e. rw e) (⊎-elim (λ e. rw e) (λ e. rw e))) (c .before .match .keys1) in
     let known = ap (λ (b : ℕ). eqb b 120 || eqb b 111 || eqb b 98 || eqb b 100) (sym letter) ∙ one in
     simp (eq-eqb _ _ (c .before .before .before .if1 .left), known) (ap Base (c .base-of .ensures ∙ ap baseOf letter))
 
 -- src/grammar.rt:209:1
 returns-3 : tie.Need-returns-3
 unfolding Rattle.hint.specs.Hint.readForm Rattle.hint.specs.Hint.readPoint
-returns-3 c = 
+returns-3 c =
     let h = c .before .before .before .before .args .hint .now in
     let letter = c .before .byte-at .ensures in
     let other = c .match .rest in

@@ -26,20 +26,20 @@ abbrev μ-loop : tie.MeasureT-loop
 -- src/grammar.rt:172:9
 returns : tie.Need-returns Inv-loop μ-loop
 unfolding Rattle.hint.specs.Hint.readHint Rattle.hint.specs.Inner.isPieces
-returns c = 
+returns c =
     let h = c .before .before .args .hint .now in
     simp (lt-leb 1 (length h) (omega (arith, c .if1 .taken)))
 
 -- src/grammar.rt:175:9
 returns-2 : tie.Need-returns-2 Inv-loop μ-loop
 unfolding Rattle.hint.specs.Hint.readHint Rattle.hint.specs.Inner.isPieces
-returns-2 c = 
+returns-2 c =
     let h = c .before .before .before .args .hint .now in
     simp (le-leb 1 (length h) (omega (arith, c .if2 .taken)), lt-leb (length h) 255 (c .if2 .taken))
 
 -- src/grammar.rt:178:5
 loop-holds : tie.Need-loop-holds Inv-loop μ-loop
-loop-holds c = 
+loop-holds c =
     let h = c .before .before .before .args .hint .now in
     ap stuckAt (from-start (pieceSize h) (length h))
 
@@ -58,7 +58,7 @@ enum-told c = search needs
 -- src/grammar.rt:180:13
 returns-3 : tie.Need-returns-3 Inv-loop μ-loop
 unfolding Rattle.hint.specs.Inner.stuckAt
-returns-3 c = 
+returns-3 c =
     let h = c .before .before .before .before .before .before .before .before .args .hint .now in
     let i = c .before .before .before .before .loop .i in
     let none = piece-size-none h i (found-nothing h i (sym (c .enum-told .given .1) ∙ c .before .before .piece-at .ensures)) in
@@ -67,7 +67,7 @@ returns-3 c =
 
 -- src/grammar.rt:178:5
 loop-less : tie.Need-loop-less Inv-loop μ-loop
-loop-less c = 
+loop-less c =
     let h = c .before .before .before .before .before .before .before .before .before .args .hint .now in
     let i = c .before .before .before .before .before .loop .i in
     let p = c .before .next .given .0 .0 in
@@ -77,7 +77,7 @@ loop-less c =
 
 -- src/grammar.rt:178:5
 loop-again : tie.Need-loop-again Inv-loop μ-loop
-loop-again c = 
+loop-again c =
     let h = c .before .before .before .before .before .before .before .before .before .args .hint .now in
     let i = c .before .before .before .before .before .loop .i in
     let p = c .before .next .given .0 .0 in
@@ -94,7 +94,7 @@ loop-again c =
 -- src/grammar.rt:168:1
 returns-4 : tie.Need-returns-4 Inv-loop μ-loop
 unfolding Rattle.hint.specs.Inner.stuckAt
-returns-4 c = 
+returns-4 c =
     let h = c .before .before .before .before .before .args .hint .now in
     let at = from-end (pieceSize h) (length h) (c .before .loop .i) (c .loop-test .left) in
     sym (pieces-whole h (omega (arith, c .before .before .before .if1 .left)) (c .before .before .if2 .left) ∙ ap nowhere (sym (c .before .loop .inv) ∙ ap stuckAt at))

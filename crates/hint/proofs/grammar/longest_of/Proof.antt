@@ -20,14 +20,14 @@ returns-2 c = ⊎-elim (λ e. rw e) (λ e. rw e) (c .match .keys2)
 -- src/grammar.rt:83:1
 returns-3 : tie.Need-returns-3
 unfolding Rattle.hint.specs.Hint.longest
-returns-3 c = 
+returns-3 c =
     let other = c .match .rest in
     simp (
       ne-eqb _ 100 (λ e. other .0 .1 (inl e)),
       ne-eqb _ 111 (λ e. other .0 .1 (inr (inl e))),
       ne-eqb _ 120 (λ e. other .0 .1 (inr (inr e))),
       ne-eqb _ 97 (λ e. other .1 (inl e)),
-      ne-eqb _ 116 (λ e. other .1 (inr e))
+      ne-eqb _ 116 (λ e. other .1 (inr e)),
     )
 
 pub longest-of-spec : {M : Type 1} → statement M

@@ -28,7 +28,7 @@ is-digit-requires c κs = search needs
 -- src/grammar.rt:58:9
 returns : tie.Need-returns
 unfolding Rattle.hint.specs.Hint.numberAt Rattle.hint.specs.Hint.numberAfter
-returns c = 
+returns c =
     let a = c .before .before .before .before .args in
     let d₁ : digit (byteAt (a .hint .now) (a .i)) ≡ false = ap digit (sym (c .before .before .byte-at .ensures)) ∙ sym (c .before .is-digit .ensures) ∙ not-true _ (c .if1 .taken) in
     simp (d₁) (number-is (omega arith) (omega arith))
@@ -60,7 +60,7 @@ add-t12 c = search needs
 -- src/grammar.rt:63:9
 returns-2 : tie.Need-returns-2
 unfolding Rattle.hint.specs.Hint.numberAt Rattle.hint.specs.Hint.numberAfter
-returns-2 c = 
+returns-2 c =
     let a = c .before .before .before .before .before .before .before .args in
     let d₁ : digit (byteAt (a .hint .now) (a .i)) ≡ true = ap digit (sym (c .before .before .before .before .before .byte-at .ensures)) ∙ sym (c .before .before .before .before .is-digit .ensures) ∙ not-false _ (c .before .before .before .if1 .left) in
     let d₂ : digit (byteAt (a .hint .now) (a .i + 1)) ≡ false = ap digit (sym (c .before .before .byte-at2 .ensures)) ∙ sym (c .before .is-digit2 .ensures) ∙ not-true _ (c .if2 .taken) in
@@ -101,7 +101,7 @@ add-t14 c = search needs
 -- src/grammar.rt:71:9
 returns-3 : tie.Need-returns-3
 unfolding Rattle.hint.specs.Hint.numberAt Rattle.hint.specs.Hint.numberAfter
-returns-3 c = 
+returns-3 c =
     let a = c .before .before .before .before .before .before .before .before .before .before .args in
     let d₁ : digit (byteAt (a .hint .now) (a .i)) ≡ true = ap digit (sym (c .before .before .before .before .before .before .before .before .byte-at .ensures)) ∙ sym (c .before .before .before .before .before .before .before .is-digit .ensures) ∙ not-false _ (c .before .before .before .before .before .before .if1 .left) in
     let d₂ : digit (byteAt (a .hint .now) (a .i + 1)) ≡ true = ap digit (sym (c .before .before .before .before .before .byte-at2 .ensures)) ∙ sym (c .before .before .before .before .is-digit2 .ensures) ∙ not-false _ (c .before .before .before .if2 .left) in
@@ -132,7 +132,7 @@ add-t16 c = search needs
 -- src/grammar.rt:52:1
 returns-4 : tie.Need-returns-4
 unfolding Rattle.hint.specs.Hint.numberAt Rattle.hint.specs.Hint.numberAfter
-returns-4 c = 
+returns-4 c =
     let a = c .before .before .before .before .before .before .before .before .before .before .args in
     let d₁ : digit (byteAt (a .hint .now) (a .i)) ≡ true = ap digit (sym (c .before .before .before .before .before .before .before .before .byte-at .ensures)) ∙ sym (c .before .before .before .before .before .before .before .is-digit .ensures) ∙ not-false _ (c .before .before .before .before .before .before .if1 .left) in
     let d₂ : digit (byteAt (a .hint .now) (a .i + 1)) ≡ true = ap digit (sym (c .before .before .before .before .before .byte-at2 .ensures)) ∙ sym (c .before .before .before .before .is-digit2 .ensures) ∙ not-false _ (c .before .before .before .if2 .left) in

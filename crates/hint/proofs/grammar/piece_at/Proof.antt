@@ -32,7 +32,7 @@ length-place-requires c κs = search needs
 
 -- src/grammar.rt:144:9
 number-at-requires : tie.Need-number-at-requires
-number-at-requires c κs = 
+number-at-requires c κs =
     let a = c .before .before .args in
     omega (arith, c .length-place .ensures, length-place-near (a .hint .now) (a .i), c .before .before .pre, c .before .before .good)
 
@@ -55,16 +55,16 @@ is-allowed-requires c κs = search needs
 -- src/grammar.rt:149:9
 returns : tie.Need-returns
 unfolding Rattle.hint.specs.Hint.isPiece Rattle.hint.specs.Hint.bounded Rattle.hint.specs.Hint.formatPlace Rattle.hint.specs.Hint.pieceAt Rattle.hint.specs.Hint.pieceEnd Rattle.hint.specs.Hint.separatorOf Rattle.hint.specs.Hint.terminatorOf Rattle.hint.specs.Inner.found
-returns c = 
+returns c =
     let a = c .before .before .before .before .before .before .before .before .args in
     let h = a .hint .now in
     let start : c .before .before .before .before .before .before .length-place .result ≡ lengthPlace h (a .i) = c .before .before .before .before .before .before .length-place .ensures in
     let number : c .before .before .before .before .before .number-at .result ≡ numberAt h (lengthPlace h (a .i)) = c .before .before .before .before .before .number-at .ensures ∙ ap (numberAt h) start in
     let format : c .before .before .before .before .byte-at .result ≡ byteAt h (formatPlace h (a .i)) = c .before .before .before .before .byte-at .ensures ∙ ap (λ (v : Number). byteAt h (v .next)) number in
     let ok : c .before .is-allowed .result ≡ isPiece h (a .i) =
-        c .before .is-allowed .ensures ∙ ap (λ (b : ℕ). allowed b (c .before .before .before .before .before .number-at .result .value) (c .before .before .longest-of .result)) (c .before .before .before .byte-at2 .ensures ∙ ap (byteAt h) start)
-        ∙ ap (λ (v : Number). allowed (byteAt h (lengthPlace h (a .i))) (v .value) (c .before .before .longest-of .result)) number
-        ∙ ap (allowed (byteAt h (lengthPlace h (a .i))) (numberAt h (lengthPlace h (a .i)) .value)) (c .before .before .longest-of .ensures ∙ ap longest format) in
+    c .before .is-allowed .ensures ∙ ap (λ (b : ℕ). allowed b (c .before .before .before .before .before .number-at .result .value) (c .before .before .longest-of .result)) (c .before .before .before .byte-at2 .ensures ∙ ap (byteAt h) start)
+    ∙ ap (λ (v : Number). allowed (byteAt h (lengthPlace h (a .i))) (v .value) (c .before .before .longest-of .result)) number
+    ∙ ap (allowed (byteAt h (lengthPlace h (a .i))) (numberAt h (lengthPlace h (a .i)) .value)) (c .before .before .longest-of .ensures ∙ ap longest format) in
     simp (sym ok ∙ not-true _ (c .if1 .taken))
 
 -- src/grammar.rt:151:9
@@ -73,7 +73,7 @@ is-starred-requires c κs = search needs
 
 -- src/grammar.rt:152:35
 add-mark-at : tie.Need-add-mark-at
-add-mark-at c = 
+add-mark-at c =
     let a = c .before .before .before .before .before .before .before .before .before .args in
     let near = length-place-near (a .hint .now) (a .i) in
     let start = c .before .before .before .before .before .before .before .length-place .ensures in
@@ -87,7 +87,7 @@ mark-at-requires c κs = search needs
 
 -- src/grammar.rt:153:62
 add-terminator-at : tie.Need-add-terminator-at
-add-terminator-at c = 
+add-terminator-at c =
     let a = c .before .before .before .before .before .before .before .before .before .before .args in
     let near = length-place-near (a .hint .now) (a .i) in
     let start = c .before .before .before .before .before .before .before .before .length-place .ensures in
@@ -101,7 +101,7 @@ terminator-at-requires c κs = search needs
 
 -- src/grammar.rt:154:16
 add-next : tie.Need-add-next
-add-next c = 
+add-next c =
     let a = c .before .before .before .before .before .before .before .before .before .before .before .args in
     let near = length-place-near (a .hint .now) (a .i) in
     let start = c .before .before .before .before .before .before .before .before .before .length-place .ensures in
@@ -115,7 +115,7 @@ mark-size-requires c κs = search needs
 
 -- src/grammar.rt:154:16
 add-next-2 : tie.Need-add-next-2
-add-next-2 c = 
+add-next-2 c =
     let a = c .before .before .before .before .before .before .before .before .before .before .before .before .args in
     let near = length-place-near (a .hint .now) (a .i) in
     let start = c .before .before .before .before .before .before .before .before .before .before .length-place .ensures in
@@ -129,7 +129,7 @@ mark-size-requires-2 c κs = search needs
 
 -- src/grammar.rt:154:16
 add-next-3 : tie.Need-add-next-3
-add-next-3 c = 
+add-next-3 c =
     let a = c .before .before .before .before .before .before .before .before .before .before .before .before .before .args in
     let near = length-place-near (a .hint .now) (a .i) in
     let start = c .before .before .before .before .before .before .before .before .before .before .before .length-place .ensures in
@@ -140,26 +140,26 @@ add-next-3 c =
 -- src/grammar.rt:139:1
 returns-2 : tie.Need-returns-2
 unfolding Rattle.hint.specs.Hint.isPiece Rattle.hint.specs.Hint.bounded Rattle.hint.specs.Hint.formatPlace Rattle.hint.specs.Hint.pieceAt Rattle.hint.specs.Hint.pieceEnd Rattle.hint.specs.Hint.separatorOf Rattle.hint.specs.Hint.terminatorOf Rattle.hint.specs.Inner.found
-returns-2 c = 
+returns-2 c =
     let a = c .before .before .before .before .before .before .before .before .before .before .before .before .before .args in
     let h = a .hint .now in
     let start : c .before .before .before .before .before .before .before .before .before .before .before .length-place .result ≡ lengthPlace h (a .i) = c .before .before .before .before .before .before .before .before .before .before .before .length-place .ensures in
     let number : c .before .before .before .before .before .before .before .before .before .before .number-at .result ≡ numberAt h (lengthPlace h (a .i)) = c .before .before .before .before .before .before .before .before .before .before .number-at .ensures ∙ ap (numberAt h) start in
     let format : c .before .before .before .before .before .before .before .before .before .byte-at .result ≡ byteAt h (formatPlace h (a .i)) = c .before .before .before .before .before .before .before .before .before .byte-at .ensures ∙ ap (λ (v : Number). byteAt h (v .next)) number in
     let ok : c .before .before .before .before .before .before .is-allowed .result ≡ isPiece h (a .i) =
-        c .before .before .before .before .before .before .is-allowed .ensures ∙ ap (λ (b : ℕ). allowed b (c .before .before .before .before .before .before .before .before .before .before .number-at .result .value) (c .before .before .before .before .before .before .before .longest-of .result)) (c .before .before .before .before .before .before .before .before .byte-at2 .ensures ∙ ap (byteAt h) start)
-        ∙ ap (λ (v : Number). allowed (byteAt h (lengthPlace h (a .i))) (v .value) (c .before .before .before .before .before .before .before .longest-of .result)) number
-        ∙ ap (allowed (byteAt h (lengthPlace h (a .i))) (numberAt h (lengthPlace h (a .i)) .value)) (c .before .before .before .before .before .before .before .longest-of .ensures ∙ ap longest format) in
+    c .before .before .before .before .before .before .is-allowed .ensures ∙ ap (λ (b : ℕ). allowed b (c .before .before .before .before .before .before .before .before .before .before .number-at .result .value) (c .before .before .before .before .before .before .before .longest-of .result)) (c .before .before .before .before .before .before .before .before .byte-at2 .ensures ∙ ap (byteAt h) start)
+    ∙ ap (λ (v : Number). allowed (byteAt h (lengthPlace h (a .i))) (v .value) (c .before .before .before .before .before .before .before .longest-of .result)) number
+    ∙ ap (allowed (byteAt h (lengthPlace h (a .i))) (numberAt h (lengthPlace h (a .i)) .value)) (c .before .before .before .before .before .before .before .longest-of .ensures ∙ ap longest format) in
     let star : c .before .before .before .before .is-starred .result ≡ starred h (a .i) = c .before .before .before .before .is-starred .ensures in
     let separator : c .before .before .before .mark-at .result ≡ separatorOf h (a .i) = c .before .before .before .mark-at .ensures ∙ ap (λ (v : Number). markAt h (v .next + 1)) number in
     let terminator : c .before .before .terminator-at .result ≡ terminatorOf h (a .i) =
-        c .before .before .terminator-at .ensures ∙ ap (λ (v : Number). cond (c .before .before .before .before .is-starred .result && not (eqb (c .before .before .before .mark-at .result) 0)) (markAt h (v .next + 2)) 0) number
-        ∙ ap (λ (t : Bool). cond (t && not (eqb (c .before .before .before .mark-at .result) 0)) (markAt h (formatPlace h (a .i) + 2)) 0) star
-        ∙ ap (λ (b : ℕ). cond (starred h (a .i) && not (eqb b 0)) (markAt h (formatPlace h (a .i) + 2)) 0) separator in
+    c .before .before .terminator-at .ensures ∙ ap (λ (v : Number). cond (c .before .before .before .before .is-starred .result && not (eqb (c .before .before .before .mark-at .result) 0)) (markAt h (v .next + 2)) 0) number
+    ∙ ap (λ (t : Bool). cond (t && not (eqb (c .before .before .before .mark-at .result) 0)) (markAt h (formatPlace h (a .i) + 2)) 0) star
+    ∙ ap (λ (b : ℕ). cond (starred h (a .i) && not (eqb b 0)) (markAt h (formatPlace h (a .i) + 2)) 0) separator in
     let end : c .before .before .before .before .before .before .before .before .before .before .number-at .result .next + 1 + c .before .mark-size .result + c .mark-size2 .result ≡ pieceEnd h (a .i) =
-        ap (λ (v : Number). v .next + 1 + c .before .mark-size .result + c .mark-size2 .result) number
-        ∙ ap (λ (k : ℕ). formatPlace h (a .i) + 1 + k + c .mark-size2 .result) (c .before .mark-size .ensures ∙ ap markSize separator)
-        ∙ ap (λ (k : ℕ). formatPlace h (a .i) + 1 + markSize (separatorOf h (a .i)) + k) (c .mark-size2 .ensures ∙ ap markSize terminator) in
+    ap (λ (v : Number). v .next + 1 + c .before .mark-size .result + c .mark-size2 .result) number
+    ∙ ap (λ (k : ℕ). formatPlace h (a .i) + 1 + k + c .mark-size2 .result) (c .before .mark-size .ensures ∙ ap markSize separator)
+    ∙ ap (λ (k : ℕ). formatPlace h (a .i) + 1 + markSize (separatorOf h (a .i)) + k) (c .mark-size2 .ensures ∙ ap markSize terminator) in
     simp (sym ok ∙ not-false _ (c .before .before .before .before .before .if1 .left))
     (λ j. Whole (record { starred = star j; size = number j .value; format = format j; separator = separator j; terminator = terminator j }) (end j))
 

@@ -27,7 +27,7 @@ byte-at-requires c κs = search needs
 -- src/grammar.rt:192:9
 returns : tie.Need-returns
 unfolding Rattle.hint.specs.Hint.readPoint Rattle.hint.specs.Hint.bounded
-returns c = 
+returns c =
     let h = c .before .before .before .args .hint .now in
     let d : eqb (byteAt h 0) 100 ≡ false = ap (λ (b : ℕ). eqb b 100) (sym (c .before .byte-at .ensures)) ∙ ne-eqb _ _ (c .if1 .taken) in
     simp (d)
@@ -39,7 +39,7 @@ byte-at-requires-2 c κs = search needs
 -- src/grammar.rt:195:9
 returns-2 : tie.Need-returns-2
 unfolding Rattle.hint.specs.Hint.readPoint Rattle.hint.specs.Hint.bounded
-returns-2 c = 
+returns-2 c =
     let h = c .before .before .before .before .before .args .hint .now in
     let d : eqb (byteAt h 0) 100 ≡ true = ap (λ (b : ℕ). eqb b 100) (sym (c .before .before .before .byte-at .ensures)) ∙ eq-eqb _ _ (c .before .before .if1 .left) in
     let m : eqb (byteAt h 1) 45 ≡ false = ap (λ (b : ℕ). eqb b 45) (sym (c .before .byte-at2 .ensures)) ∙ ne-eqb _ _ (c .if2 .taken) in
@@ -60,41 +60,41 @@ is-allowed-requires c κs = search needs
 -- src/grammar.rt:200:9
 returns-3 : tie.Need-returns-3
 unfolding Rattle.hint.specs.Hint.readPoint Rattle.hint.specs.Hint.bounded
-returns-3 c = 
+returns-3 c =
     let h = c .before .before .before .before .before .before .before .before .before .args .hint .now in
     let d : eqb (byteAt h 0) 100 ≡ true = ap (λ (b : ℕ). eqb b 100) (sym (c .before .before .before .before .before .before .before .byte-at .ensures)) ∙ eq-eqb _ _ (c .before .before .before .before .before .before .if1 .left) in
     let m : eqb (byteAt h 1) 45 ≡ true = ap (λ (b : ℕ). eqb b 45) (sym (c .before .before .before .before .before .byte-at2 .ensures)) ∙ eq-eqb _ _ (c .before .before .before .before .if2 .left) in
     let number = c .before .before .before .number-at .ensures in
     let n : allowed (byteAt h 2) (numberAt h 2 .value) 10 ≡ false =
-        ap (λ (v : Number). allowed (byteAt h 2) (v .value) 10) (sym number) ∙ ap (λ (b : ℕ). allowed b (c .before .before .before .number-at .result .value) 10) (sym (c .before .before .byte-at3 .ensures))
-        ∙ sym (c .before .is-allowed .ensures) ∙ not-true _ (c .if3 .taken) in
+    ap (λ (v : Number). allowed (byteAt h 2) (v .value) 10) (sym number) ∙ ap (λ (b : ℕ). allowed b (c .before .before .before .number-at .result .value) 10) (sym (c .before .before .byte-at3 .ensures))
+    ∙ sym (c .before .is-allowed .ensures) ∙ not-true _ (c .if3 .taken) in
     simp (d, m, n)
 
 -- src/grammar.rt:203:9
 returns-4 : tie.Need-returns-4
 unfolding Rattle.hint.specs.Hint.readPoint Rattle.hint.specs.Hint.bounded
-returns-4 c = 
+returns-4 c =
     let h = c .before .before .before .before .before .before .before .before .before .before .before .args .hint .now in
     let d : eqb (byteAt h 0) 100 ≡ true = ap (λ (b : ℕ). eqb b 100) (sym (c .before .before .before .before .before .before .before .before .before .byte-at .ensures)) ∙ eq-eqb _ _ (c .before .before .before .before .before .before .before .before .if1 .left) in
     let m : eqb (byteAt h 1) 45 ≡ true = ap (λ (b : ℕ). eqb b 45) (sym (c .before .before .before .before .before .before .before .byte-at2 .ensures)) ∙ eq-eqb _ _ (c .before .before .before .before .before .before .if2 .left) in
     let number = c .before .before .before .before .before .number-at .ensures in
     let n : allowed (byteAt h 2) (numberAt h 2 .value) 10 ≡ true =
-        ap (λ (v : Number). allowed (byteAt h 2) (v .value) 10) (sym number) ∙ ap (λ (b : ℕ). allowed b (c .before .before .before .before .before .number-at .result .value) 10) (sym (c .before .before .before .before .byte-at3 .ensures))
-        ∙ sym (c .before .before .before .is-allowed .ensures) ∙ not-false _ (c .before .before .if3 .left) in
+    ap (λ (v : Number). allowed (byteAt h 2) (v .value) 10) (sym number) ∙ ap (λ (b : ℕ). allowed b (c .before .before .before .before .before .number-at .result .value) 10) (sym (c .before .before .before .before .byte-at3 .ensures))
+    ∙ sym (c .before .before .before .is-allowed .ensures) ∙ not-false _ (c .before .before .if3 .left) in
     let e : eqb (numberAt h 2 .next) (length h) ≡ false = ap (λ (v : Number). eqb (v .next) (length h)) (sym number) ∙ ne-eqb _ _ (c .if4 .taken) in
     simp (d, m, n, e)
 
 -- src/grammar.rt:188:1
 returns-5 : tie.Need-returns-5
 unfolding Rattle.hint.specs.Hint.readPoint Rattle.hint.specs.Hint.bounded
-returns-5 c = 
+returns-5 c =
     let h = c .before .before .before .before .before .before .before .before .before .before .before .args .hint .now in
     let d : eqb (byteAt h 0) 100 ≡ true = ap (λ (b : ℕ). eqb b 100) (sym (c .before .before .before .before .before .before .before .before .before .byte-at .ensures)) ∙ eq-eqb _ _ (c .before .before .before .before .before .before .before .before .if1 .left) in
     let m : eqb (byteAt h 1) 45 ≡ true = ap (λ (b : ℕ). eqb b 45) (sym (c .before .before .before .before .before .before .before .byte-at2 .ensures)) ∙ eq-eqb _ _ (c .before .before .before .before .before .before .if2 .left) in
     let number = c .before .before .before .before .before .number-at .ensures in
     let n : allowed (byteAt h 2) (numberAt h 2 .value) 10 ≡ true =
-        ap (λ (v : Number). allowed (byteAt h 2) (v .value) 10) (sym number) ∙ ap (λ (b : ℕ). allowed b (c .before .before .before .before .before .number-at .result .value) 10) (sym (c .before .before .before .before .byte-at3 .ensures))
-        ∙ sym (c .before .before .before .is-allowed .ensures) ∙ not-false _ (c .before .before .if3 .left) in
+    ap (λ (v : Number). allowed (byteAt h 2) (v .value) 10) (sym number) ∙ ap (λ (b : ℕ). allowed b (c .before .before .before .before .before .number-at .result .value) 10) (sym (c .before .before .before .before .byte-at3 .ensures))
+    ∙ sym (c .before .before .before .is-allowed .ensures) ∙ not-false _ (c .before .before .if3 .left) in
     let e : eqb (numberAt h 2 .next) (length h) ≡ true = ap (λ (v : Number). eqb (v .next) (length h)) (sym number) ∙ eq-eqb _ _ (c .if4 .left) in
     simp (d, m, n, e) (ap (λ (v : Number). Point (v .value)) number)
 

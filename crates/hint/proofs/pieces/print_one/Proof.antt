@@ -27,12 +27,12 @@ use-octets-requires c κs = search needs
 
 -- src/pieces.rt:93:11
 print-use-requires : tie.Need-print-use-requires
-print-use-requires c κs = 
+print-use-requires c κs =
     let a = c .before .before .before .before .args in
     let q = c .before .before .before .before .pre in
     let s : List ℕ = take (a .piece .size) (drop (a .at) (a .value .now)) in
     let long : length s ≡ min (a .piece .size) (length (a .value .now) - a .at) =
-        length-take (a .piece .size) (drop (a .at) (a .value .now)) ∙ ap (min (a .piece .size)) (length-drop (a .at) (a .value .now)) in
+    length-take (a .piece .size) (drop (a .at) (a .value .now)) ∙ ap (min (a .piece .size)) (length-drop (a .at) (a .value .now)) in
     let octets = c .before .use-octets .ensures in
     let same = ap length octets in
     ((omega (arith, q), omega (arith, q), omega (arith, q)), omega (arith, q))
@@ -43,7 +43,7 @@ enum-known-next c = search needs
 
 -- src/pieces.rt:95:59
 add-following-byte : tie.Need-add-following-byte
-add-following-byte c = 
+add-following-byte c =
     let a = c .before .before .before .before .before .before .before .before .before .before .args in
     omega (arith, c .before .before .before .before .before .before .before .before .before .before .pre, longest-small (a .piece .format))
 
@@ -53,18 +53,18 @@ following-byte-requires c κs = search needs
 
 -- src/pieces.rt:96:26
 put-optional-requires : tie.Need-put-optional-requires
-put-optional-requires c κs = 
+put-optional-requires c κs =
     let a = c .before .before .before .before .before .before .before .before .before .before .before .before .args in
     let q = c .before .before .before .before .before .before .before .before .before .before .before .before .pre in
     let s : List ℕ = take (a .piece .size) (drop (a .at) (a .value .now)) in
     let long : length s ≡ min (a .piece .size) (length (a .value .now) - a .at) =
-        length-take (a .piece .size) (drop (a .at) (a .value .now)) ∙ ap (min (a .piece .size)) (length-drop (a .at) (a .value .now)) in
+    length-take (a .piece .size) (drop (a .at) (a .value .now)) ∙ ap (min (a .piece .size)) (length-drop (a .at) (a .value .now)) in
     let octets = c .before .before .before .before .before .before .before .before .before .use-octets .ensures in
     let size = use-size (a .piece .format) (a .at) s (omega (arith, q)) (omega (arith, q))
-        (octets-take (a .piece .size) (drop (a .at) (a .value .now)) (octets-drop (a .at) (a .value .now) (λ (k : ℕ). omega (arith, c .before .before .before .before .before .before .before .before .before .before .before .shared-slice-known .given k)))) in
+    (octets-take (a .piece .size) (drop (a .at) (a .value .now)) (octets-drop (a .at) (a .value .now) (λ (k : ℕ). omega (arith, c .before .before .before .before .before .before .before .before .before .before .before .shared-slice-known .given k)))) in
     let done : Followed (useText (a .piece .format) (a .at) s) (a .pos) (To (c .before .before .before .next .given .0 .0)) (a .out .now) (c .before .before .before .before .before .before .before .print-use .last .1 .1 .1 .0) =
-        subst (λ (l : List ℕ). Followed (useText (a .piece .format) (a .at) l) (a .pos) (To (c .before .before .before .next .given .0 .0)) (a .out .now) (c .before .before .before .before .before .before .before .print-use .last .1 .1 .1 .0)) octets
-        (subst (λ (r : Progress). Followed (useText (a .piece .format) (a .at) (c .before .before .before .before .before .before .before .before .before .use-octets .result .now)) (a .pos) r (a .out .now) (c .before .before .before .before .before .before .before .print-use .last .1 .1 .1 .0)) (c .before .before .before .next .given .1) (c .before .before .before .before .before .before .before .print-use .ensures)) in
+    subst (λ (l : List ℕ). Followed (useText (a .piece .format) (a .at) l) (a .pos) (To (c .before .before .before .next .given .0 .0)) (a .out .now) (c .before .before .before .before .before .before .before .print-use .last .1 .1 .1 .0)) octets
+    (subst (λ (r : Progress). Followed (useText (a .piece .format) (a .at) (c .before .before .before .before .before .before .before .before .before .use-octets .result .now)) (a .pos) r (a .out .now) (c .before .before .before .before .before .before .before .print-use .last .1 .1 .1 .0)) (c .before .before .before .next .given .1) (c .before .before .before .before .before .before .before .print-use .ensures)) in
     let at = followed-next done in
     let kept = c .before .before .before .before .before .before .before .print-use .kept .1 .1 .1 .0 in
     omega (arith, q, size, optional-size (c .before .following-byte .result))
@@ -80,20 +80,20 @@ same-length c = search needs
 -- src/pieces.rt:85:1
 returns : tie.Need-returns
 unfolding Rattle.hint.specs.Print.oneUse
-returns c = 
+returns c =
     let a = c .before .before .before .before .before .before .before .before .before .before .before .before .before .before .before .args in
     let q = c .before .before .before .before .before .before .before .before .before .before .before .before .before .before .before .pre in
     let s : List ℕ = take (a .piece .size) (drop (a .at) (a .value .now)) in
     let long : length s ≡ min (a .piece .size) (length (a .value .now) - a .at) =
-        length-take (a .piece .size) (drop (a .at) (a .value .now)) ∙ ap (min (a .piece .size)) (length-drop (a .at) (a .value .now)) in
+    length-take (a .piece .size) (drop (a .at) (a .value .now)) ∙ ap (min (a .piece .size)) (length-drop (a .at) (a .value .now)) in
     let octets = c .before .before .before .before .before .before .before .before .before .before .before .before .use-octets .ensures in
     let size = use-size (a .piece .format) (a .at) s (omega (arith, q)) (omega (arith, q))
-        (octets-take (a .piece .size) (drop (a .at) (a .value .now)) (octets-drop (a .at) (a .value .now) (λ (k : ℕ). omega (arith, c .before .before .before .before .before .before .before .before .before .before .before .before .before .before .shared-slice-known .given k)))) in
+    (octets-take (a .piece .size) (drop (a .at) (a .value .now)) (octets-drop (a .at) (a .value .now) (λ (k : ℕ). omega (arith, c .before .before .before .before .before .before .before .before .before .before .before .before .before .before .shared-slice-known .given k)))) in
     let done : Followed (useText (a .piece .format) (a .at) s) (a .pos) (To (c .before .before .before .before .before .before .next .given .0 .0)) (a .out .now) (c .before .before .before .before .before .before .before .before .before .before .print-use .last .1 .1 .1 .0) =
-        subst (λ (l : List ℕ). Followed (useText (a .piece .format) (a .at) l) (a .pos) (To (c .before .before .before .before .before .before .next .given .0 .0)) (a .out .now) (c .before .before .before .before .before .before .before .before .before .before .print-use .last .1 .1 .1 .0)) octets
-        (subst (λ (r : Progress). Followed (useText (a .piece .format) (a .at) (c .before .before .before .before .before .before .before .before .before .before .before .before .use-octets .result .now)) (a .pos) r (a .out .now) (c .before .before .before .before .before .before .before .before .before .before .print-use .last .1 .1 .1 .0)) (c .before .before .before .before .before .before .next .given .1) (c .before .before .before .before .before .before .before .before .before .before .print-use .ensures)) in
+    subst (λ (l : List ℕ). Followed (useText (a .piece .format) (a .at) l) (a .pos) (To (c .before .before .before .before .before .before .next .given .0 .0)) (a .out .now) (c .before .before .before .before .before .before .before .before .before .before .print-use .last .1 .1 .1 .0)) octets
+    (subst (λ (r : Progress). Followed (useText (a .piece .format) (a .at) (c .before .before .before .before .before .before .before .before .before .before .before .before .use-octets .result .now)) (a .pos) r (a .out .now) (c .before .before .before .before .before .before .before .before .before .before .print-use .last .1 .1 .1 .0)) (c .before .before .before .before .before .before .next .given .1) (c .before .before .before .before .before .before .before .before .before .before .print-use .ensures)) in
     let after : Wrote (optional (following (a .piece) (a .left) (a .value .now) (a .at + a .piece .size))) (c .before .before .before .before .before .before .next .given .0 .0) (c .before .before .put-optional .result) (c .before .before .before .before .before .before .before .before .before .before .print-use .last .1 .1 .1 .0) (c .before .before .put-optional .last .0) =
-        subst (λ (b : ℕ). Wrote (optional b) (c .before .before .before .before .before .before .next .given .0 .0) (c .before .before .put-optional .result) (c .before .before .before .before .before .before .before .before .before .before .print-use .last .1 .1 .1 .0) (c .before .before .put-optional .last .0)) (c .before .before .before .before .following-byte .ensures) (c .before .before .put-optional .ensures) in
+    subst (λ (b : ℕ). Wrote (optional b) (c .before .before .before .before .before .before .next .given .0 .0) (c .before .before .put-optional .result) (c .before .before .before .before .before .before .before .before .before .before .print-use .last .1 .1 .1 .0) (c .before .before .put-optional .last .0)) (c .before .before .before .before .following-byte .ensures) (c .before .before .put-optional .ensures) in
     followed-joined (omega (arith, q, size)) done (wrote after)
 
 -- src/pieces.rt:85:1
@@ -103,18 +103,18 @@ same-length-2 c = search needs
 -- src/pieces.rt:85:1
 returns-2 : tie.Need-returns-2
 unfolding Rattle.hint.specs.Print.oneUse
-returns-2 c = 
+returns-2 c =
     let a = c .before .before .before .before .before .before .before .before .before .before .args in
     let q = c .before .before .before .before .before .before .before .before .before .before .pre in
     let s : List ℕ = take (a .piece .size) (drop (a .at) (a .value .now)) in
     let long : length s ≡ min (a .piece .size) (length (a .value .now) - a .at) =
-        length-take (a .piece .size) (drop (a .at) (a .value .now)) ∙ ap (min (a .piece .size)) (length-drop (a .at) (a .value .now)) in
+    length-take (a .piece .size) (drop (a .at) (a .value .now)) ∙ ap (min (a .piece .size)) (length-drop (a .at) (a .value .now)) in
     let octets = c .before .before .before .before .before .before .before .use-octets .ensures in
     let size = use-size (a .piece .format) (a .at) s (omega (arith, q)) (omega (arith, q))
-        (octets-take (a .piece .size) (drop (a .at) (a .value .now)) (octets-drop (a .at) (a .value .now) (λ (k : ℕ). omega (arith, c .before .before .before .before .before .before .before .before .before .shared-slice-known .given k)))) in
+    (octets-take (a .piece .size) (drop (a .at) (a .value .now)) (octets-drop (a .at) (a .value .now) (λ (k : ℕ). omega (arith, c .before .before .before .before .before .before .before .before .before .shared-slice-known .given k)))) in
     let done : Followed (useText (a .piece .format) (a .at) s) (a .pos) (Fault (c .before .place .given .0 .0)) (a .out .now) (c .before .before .before .before .before .print-use .last .1 .1 .1 .0) =
-        subst (λ (l : List ℕ). Followed (useText (a .piece .format) (a .at) l) (a .pos) (Fault (c .before .place .given .0 .0)) (a .out .now) (c .before .before .before .before .before .print-use .last .1 .1 .1 .0)) octets
-        (subst (λ (r : Progress). Followed (useText (a .piece .format) (a .at) (c .before .before .before .before .before .before .before .use-octets .result .now)) (a .pos) r (a .out .now) (c .before .before .before .before .before .print-use .last .1 .1 .1 .0)) (c .before .place .given .1) (c .before .before .before .before .before .print-use .ensures)) in
+    subst (λ (l : List ℕ). Followed (useText (a .piece .format) (a .at) l) (a .pos) (Fault (c .before .place .given .0 .0)) (a .out .now) (c .before .before .before .before .before .print-use .last .1 .1 .1 .0)) octets
+    (subst (λ (r : Progress). Followed (useText (a .piece .format) (a .at) (c .before .before .before .before .before .before .before .use-octets .result .now)) (a .pos) r (a .out .now) (c .before .before .before .before .before .print-use .last .1 .1 .1 .0)) (c .before .place .given .1) (c .before .before .before .before .before .print-use .ensures)) in
     followed-fault (printed (optional (following (a .piece) (a .left) (a .value .now) (a .at + a .piece .size)))) done
 
 pub print-one-spec : {M : Type 1} → statement M

@@ -29,9 +29,9 @@ use Rattle.hint.proofs.pieces.repeats_of.Reads as repeats-of-reads
 use Rattle.hint.proofs.pieces.uses_start.Reads as uses-start-reads
 
 abbrev Inv-loop : tie.InvT-loop
-Inv-loop hint value out₀ cursor₀ at₀ pos₀ out cursor at pos = 
+Inv-loop hint value out₀ cursor₀ at₀ pos₀ out cursor at pos =
     ((r : Progress) (after : List ℕ) → Followed (printFrom value (piecesFrom hint cursor) at) pos r out after
-      → Followed (printing (piecesIn (readHint hint)) value) 0 r out₀ after)
+    → Followed (printing (piecesIn (readHint hint)) value) 0 r out₀ after)
     × (pos + 4 * (length value - at) ≤ length out)
     × (length out ≡ length out₀)
     × (cursor < length hint)
@@ -60,15 +60,15 @@ again d next turned below whole =
     let small = uses-octets-small p v (here .at) (octets (here .at)) (omega (arith, allowed, longest-small (p .format))) in
     let near = uses-start-near p (here .at) in
     let end : d .before .before .before .before .before .before .before .before .before .uses-start .result + d .before .before .before .before .before .before .before .before .repeats-of .result * p .size ≡ usesEnd p v (here .at) =
-        ap (λ (k : ℕ). k + d .before .before .before .before .before .before .before .before .repeats-of .result * p .size) start ∙ ap (λ (k : ℕ). usesStart p (here .at) + k * p .size) count ∙ uses-end-is p v (here .at) in
+    ap (λ (k : ℕ). k + d .before .before .before .before .before .before .before .before .repeats-of .result * p .size) start ∙ ap (λ (k : ℕ). usesStart p (here .at) + k * p .size) count ∙ uses-end-is p v (here .at) in
     let P : Piece = pieceAt h (here .cursor) in
     let same : uses (d .before .before .before .before .before .before .before .before .repeats-of .result) p v (d .before .before .before .before .before .before .before .before .before .uses-start .result) ≡ uses (repeats P v (here .at)) P v (usesStart P (here .at)) =
-        ap (λ (k : ℕ). uses k p v (d .before .before .before .before .before .before .before .before .before .uses-start .result)) count ∙ ap (λ (k : ℕ). uses (repeats p v (here .at)) p v k) start
-        ∙ ap (λ (x : Piece). uses (repeats x v (here .at)) x v (usesStart x (here .at))) (is .1) in
+    ap (λ (k : ℕ). uses k p v (d .before .before .before .before .before .before .before .before .before .uses-start .result)) count ∙ ap (λ (k : ℕ). uses (repeats p v (here .at)) p v k) start
+    ∙ ap (λ (x : Piece). uses (repeats x v (here .at)) x v (usesStart x (here .at))) (is .1) in
     let last : List ℕ = d .before .before .before .before .before .before .print-uses .last .1 .1 .1 .1 .0 in
     let done : Followed (uses (repeats P v (here .at)) P v (usesStart P (here .at))) (here .pos) (To (d .before .before .n .given .0 .0)) (here .out) last =
-        subst (λ (o : Outcome). Followed o (here .pos) (To (d .before .before .n .given .0 .0)) (here .out) last) same
-        (subst (λ (r : Progress). Followed (uses (d .before .before .before .before .before .before .before .before .repeats-of .result) p v (d .before .before .before .before .before .before .before .before .before .uses-start .result)) (here .pos) r (here .out) last) (d .before .before .n .given .1) (d .before .before .before .before .before .before .print-uses .ensures)) in
+    subst (λ (o : Outcome). Followed o (here .pos) (To (d .before .before .n .given .0 .0)) (here .out) last) same
+    (subst (λ (r : Progress). Followed (uses (d .before .before .before .before .before .before .before .before .repeats-of .result) p v (d .before .before .before .before .before .before .before .before .before .uses-start .result)) (here .pos) r (here .out) last) (d .before .before .n .given .1) (d .before .before .before .before .before .before .print-uses .ensures)) in
     let inv = here .inv in
     let room : here .pos + 4 * (length v - here .at) ≤ length (here .out) = inv .1 in
     let allowed₁ : Allowed P = piece-allowed h (here .cursor) (is .0) in
@@ -78,29 +78,31 @@ again d next turned below whole =
     let end₁ : d .before .before .before .before .before .before .before .before .before .uses-start .result + d .before .before .before .before .before .before .before .before .repeats-of .result * p .size ≡ usesEnd P v (here .at) = end ∙ ap (λ (x : Piece). usesEnd x v (here .at)) (is .1) in
     let near₁ = uses-start-near P (here .at) in
     let last₁ = uses-end-is P v (here .at) in
-    let step = print-turn h v (here .cursor) (here .at) next (inv .3) (inv .4) (d .before .before .before .before .before .before .before .before .before .before .before .before .before .before .loop-test .taken) turned in
-    (λ (r : Progress) (after : List ℕ) f. inv .0 r after
-      (subst (λ (o : Outcome). Followed o (here .pos) r (here .out) after) (sym step)
-      (followed-joined (omega (arith, size)) done
-      (subst (λ (k : ℕ). Followed (printFrom v (piecesFrom h next) k) (d .before .before .n .given .0 .0) r last after) end₁ f))),
-    omega (arith, size),
-    kept ∙ inv .2,
-    below,
-    whole)
+    let step = print-turn h v (here .cursor) (here .at) next (inv .3) (inv .4) (d .before .before .before .before .before .before .before .before .before .before .before .before .before .before .loop-test .taken) turned in (
+      λ (r : Progress) (after : List ℕ) f. inv .0 r after
+          (subst (λ (o : Outcome). Followed o (here .pos) r (here .out) after) (sym step)
+          (followed-joined (omega (arith, size)) done
+          (subst (λ (k : ℕ). Followed (printFrom v (piecesFrom h next) k) (d .before .before .n .given .0 .0) r last after) end₁ f))),
+      omega (arith, size),
+      kept ∙ inv .2,
+      below,
+      whole,
+    )
 
 -- src/pieces.rt:160:5
 loop-holds : tie.Need-loop-holds Inv-loop μ-loop
-loop-holds c = 
+loop-holds c =
     let a = c .before .before .before .args in
     let q = c .before .before .before .pre in
-    let known = hint-pieces (a .hint .now) (q .0) in
-    (λ (r : Progress) (after : List ℕ) f.
-      subst (λ (o : Outcome). Followed o 0 r (a .out .now) after)
-      (print-start (a .value .now) (piecesFrom (a .hint .now) 0) ∙ sym (ap (λ (ps : List Piece). printing ps (a .value .now)) (known .0))) f,
-    omega (arith, q .1),
-    refl,
-    known .1,
-    known .2)
+    let known = hint-pieces (a .hint .now) (q .0) in (
+      λ (r : Progress) (after : List ℕ) f.
+          subst (λ (o : Outcome). Followed o 0 r (a .out .now) after)
+          (print-start (a .value .now) (piecesFrom (a .hint .now) 0) ∙ sym (ap (λ (ps : List Piece). printing ps (a .value .now)) (known .0))) f,
+      omega (arith, q .1),
+      refl,
+      known .1,
+      known .2,
+    )
 
 -- src/pieces.rt:161:41
 piece-at-requires : tie.Need-piece-at-requires Inv-loop μ-loop
@@ -120,7 +122,7 @@ same-length c = c .before .before .before .before .loop .inv .2
 
 -- src/pieces.rt:162:13
 returns : tie.Need-returns Inv-loop μ-loop
-returns c = 
+returns c =
     let h = c .before .before .before .before .before .before .before .before .args .hint .now in
     let here = c .before .before .before .before .loop in
     let no = found-nothing h (here .cursor) (sym (c .enum-told .given .1) ∙ c .before .before .piece-at .ensures) in
@@ -138,7 +140,7 @@ repeats-of-requires c κs = c .before .before .before .before .before .loop-test
 
 -- src/pieces.rt:166:15
 print-uses-requires : tie.Need-print-uses-requires Inv-loop μ-loop
-print-uses-requires c κs = 
+print-uses-requires c κs =
     let a = c .before .before .before .before .before .before .before .before .before .before .before .before .args in
     let q = c .before .before .before .before .before .before .before .before .before .before .before .before .pre in
     let here = c .before .before .before .before .before .before .before .before .loop in
@@ -166,7 +168,7 @@ same-length-2 c = c .before .before .before .before .before .print-uses .kept .1
 
 -- src/pieces.rt:171:17
 returns-2 : tie.Need-returns-2 Inv-loop μ-loop
-returns-2 c = 
+returns-2 c =
     let a = c .before .before .before .before .before .before .before .before .before .before .before .before .before .before .before .before .before .before .args in
     let q = c .before .before .before .before .before .before .before .before .before .before .before .before .before .before .before .before .before .before .pre in
     let here = c .before .before .before .before .before .before .before .before .before .before .before .before .before .before .loop in
@@ -181,15 +183,15 @@ returns-2 c =
     let small = uses-octets-small p v (here .at) (octets (here .at)) (omega (arith, allowed, longest-small (p .format))) in
     let near = uses-start-near p (here .at) in
     let end : c .before .before .before .before .before .before .before .before .uses-start .result + c .before .before .before .before .before .before .before .repeats-of .result * p .size ≡ usesEnd p v (here .at) =
-        ap (λ (k : ℕ). k + c .before .before .before .before .before .before .before .repeats-of .result * p .size) start ∙ ap (λ (k : ℕ). usesStart p (here .at) + k * p .size) count ∙ uses-end-is p v (here .at) in
+    ap (λ (k : ℕ). k + c .before .before .before .before .before .before .before .repeats-of .result * p .size) start ∙ ap (λ (k : ℕ). usesStart p (here .at) + k * p .size) count ∙ uses-end-is p v (here .at) in
     let P : Piece = pieceAt h (here .cursor) in
     let same : uses (c .before .before .before .before .before .before .before .repeats-of .result) p v (c .before .before .before .before .before .before .before .before .uses-start .result) ≡ uses (repeats P v (here .at)) P v (usesStart P (here .at)) =
-        ap (λ (k : ℕ). uses k p v (c .before .before .before .before .before .before .before .before .uses-start .result)) count ∙ ap (λ (k : ℕ). uses (repeats p v (here .at)) p v k) start
-        ∙ ap (λ (x : Piece). uses (repeats x v (here .at)) x v (usesStart x (here .at))) (is .1) in
+    ap (λ (k : ℕ). uses k p v (c .before .before .before .before .before .before .before .before .uses-start .result)) count ∙ ap (λ (k : ℕ). uses (repeats p v (here .at)) p v k) start
+    ∙ ap (λ (x : Piece). uses (repeats x v (here .at)) x v (usesStart x (here .at))) (is .1) in
     let last : List ℕ = c .before .before .before .before .before .print-uses .last .1 .1 .1 .1 .0 in
     let done : Followed (uses (repeats P v (here .at)) P v (usesStart P (here .at))) (here .pos) (Fault (c .before .place .given .0 .0)) (here .out) last =
-        subst (λ (o : Outcome). Followed o (here .pos) (Fault (c .before .place .given .0 .0)) (here .out) last) same
-        (subst (λ (r : Progress). Followed (uses (c .before .before .before .before .before .before .before .repeats-of .result) p v (c .before .before .before .before .before .before .before .before .uses-start .result)) (here .pos) r (here .out) last) (c .before .place .given .1) (c .before .before .before .before .before .print-uses .ensures)) in
+    subst (λ (o : Outcome). Followed o (here .pos) (Fault (c .before .place .given .0 .0)) (here .out) last) same
+    (subst (λ (r : Progress). Followed (uses (c .before .before .before .before .before .before .before .repeats-of .result) p v (c .before .before .before .before .before .before .before .before .uses-start .result)) (here .pos) r (here .out) last) (c .before .place .given .1) (c .before .before .before .before .before .print-uses .ensures)) in
     let inv = here .inv in
     let turned = turn-either h (here .cursor) (inv .3) (inv .4) in
     let step = print-turn h v (here .cursor) (here .at) (turned .0) (inv .3) (inv .4) (c .before .before .before .before .before .before .before .before .before .before .before .before .before .loop-test .taken) (turned .1) in
@@ -199,7 +201,7 @@ returns-2 c =
 
 -- src/pieces.rt:174:22
 mul-at : tie.Need-mul-at Inv-loop μ-loop
-mul-at c = 
+mul-at c =
     let a = c .before .before .before .before .before .before .before .before .before .before .before .before .before .before .before .before .before .before .before .args in
     let q = c .before .before .before .before .before .before .before .before .before .before .before .before .before .before .before .before .before .before .before .pre in
     let here = c .before .before .before .before .before .before .before .before .before .before .before .before .before .before .before .loop in
@@ -214,13 +216,13 @@ mul-at c =
     let small = uses-octets-small p v (here .at) (octets (here .at)) (omega (arith, allowed, longest-small (p .format))) in
     let near = uses-start-near p (here .at) in
     let end : c .before .before .before .before .before .before .before .before .before .uses-start .result + c .before .before .before .before .before .before .before .before .repeats-of .result * p .size ≡ usesEnd p v (here .at) =
-        ap (λ (k : ℕ). k + c .before .before .before .before .before .before .before .before .repeats-of .result * p .size) start ∙ ap (λ (k : ℕ). usesStart p (here .at) + k * p .size) count ∙ uses-end-is p v (here .at) in
+    ap (λ (k : ℕ). k + c .before .before .before .before .before .before .before .before .repeats-of .result * p .size) start ∙ ap (λ (k : ℕ). usesStart p (here .at) + k * p .size) count ∙ uses-end-is p v (here .at) in
     let same : c .before .before .before .before .before .before .before .before .repeats-of .result * p .size ≡ repeats p v (here .at) * p .size = ap (λ (k : ℕ). k * p .size) count in
     omega (arith, small)
 
 -- src/pieces.rt:174:14
 add-at : tie.Need-add-at Inv-loop μ-loop
-add-at c = 
+add-at c =
     let a = c .before .before .before .before .before .before .before .before .before .before .before .before .before .before .before .before .before .before .before .args in
     let q = c .before .before .before .before .before .before .before .before .before .before .before .before .before .before .before .before .before .before .before .pre in
     let here = c .before .before .before .before .before .before .before .before .before .before .before .before .before .before .before .loop in
@@ -235,13 +237,13 @@ add-at c =
     let small = uses-octets-small p v (here .at) (octets (here .at)) (omega (arith, allowed, longest-small (p .format))) in
     let near = uses-start-near p (here .at) in
     let end : c .before .before .before .before .before .before .before .before .before .uses-start .result + c .before .before .before .before .before .before .before .before .repeats-of .result * p .size ≡ usesEnd p v (here .at) =
-        ap (λ (k : ℕ). k + c .before .before .before .before .before .before .before .before .repeats-of .result * p .size) start ∙ ap (λ (k : ℕ). usesStart p (here .at) + k * p .size) count ∙ uses-end-is p v (here .at) in
+    ap (λ (k : ℕ). k + c .before .before .before .before .before .before .before .before .repeats-of .result * p .size) start ∙ ap (λ (k : ℕ). usesStart p (here .at) + k * p .size) count ∙ uses-end-is p v (here .at) in
     let same : c .before .before .before .before .before .before .before .before .repeats-of .result * p .size ≡ repeats p v (here .at) * p .size = ap (λ (k : ℕ). k * p .size) count in
     omega (arith, small, c .before .before .before .before .before .before .before .before .before .before .before .before .before .before .loop-test .taken, q .1)
 
 -- src/pieces.rt:160:5
 loop-less : tie.Need-loop-less Inv-loop μ-loop
-loop-less c = 
+loop-less c =
     let a = c .before .before .before .before .before .before .before .before .before .before .before .before .before .before .before .before .before .before .before .before .args in
     let q = c .before .before .before .before .before .before .before .before .before .before .before .before .before .before .before .before .before .before .before .before .pre in
     let here = c .before .before .before .before .before .before .before .before .before .before .before .before .before .before .before .before .loop in
@@ -256,12 +258,12 @@ loop-less c =
     let small = uses-octets-small p v (here .at) (octets (here .at)) (omega (arith, allowed, longest-small (p .format))) in
     let near = uses-start-near p (here .at) in
     let end : c .before .before .before .before .before .before .before .before .before .before .uses-start .result + c .before .before .before .before .before .before .before .before .before .repeats-of .result * p .size ≡ usesEnd p v (here .at) =
-        ap (λ (k : ℕ). k + c .before .before .before .before .before .before .before .before .before .repeats-of .result * p .size) start ∙ ap (λ (k : ℕ). usesStart p (here .at) + k * p .size) count ∙ uses-end-is p v (here .at) in
+    ap (λ (k : ℕ). k + c .before .before .before .before .before .before .before .before .before .repeats-of .result * p .size) start ∙ ap (λ (k : ℕ). usesStart p (here .at) + k * p .size) count ∙ uses-end-is p v (here .at) in
     omega (arith, uses-end-after p v (here .at) (allowed .0), c .before .before .before .before .before .before .before .before .before .before .before .before .before .before .before .loop-test .taken)
 
 -- src/pieces.rt:160:5
 loop-again : tie.Need-loop-again Inv-loop μ-loop
-loop-again c = 
+loop-again c =
     let a = c .before .before .before .before .before .before .before .before .before .before .before .before .before .before .before .before .before .before .before .before .args in
     let q = c .before .before .before .before .before .before .before .before .before .before .before .before .before .before .before .before .before .before .before .before .pre in
     let here = c .before .before .before .before .before .before .before .before .before .before .before .before .before .before .before .before .loop in
@@ -278,7 +280,7 @@ loop-again c =
 
 -- src/pieces.rt:160:5
 loop-less-2 : tie.Need-loop-less-2 Inv-loop μ-loop
-loop-less-2 c = 
+loop-less-2 c =
     let a = c .before .before .before .before .before .before .before .before .before .before .before .before .before .before .before .before .before .before .before .before .args in
     let q = c .before .before .before .before .before .before .before .before .before .before .before .before .before .before .before .before .before .before .before .before .pre in
     let here = c .before .before .before .before .before .before .before .before .before .before .before .before .before .before .before .before .loop in
@@ -293,12 +295,12 @@ loop-less-2 c =
     let small = uses-octets-small p v (here .at) (octets (here .at)) (omega (arith, allowed, longest-small (p .format))) in
     let near = uses-start-near p (here .at) in
     let end : c .before .before .before .before .before .before .before .before .before .before .uses-start .result + c .before .before .before .before .before .before .before .before .before .repeats-of .result * p .size ≡ usesEnd p v (here .at) =
-        ap (λ (k : ℕ). k + c .before .before .before .before .before .before .before .before .before .repeats-of .result * p .size) start ∙ ap (λ (k : ℕ). usesStart p (here .at) + k * p .size) count ∙ uses-end-is p v (here .at) in
+    ap (λ (k : ℕ). k + c .before .before .before .before .before .before .before .before .before .repeats-of .result * p .size) start ∙ ap (λ (k : ℕ). usesStart p (here .at) + k * p .size) count ∙ uses-end-is p v (here .at) in
     omega (arith, uses-end-after p v (here .at) (allowed .0), c .before .before .before .before .before .before .before .before .before .before .before .before .before .before .before .loop-test .taken)
 
 -- src/pieces.rt:160:5
 loop-again-2 : tie.Need-loop-again-2 Inv-loop μ-loop
-loop-again-2 c = 
+loop-again-2 c =
     let a = c .before .before .before .before .before .before .before .before .before .before .before .before .before .before .before .before .before .before .before .before .args in
     let q = c .before .before .before .before .before .before .before .before .before .before .before .before .before .before .before .before .before .before .before .before .pre in
     let here = c .before .before .before .before .before .before .before .before .before .before .before .before .before .before .before .before .loop in
@@ -317,7 +319,7 @@ same-length-3 c = c .before .loop .inv .2
 
 -- src/pieces.rt:152:1
 returns-3 : tie.Need-returns-3 Inv-loop μ-loop
-returns-3 c = 
+returns-3 c =
     let a = c .before .before .before .before .before .args in
     let here = c .before .loop in
     here .inv .0 (To (here .pos)) (here .out)

@@ -32,7 +32,7 @@ passes-on-requires c κs = search needs
 
 -- src/pieces.rt:35:13
 big-endian-requires : tie.Need-big-endian-requires
-big-endian-requires c κs = 
+big-endian-requires c κs =
     let a = c .before .before .before .before .args in
     let p = c .before .before .before .before .pre in
     let known = letters (a .format) (sym (c .before .passes-on .ensures) ∙ not-true _ (c .if1 .taken)) (omega (arith, p)) in
@@ -44,14 +44,14 @@ base-of-requires c κs = search needs
 
 -- src/pieces.rt:37:29
 print-digits-requires : tie.Need-print-digits-requires
-print-digits-requires c κs = 
+print-digits-requires c κs =
     let a = c .before .before .before .before .before .before .before .args in
     let p = c .before .before .before .before .before .before .before .pre in
     let known = letters (a .format) (sym (c .before .before .before .before .passes-on .ensures) ∙ not-true _ (c .before .before .before .if1 .taken)) (omega (arith, p)) in
     let base = c .before .base-of .ensures in
     let short = number-short (baseOf (a .format)) (a .s .now) (known .0) (p .0 .0) (λ (k : ℕ). omega (arith, c .before .before .before .before .before .before .shared-slice-known .given k)) in
     let same : digits (c .before .base-of .result) (c .before .before .big-endian .result) ≡ digits (baseOf (a .format)) (bigEndian 0 (a .s .now)) =
-        ap (digits (c .before .base-of .result)) (c .before .before .big-endian .ensures) ∙ ap (λ (b : ℕ). digits b (bigEndian 0 (a .s .now))) base in
+    ap (digits (c .before .base-of .result)) (c .before .before .big-endian .ensures) ∙ ap (λ (b : ℕ). digits b (bigEndian 0 (a .s .now))) base in
     let long = ap length same in
     (omega (arith, known), omega (arith, p))
 
@@ -62,10 +62,10 @@ same-length c = search needs
 -- src/pieces.rt:37:9
 returns : tie.Need-returns
 unfolding Rattle.hint.specs.Print.useText
-returns c = 
+returns c =
     let a = c .before .before .before .before .before .before .before .before .before .before .args in
     let same : digits (c .before .before .before .before .base-of .result) (c .before .before .before .before .before .big-endian .result) ≡ digits (baseOf (a .format)) (bigEndian 0 (a .s .now)) =
-        ap (digits (c .before .before .before .before .base-of .result)) (c .before .before .before .before .before .big-endian .ensures) ∙ ap (λ (b : ℕ). digits b (bigEndian 0 (a .s .now))) (c .before .before .before .before .base-of .ensures) in
+    ap (digits (c .before .before .before .before .base-of .result)) (c .before .before .before .before .before .big-endian .ensures) ∙ ap (λ (b : ℕ). digits b (bigEndian 0 (a .s .now))) (c .before .before .before .before .base-of .ensures) in
     simp (sym (c .before .before .before .before .before .before .before .passes-on .ensures) ∙ not-true _ (c .before .before .before .before .before .before .if1 .taken))
     (wrote (subst (λ (l : List ℕ). Wrote l (a .pos) (c .before .before .print-digits .result) (a .out .now) (c .before .before .print-digits .last .1 .1 .0)) same (c .before .before .print-digits .ensures)))
 
@@ -79,7 +79,7 @@ enum-known-i c = search needs
 
 -- src/pieces.rt:40:32
 add-t15 : tie.Need-add-t15
-add-t15 c = 
+add-t15 c =
     let a = c .before .before .before .before .before .before .before .before .args in
     let at = stuck-at (cut (characterSize (a .format) (a .s .now)) (length (a .s .now))) (c .before .i .given .0 .0) (sym (c .before .before .before .first-fault .ensures) ∙ c .before .i .given .1) in
     let below = stuck-below (characterSize (a .format) (a .s .now)) (length (a .s .now)) (c .before .i .given .0 .0) at in
@@ -88,7 +88,7 @@ add-t15 c =
 -- src/pieces.rt:40:9
 returns-2 : tie.Need-returns-2
 unfolding Rattle.hint.specs.Print.useText
-returns-2 c = 
+returns-2 c =
     let a = c .before .before .before .before .before .before .before .before .args in
     let i = c .before .i .given .0 .0 in
     let at = passed-stuck (a .at) (a .s .now) (cut (characterSize (a .format) (a .s .now)) (length (a .s .now))) i (sym (c .before .before .before .first-fault .ensures) ∙ c .before .i .given .1) in
@@ -108,7 +108,7 @@ same-length-2 c = search needs
 -- src/pieces.rt:29:1
 returns-3 : tie.Need-returns-3
 unfolding Rattle.hint.specs.Print.useText
-returns-3 c = 
+returns-3 c =
     let a = c .before .before .before .before .before .before .before .before .before .before .before .args in
     let at = passed-whole (a .at) (a .s .now) (cut (characterSize (a .format) (a .s .now)) (length (a .s .now))) (sym (c .before .before .before .before .before .before .first-fault .ensures) ∙ c .before .before .before .before .enum-told .given .1) in
     simp (sym (c .before .before .before .before .before .before .before .before .passes-on .ensures) ∙ not-false _ (c .before .before .before .before .before .before .before .if1 .left), at) (wrote (c .before .before .copy .ensures))

@@ -21,7 +21,7 @@ use Rattle.hint.proofs.pieces.print_uses.Lts as lts
 use Rattle.hint.proofs.pieces.print_one.Reads as print-one-reads
 
 abbrev Inv-loop : tie.InvT-loop
-Inv-loop value start piece count out₀ pos size left₀ at₀ next₀ out left at next = 
+Inv-loop value start piece count out₀ pos size left₀ at₀ next₀ out left at next =
     ((r : Progress) (after : List ℕ) → Followed (uses left piece value at) next r out after → Followed (uses count piece value start) pos r out₀ after)
     × (next + 4 * (length value - at) ≤ length out)
     × (length out ≡ length out₀)
@@ -40,7 +40,7 @@ same-length c = c .before .before .loop .inv .2
 
 -- src/pieces.rt:115:13
 returns : tie.Need-returns Inv-loop μ-loop
-returns c = 
+returns c =
     let a = c .before .before .before .before .before .args in
     let q = c .before .before .before .before .before .pre in
     let here = c .before .before .loop in
@@ -55,7 +55,7 @@ sub-left c = omega arith
 
 -- src/pieces.rt:118:15
 print-one-requires : tie.Need-print-one-requires Inv-loop μ-loop
-print-one-requires c κs = 
+print-one-requires c κs =
     let a = c .before .before .before .before .before .before .args in
     let q = c .before .before .before .before .before .before .pre in
     let here = c .before .before .before .loop in
@@ -76,13 +76,13 @@ same-length-2 c = c .before .before .before .before .before .print-one .kept .1 
 
 -- src/pieces.rt:123:17
 returns-2 : tie.Need-returns-2 Inv-loop μ-loop
-returns-2 c = 
+returns-2 c =
     let a = c .before .before .before .before .before .before .before .before .before .before .before .before .args in
     let q = c .before .before .before .before .before .before .before .before .before .before .before .before .pre in
     let here = c .before .before .before .before .before .before .before .before .before .loop in
     let inv = here .inv in
     let done : Followed (oneUse (a .piece) (here .left - 1) (a .value .now) (here .at)) (here .next) (Fault (c .before .place .given .0 .0)) (here .out) (c .before .before .before .before .before .print-one .last .1 .1 .1 .1 .0) =
-        subst (λ (r : Progress). Followed (oneUse (a .piece) (here .left - 1) (a .value .now) (here .at)) (here .next) r (here .out) (c .before .before .before .before .before .print-one .last .1 .1 .1 .1 .0)) (c .before .place .given .1) (c .before .before .before .before .before .print-one .ensures) in
+    subst (λ (r : Progress). Followed (oneUse (a .piece) (here .left - 1) (a .value .now) (here .at)) (here .next) r (here .out) (c .before .before .before .before .before .print-one .last .1 .1 .1 .1 .0)) (c .before .place .given .1) (c .before .before .before .before .before .print-one .ensures) in
     let step = uses-step (here .left) (a .piece) (a .value .now) (here .at) (c .before .before .before .before .before .before .before .before .loop-test .taken) (c .before .before .before .before .before .before .before .if1 .left) in
     inv .0 (Fault (c .before .place .given .0 .0)) (c .before .before .before .before .before .print-one .last .1 .1 .1 .1 .0)
     (subst (λ (o : Outcome). Followed o (here .next) (Fault (c .before .place .given .0 .0)) (here .out) (c .before .before .before .before .before .print-one .last .1 .1 .1 .1 .0)) (sym step)
@@ -90,7 +90,7 @@ returns-2 c =
 
 -- src/pieces.rt:126:9
 add-at : tie.Need-add-at Inv-loop μ-loop
-add-at c = 
+add-at c =
     let a = c .before .before .before .before .before .before .before .before .before .before .before .before .args in
     let q = c .before .before .before .before .before .before .before .before .before .before .before .before .pre in
     let here = c .before .before .before .before .before .before .before .before .before .loop in
@@ -103,23 +103,24 @@ loop-less c = omega (arith, c .before .before .before .before .before .before .b
 
 -- src/pieces.rt:113:5
 loop-again : tie.Need-loop-again Inv-loop μ-loop
-loop-again c = 
+loop-again c =
     let a = c .before .before .before .before .before .before .before .before .before .before .before .before .args in
     let q = c .before .before .before .before .before .before .before .before .before .before .before .before .pre in
     let here = c .before .before .before .before .before .before .before .before .before .loop in
     let inv = here .inv in
     let done : Followed (oneUse (a .piece) (here .left - 1) (a .value .now) (here .at)) (here .next) (To (c .before .n .given .0 .0)) (here .out) (c .before .before .before .before .before .print-one .last .1 .1 .1 .1 .0) =
-        subst (λ (r : Progress). Followed (oneUse (a .piece) (here .left - 1) (a .value .now) (here .at)) (here .next) r (here .out) (c .before .before .before .before .before .print-one .last .1 .1 .1 .1 .0)) (c .before .n .given .1) (c .before .before .before .before .before .print-one .ensures) in
+    subst (λ (r : Progress). Followed (oneUse (a .piece) (here .left - 1) (a .value .now) (here .at)) (here .next) r (here .out) (c .before .before .before .before .before .print-one .last .1 .1 .1 .1 .0)) (c .before .n .given .1) (c .before .before .before .before .before .print-one .ensures) in
     let step = uses-step (here .left) (a .piece) (a .value .now) (here .at) (c .before .before .before .before .before .before .before .before .loop-test .taken) (c .before .before .before .before .before .before .before .if1 .left) in
     let size = one-size (a .piece) (a .value .now) (q .1 .0 .0) (q .1 .0 .1) (λ (k : ℕ). omega (arith, c .before .before .before .before .before .before .before .before .before .before .before .shared-slice-known .given k)) (here .left - 1) (here .at) (c .before .before .before .before .before .before .before .if1 .left) in
     let place = followed-next done in
     let kept = c .before .before .before .before .before .print-one .kept .1 .1 .1 .1 .0 in
-    let room : here .next + 4 * (length (a .value .now) - here .at) ≤ length (here .out) = inv .1 in
-    (λ (r : Progress) (after : List ℕ) h. inv .0 r after
-      (subst (λ (o : Outcome). Followed o (here .next) r (here .out) after) (sym step) (followed-joined (omega (arith, size)) done h)),
-    omega (arith, size),
-    kept ∙ inv .2,
-    omega (arith, q, longest-small (a .piece .format), c .before .before .before .before .before .before .before .if1 .left))
+    let room : here .next + 4 * (length (a .value .now) - here .at) ≤ length (here .out) = inv .1 in (
+      λ (r : Progress) (after : List ℕ) h. inv .0 r after
+          (subst (λ (o : Outcome). Followed o (here .next) r (here .out) after) (sym step) (followed-joined (omega (arith, size)) done h)),
+      omega (arith, size),
+      kept ∙ inv .2,
+      omega (arith, q, longest-small (a .piece .format), c .before .before .before .before .before .before .before .if1 .left),
+    )
 
 -- src/pieces.rt:103:1
 same-length-3 : tie.Need-same-length-3 Inv-loop μ-loop
@@ -127,7 +128,7 @@ same-length-3 c = c .before .loop .inv .2
 
 -- src/pieces.rt:103:1
 returns-3 : tie.Need-returns-3 Inv-loop μ-loop
-returns-3 c = 
+returns-3 c =
     let a = c .before .before .before .before .args in
     let here = c .before .loop in
     here .inv .0 (To (here .next)) (here .out)

@@ -18,14 +18,14 @@ use Rattle.hint.proofs.buffer.put.Reads as put-reads
 
 -- src/pieces.rt:51:9
 returns : tie.Need-returns
-returns c = 
+returns c =
     let a = c .before .before .args in
     subst (λ (l : List ℕ). Wrote l (a .at) (a .at) (a .out .now) (a .out .now)) (sym (optional-none (a .b) (c .if1 .taken)))
     (record { next-is = sym (add-zero (a .at)); buffer-is = sym (written-none (a .out .now) (a .at)) })
 
 -- src/pieces.rt:53:5
 put-requires : tie.Need-put-requires
-put-requires c κs = 
+put-requires c κs =
     let a = c .before .before .before .args in
     omega (arith, ap length (optional-some (a .b) (c .before .if1 .left)), c .before .before .before .pre)
 
@@ -35,7 +35,7 @@ same-length c = search needs
 
 -- src/pieces.rt:46:1
 returns-2 : tie.Need-returns-2
-returns-2 c = 
+returns-2 c =
     let a = c .before .before .before .before .before .before .args in
     subst (λ (l : List ℕ). Wrote l (a .at) (c .before .before .put .result) (a .out .now) (c .before .before .put .last .0))
     (sym (optional-some (a .b) (c .before .before .before .before .if1 .left))) (c .before .before .put .ensures)

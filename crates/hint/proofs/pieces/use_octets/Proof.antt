@@ -48,14 +48,14 @@ part-result-end-2 c = search needs
 
 -- src/pieces.rt:73:1
 returns : tie.Need-returns
-returns c = 
+returns c =
     let a = c .before .before .args in
     let same : a .at + a .size - a .at ≡ a .size = omega arith in
     ap (λ (k : ℕ). take k (drop (a .at) (a .value .now))) same
 
 -- src/pieces.rt:73:1
 returns-2 : tie.Need-returns-2
-returns-2 c = 
+returns-2 c =
     let a = c .before .before .args in
     let rest = drop (a .at) (a .value .now) in
     let long = length-drop (a .at) (a .value .now) in

@@ -13,13 +13,13 @@ use Rattle.hint.proofs.signed.in_range.Lts as lts
 
 -- src/signed.rt:15:1
 returns : tie.Need-returns
-returns c = 
+returns c =
     let same = toZ-ofZ (c .before .fits .value) in
     ap (λ (z : ℤ). leZ z (pos 4294967295)) same ∙ range-high (c .before .args .value) (ap (λ (z : ℤ). leZ (negsuc 2147483647) z) (sym same) ∙ c .if1 .taken)
 
 -- src/signed.rt:15:1
 returns-2 : tie.Need-returns-2
-returns-2 c = 
+returns-2 c =
     let same = toZ-ofZ (c .before .fits .value) in
     ap (λ (z : ℤ). leZ (negsuc 2147483647) z) same ∙ range-low (c .before .args .value) (ap (λ (z : ℤ). leZ (negsuc 2147483647) z) (sym same) ∙ c .if1 .left)
 

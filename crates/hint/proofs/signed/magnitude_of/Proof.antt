@@ -19,7 +19,7 @@ use Rattle.hint.proofs.signed.magnitude_of.Lts as lts
 
 -- src/signed.rt:27:10
 sub-result : tie.Need-sub-result
-sub-result c = 
+sub-result c =
     let v = c .before .args .value in
     let same = toZ-ofZ (c .before .fits .value) in
     let is = ap (λ (z : ℤ). pos 0 -ℤ z) same ∙ negated v (ap (λ (z : ℤ). ltZ z (pos 0)) (sym same) ∙ c .if1 .taken) in
@@ -35,13 +35,13 @@ negative c =
 
 -- src/signed.rt:27:9
 cast-result : tie.Need-cast-result
-cast-result c = 
+cast-result c =
     let small = magnitude-small (c .before .args .value) (c .before .pre) in
     subst (λ (z : ℤ). T (nonNeg z) × Fits w64 (natAbs z)) (sym (negative c)) (tt, record { fits = omega arith })
 
 -- src/signed.rt:29:9
 cast-result-2 : tie.Need-cast-result-2
-cast-result-2 c = 
+cast-result-2 c =
     let v = c .before .args .value in
     let same = toZ-ofZ (c .before .fits .value) in
     let is = same ∙ not-negative v (ap (λ (z : ℤ). ltZ z (pos 0)) (sym same) ∙ c .if1 .left) in

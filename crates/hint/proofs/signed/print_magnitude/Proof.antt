@@ -25,7 +25,7 @@ enum-known-form c = search needs
 -- src/signed.rt:40:29
 print-digits-requires : tie.Need-print-digits-requires
 unfolding Rattle.hint.specs.Answer.magnitude
-print-digits-requires c κs = 
+print-digits-requires c κs =
     let a = c .before .before .before .before .before .args in
     let is = c .before .before .form .given .1 in
     let same = ap (λ (f : Form). magnitude f (a .n)) is in
@@ -39,7 +39,7 @@ enum-known-form-2 c = search needs
 -- src/signed.rt:41:32
 print-pointed-requires : tie.Need-print-pointed-requires
 unfolding Rattle.hint.specs.Answer.magnitude
-print-pointed-requires c κs = 
+print-pointed-requires c κs =
     let a = c .before .before .before .before .before .args in
     let is = c .before .before .form2 .given .1 in
     let same = ap (λ (f : Form). magnitude f (a .n)) is in
@@ -57,7 +57,7 @@ same-length c = search needs
 -- src/signed.rt:34:1
 returns : tie.Need-returns
 unfolding Rattle.hint.specs.Answer.magnitude
-returns c = 
+returns c =
     let a = c .before .before .before .before .before .before .before .before .args in
     let is = c .before .before .before .before .before .form .given .1 in
     let same = ap (λ (f : Form). magnitude f (a .n)) is in
@@ -70,7 +70,7 @@ same-length-2 c = search needs
 -- src/signed.rt:34:1
 returns-2 : tie.Need-returns-2
 unfolding Rattle.hint.specs.Answer.magnitude
-returns-2 c = 
+returns-2 c =
     let a = c .before .before .before .before .before .before .before .before .args in
     let is = c .before .before .before .before .before .form2 .given .1 in
     let same = ap (λ (f : Form). magnitude f (a .n)) is in
@@ -79,7 +79,7 @@ returns-2 c =
 -- src/signed.rt:34:1
 returns-3 : tie.Need-returns-3
 unfolding Rattle.hint.specs.Answer.magnitude
-returns-3 c = 
+returns-3 c =
     let a = c .before .before .before .args in
     let same = ap (λ (f : Form). magnitude f (a .n)) (c .enum-told .given .1) in
     subst (λ (l : List ℕ). Wrote l (a .at) (a .at) (a .out .now) (a .out .now)) (sym same)

@@ -31,7 +31,7 @@ put-requires c κs = search needs
 
 -- src/signed.rt:55:9
 print-magnitude-requires : tie.Need-print-magnitude-requires
-print-magnitude-requires c κs = 
+print-magnitude-requires c κs =
     let a = c .before .before .before .before .before .before .before .before .args in
     let q = c .before .before .before .before .before .before .before .before .pre in
     let same = toZ-ofZ (c .before .before .before .before .before .before .before .before .fits .value) in
@@ -47,7 +47,7 @@ same-length c = search needs
 
 -- src/signed.rt:55:9
 returns : tie.Need-returns
-returns c = 
+returns c =
     let a = c .before .before .before .before .before .before .before .before .before .before .before .args in
     let q = c .before .before .before .before .before .before .before .before .before .before .before .pre in
     let same = toZ-ofZ (c .before .before .before .before .before .before .before .before .before .before .before .fits .value) in
@@ -57,13 +57,13 @@ returns c =
     let long = ap length digits in
     let below = ap (λ (z : ℤ). ltZ z (pos 0)) (sym same) ∙ c .before .before .before .before .before .before .before .before .if1 .taken in
     let all : (45 ∷ []) ++ magnitude (a .form) (c .before .before .before .before .before .before .before .before .before .magnitude-of .result) ≡ signed (a .form) (a .value) =
-        ap (λ (l : List ℕ). 45 ∷ l) digits ∙ sym (signed-negative (a .form) (a .value) below) in
+    ap (λ (l : List ℕ). 45 ∷ l) digits ∙ sym (signed-negative (a .form) (a .value) below) in
     subst (λ (l : List ℕ). Wrote l 0 (c .before .before .print-magnitude .result) (a .out .now) (c .before .before .print-magnitude .last .1 .1 .0)) all
     (wrote-more (omega (arith, q .1)) (c .before .before .before .before .before .before .put .ensures) (c .before .before .print-magnitude .ensures))
 
 -- src/signed.rt:57:5
 print-magnitude-requires-2 : tie.Need-print-magnitude-requires-2
-print-magnitude-requires-2 c κs = 
+print-magnitude-requires-2 c κs =
     let a = c .before .before .before .before .args in
     let q = c .before .before .before .before .pre in
     let same = toZ-ofZ (c .before .before .before .before .fits .value) in
@@ -79,7 +79,7 @@ same-length-2 c = search needs
 
 -- src/signed.rt:47:1
 returns-2 : tie.Need-returns-2
-returns-2 c = 
+returns-2 c =
     let a = c .before .before .before .before .before .before .before .args in
     let q = c .before .before .before .before .before .before .before .pre in
     let same = toZ-ofZ (c .before .before .before .before .before .before .before .fits .value) in
