@@ -8,7 +8,7 @@ use mathlib.Core.Bool.{Bool, true, false}
 use mathlib.Core.List.{List, [], _∷_, _++_, append-assoc}
 use lib.Dec.{eqb, ltb}
 use lib.IntN.{ℤ}
-use lib.ListN.{length, take, drop, replicate, length-replicate}
+use lib.ListN.{length, take, drop, replicate, length-replicate, length-append}
 use lib.Seq.{take-at, drop-at}
 use borrow.Author.Tests.{lt-ltb, le-ltb}
 use Rattle.hint.specs.Buffer.{written}
@@ -24,7 +24,7 @@ use Rattle.hint.specs.declared.Progress.the-variants.{To, Fault}
 
 -- a short buffer stays as it was
 pub answered-short : (part : ℕ) (v : Verdict) (o : List ℕ) → v ≡ refusal 30 0 → Answered part v ShortBuffer o o
-unfolding number place size buffer numberOf placeOf lengthOf
+unfolding number place size buffer
 answered-short part v o e = rw e (record { number-is = refl; place-is = refl; length-is = refl; buffer-is = refl })
 
 -- any other refusal leaves a part of zeros
@@ -50,7 +50,7 @@ module _ (part : ℕ) (o cleared : List ℕ) (zeros : cleared ≡ replicate part
 
   -- a text that was written to the part of a cleared buffer
   pub answered-text : {t w : List ℕ} {n : ℕ} → Wrote t 0 n (take part cleared) w → Answered part (text t) (Printed n) o (w ++ drop part cleared)
-  unfolding number place size buffer numberOf placeOf lengthOf written
+  unfolding number place size buffer written
   answered-text {t} {w} {n} done =
       record {
         number-is = refl;
@@ -134,3 +134,10 @@ module _ (room : ℕ) (hint : List ℕ) (value : ℤ) where
       go (Base base) e = simp r
       go (Point places) e = simp r
       go Bad e = let z : _≡_ {A = ℕ} 0 1 = cc in absurd (omega arith)
+
+-- the text of an answer lies in the buffer
+pub length-fits : (part : ℕ) (v : Verdict) (answer : Answer) (o after : List ℕ) → Answered part v answer o after → lengthOf answer ≤ length after
+unfolding size buffer
+length-fits part (text t) answer o after a =
+    omega (arith, a .length-is, ap length (a .buffer-is) ∙ length-append t (replicate (part - length t) 0 ++ drop part o))
+length-fits part (refusal n at) answer o after a = omega (arith, a .length-is)

@@ -88,7 +88,7 @@ buffer part (text t) before = t ++ (replicate (part - length t) 0 ++ drop part b
 buffer part (refusal n at) before = cond (eqb n 30) before (replicate part 0 ++ drop part before)
 
 -- this paper's number, place and length for each case of the answer
-unfoldable pub numberOf : Answer → ℕ
+abbrev pub numberOf : Answer → ℕ
 numberOf (Printed n) = 0
 numberOf ShortBuffer = 30
 numberOf LongValue = 31
@@ -96,7 +96,7 @@ numberOf BadHint = 32
 numberOf (BadOctet at) = 33
 numberOf OutOfRange = 34
 
-unfoldable pub placeOf : Answer → ℕ
+abbrev pub placeOf : Answer → ℕ
 placeOf (Printed n) = 0
 placeOf ShortBuffer = 0
 placeOf LongValue = 0
@@ -104,7 +104,7 @@ placeOf BadHint = 0
 placeOf (BadOctet at) = at
 placeOf OutOfRange = 0
 
-unfoldable pub lengthOf : Answer → ℕ
+abbrev pub lengthOf : Answer → ℕ
 lengthOf (Printed n) = n
 lengthOf ShortBuffer = 0
 lengthOf LongValue = 0

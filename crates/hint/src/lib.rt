@@ -7,6 +7,8 @@ mod grammar;
 mod pieces;
 mod signed;
 
+ghost use mathlib.Core.Path.{_≡_};
+ghost use Rattle.hint.specs.Answer.{numberOf, placeOf, lengthOf};
 ghost use Rattle.hint.specs.Answer.{Answered, octetsVerdict, integerVerdict, octetsPart, integerPart};
 ghost use lib.ListN.{length};
 use buffer::clear;
@@ -29,6 +31,50 @@ pub enum Answer {
     // The first octet that isn't of its format, or its character's start.
     BadOctet(usize),
     OutOfRange,
+}
+
+impl Answer {
+    // The paper's number: 0 for a text, 30 to 34 for a refusal.
+    pub fn number(self) -> u64
+        ensures { λ r. ⌜ r ≡ numberOf self ⌝ }
+    {
+        match self {
+            Answer::Printed(_) => 0,
+            Answer::ShortBuffer => 30,
+            Answer::LongValue => 31,
+            Answer::BadHint => 32,
+            Answer::BadOctet(_) => 33,
+            Answer::OutOfRange => 34,
+        }
+    }
+
+    // The place of refusal 33, and 0 for any other answer.
+    pub fn place(self) -> usize
+        ensures { λ r. ⌜ r ≡ placeOf self ⌝ }
+    {
+        match self {
+            Answer::Printed(_) => 0,
+            Answer::ShortBuffer => 0,
+            Answer::LongValue => 0,
+            Answer::BadHint => 0,
+            Answer::BadOctet(place) => place,
+            Answer::OutOfRange => 0,
+        }
+    }
+
+    // The text's length, and 0 for a refusal.
+    pub fn length(self) -> usize
+        ensures { λ r. ⌜ r ≡ lengthOf self ⌝ }
+    {
+        match self {
+            Answer::Printed(n) => n,
+            Answer::ShortBuffer => 0,
+            Answer::LongValue => 0,
+            Answer::BadHint => 0,
+            Answer::BadOctet(_) => 0,
+            Answer::OutOfRange => 0,
+        }
+    }
 }
 
 // One octet-format specification. A separator or terminator of 0 is none.

@@ -55,7 +55,6 @@ same-length c = search needs
 
 -- src/lib.rt:108:9
 returns-2 : tie.Need-returns-2
-unfolding Rattle.hint.specs.Answer.numberOf Rattle.hint.specs.Answer.placeOf Rattle.hint.specs.Answer.lengthOf
 returns-2 c =
     let a = c .before .before .before .before .before .before .before .before .before .before .args in
     let h = a .hint .now in
@@ -76,7 +75,6 @@ same-length-2 c = search needs
 
 -- src/lib.rt:111:9
 returns-3 : tie.Need-returns-3
-unfolding Rattle.hint.specs.Answer.numberOf Rattle.hint.specs.Answer.placeOf Rattle.hint.specs.Answer.lengthOf
 returns-3 c =
     let a = c .before .before .before .before .before .before .before .before .before .before .before .before .args in
     let h = a .hint .now in

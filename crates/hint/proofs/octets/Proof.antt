@@ -43,7 +43,6 @@ same-length c = search needs
 
 -- src/lib.rt:83:9
 returns-2 : tie.Need-returns-2
-unfolding Rattle.hint.specs.Answer.numberOf Rattle.hint.specs.Answer.placeOf Rattle.hint.specs.Answer.lengthOf
 returns-2 c =
     let a = c .before .before .before .before .before .before .before .before .before .args in
     let h = a .hint .now in
@@ -61,7 +60,6 @@ same-length-2 c = search needs
 
 -- src/lib.rt:86:9
 returns-3 : tie.Need-returns-3
-unfolding Rattle.hint.specs.Answer.numberOf Rattle.hint.specs.Answer.placeOf Rattle.hint.specs.Answer.lengthOf
 returns-3 c =
     let a = c .before .before .before .before .before .before .before .before .before .before .before .args in
     let h = a .hint .now in
@@ -122,7 +120,6 @@ same-length-4 c = search needs
 
 -- src/lib.rt:75:1
 returns-5 : tie.Need-returns-5
-unfolding Rattle.hint.specs.Answer.numberOf Rattle.hint.specs.Answer.placeOf Rattle.hint.specs.Answer.lengthOf
 returns-5 c =
     let a = c .before .before .before .before .before .before .before .before .before .before .before .before .before .before .before .before .before .before .before .before .before .before .args in
     let h = a .hint .now in

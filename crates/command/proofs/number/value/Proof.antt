@@ -1,0 +1,58 @@
+-- `command::number::value` meets its contract: the value so far and the digits left make the whole value, up to the limit. Assumes nothing.
+use Rattle.command.specs.Decimal.{allDigits, decimalAfter, limit}
+use mathlib.Core.Bool.{true}
+use native.Mathlib.Omega.{arith}
+use mathlib.Core.Path.{_≡_, sym, _∙_}
+use Prim.Native.Nat.{_≤_, _-_, min}
+use lib.ListN.{length, drop}
+use Rattle.command.proofs.Digits.{first-digit, rest-digits, one-more, value-ended}
+use borrow.Author.Needs.{needs}
+use Rattle.command.proofs.number.value.Statement.{statement}
+use Rattle.command.proofs.number.value.Tie as tie
+
+abbrev Inv-loop : tie.InvT-loop
+Inv-loop word from n₀ i₀ n i = (n ≤ limit) × (i ≤ length word) × (allDigits (drop i word) ≡ true) × (min (decimalAfter n (drop i word)) limit ≡ min (decimalAfter 0 (drop from word)) limit)
+
+abbrev μ-loop : tie.MeasureT-loop
+μ-loop word from n₀ i₀ n i = length word - i
+
+loop-holds : tie.Need-loop-holds Inv-loop μ-loop
+loop-holds c = search needs
+
+shared-slice-read-more : tie.Need-shared-slice-read-more Inv-loop μ-loop
+shared-slice-read-more c = search needs
+
+more-requires : tie.Need-more-requires Inv-loop μ-loop
+more-requires c κs = (omega arith, first-digit (c .before .before .before .before .args .word .now) (c .before .before .loop .i) (omega arith) (c .before .before .loop .inv .2))
+
+add-i : tie.Need-add-i Inv-loop μ-loop
+add-i c = search needs
+
+loop-less : tie.Need-loop-less Inv-loop μ-loop
+loop-less c = search needs
+
+loop-again : tie.Need-loop-again Inv-loop μ-loop
+loop-again c = (
+  omega (arith, c .more .ensures),
+  omega arith,
+  rest-digits (c .before .before .before .before .before .args .word .now) (c .before .before .before .loop .i) (omega arith) (c .before .before .before .loop .inv .2),
+  rw (c .more .ensures) (one-more (c .before .before .before .loop .n) (c .before .before .before .before .before .args .word .now) (c .before .before .before .loop .i) (omega arith) ∙ c .before .before .before .loop .inv .3),
+)
+
+returns : tie.Need-returns Inv-loop μ-loop
+returns c =
+    omega (arith, c .before .loop .inv .3, value-ended (c .before .loop .n) (c .before .before .before .args .word .now) (c .before .loop .i) (omega arith) (omega arith))
+
+pub value-spec : {M : Type 1} → statement M
+value-spec =
+    tie.close
+    (tie.spec
+    Inv-loop
+    μ-loop
+    loop-holds
+    shared-slice-read-more
+    more-requires
+    add-i
+    loop-less
+    loop-again
+    returns)

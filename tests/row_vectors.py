@@ -1,0 +1,92 @@
+#!/usr/bin/env python3
+"""The RowStatus cases of crates/row, from a table that was filled in by hand beside document 01, "RowStatus".
+
+row_vectors.py          writes crates/row/stdin and crates/row/stdout
+row_vectors.py --check  says whether the two files are those of the table, and exits 1 where they are not
+
+A cell is what the set value does to a row in that state: a number 0 to 3 is the next state, answered 0; 'wrong' is 10
+and 'inconsistent' is 12, both with the state unchanged. 'complete ? a : b' and 'willing ? a : b' go by the flag.
+"""
+import os
+import sys
+
+NAMES = {1: "active", 2: "notInService", 3: "notReady", 4: "createAndGo", 5: "createAndWait", 6: "destroy"}
+
+#        1 active                       2 notInService                 3        4 createAndGo                  5 createAndWait                               6
+TABLE = {
+    0: ["inconsistent",                "inconsistent",                "wrong", "complete ? 1 : inconsistent", "willing ? complete ? 2 : 3 : wrong",        "0"],
+    1: ["1",                           "willing ? 2 : wrong",         "wrong", "inconsistent",                "inconsistent",                              "0"],
+    2: ["1",                           "2",                           "wrong", "inconsistent",                "inconsistent",                              "0"],
+    3: ["complete ? 1 : inconsistent", "complete ? 2 : inconsistent", "wrong", "inconsistent",                "inconsistent",                              "0"],
+}
+
+# one value each: a value without a name, a value below zero, a state over 3 with each kind of value, large numbers
+SINGLE = [
+    ("1", "yes", "yes", "7", "-", 10, 1),
+    ("1", "yes", "yes", "0", "-", 10, 1),
+    ("0", "no", "yes", "-1", "-", 10, 0),
+    ("3", "no", "yes", "5", "createAndWait", 12, 3),
+    ("3", "yes", "no", "2", "notInService", 0, 2),
+    ("1", "no", "no", "2", "notInService", 10, 1),
+    ("0", "no", "no", "4", "createAndGo", 12, 0),
+    ("2", "no", "no", "6", "destroy", 0, 0),
+    ("4", "yes", "yes", "6", "destroy", 40, 4),
+    ("4", "yes", "yes", "9", "-", 40, 4),
+    ("999999999999999999", "no", "no", "-999999999999999999", "-", 40, 999999999999999999),
+]
+
+# words that do not fit: nothing on standard output, and the list goes on
+BAD = ["x\tyes\tyes", "-1\tyes\tyes", "1\tYes\tyes", "1\tyes\t", "1\tyes\tyes\tactive", "1\tyes", "1\tyes\tyes\t1\t1", "", "1 yes yes",
+       "1000000000000000000\tyes\tyes"]
+
+
+def cell(state, value, complete, willing):
+    rest = TABLE[state][value - 1]
+    while "?" in rest:
+        flag, rest = [part.strip() for part in rest.split("?", 1)]
+        holds = {"complete": complete, "willing": willing}[flag]
+        first, second = [part.strip() for part in rest.rsplit(":", 1)]
+        rest = first if holds else second
+    if rest == "wrong":
+        return 10, state
+    if rest == "inconsistent":
+        return 12, state
+    return 0, int(rest)
+
+
+def vectors():
+    cases, lines = [], []
+    for state in range(5):
+        for complete in ("yes", "no"):
+            for willing in ("yes", "no"):
+                cases.append(f"{state}\t{complete}\t{willing}")
+                for value in range(1, 7):
+                    number, following = (40, state) if state > 3 else cell(state, value, complete == "yes", willing == "yes")
+                    lines.append(f"{value}\t{NAMES[value]}\t{number}\t{following}")
+    for state, complete, willing, value, name, number, following in SINGLE:
+        cases.append(f"{state}\t{complete}\t{willing}\t{value}")
+        lines.append(f"{value}\t{name}\t{number}\t{following}")
+    cases[3:3] = BAD[:5]
+    cases += BAD[5:]
+    cases.append("0\tyes\tyes\t4")   # a last line, with no line end
+    lines.append("4\tcreateAndGo\t0\t1")
+    return "\n".join(cases), "".join(line + "\n" for line in lines)
+
+
+def main():
+    folder = os.path.join(os.path.dirname(os.path.abspath(__file__)), "..", "crates", "row")
+    same = True
+    for name, text in zip(("stdin", "stdout"), vectors()):
+        path = os.path.join(folder, name)
+        if "--check" not in sys.argv:
+            with open(path, "w", encoding="ascii") as file:
+                file.write(text)
+            continue
+        with open(path, encoding="ascii") as file:
+            if file.read() != text:
+                print(f"row_vectors: crates/row/{name} is not what the table gives; run tests/row_vectors.py", file=sys.stderr)
+                same = False
+    sys.exit(0 if same else 1)
+
+
+main()
