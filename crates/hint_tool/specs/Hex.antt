@@ -13,11 +13,13 @@ unfoldable pub hexDigit : ℕ → ℕ
 hexDigit b =
     cond (leb 48 b && leb b 57) (b - 48) (cond (leb 65 b && leb b 70) (b - 55) (cond (leb 97 b && leb b 102) (b - 87) 16))
 
--- where a word was read as octets, each of them is the number that its two digits write
-abbrev pub Read : List ℕ → Octets → List ℕ → Type 0
-Read word (Are n) out =
-    (length word ≡ 2 * n) × (n ≤ length out)
-    × ((i : ℕ) → i < n
-      → (hexDigit (getD word (2 * i) 0) < 16) × (hexDigit (getD word (2 * i + 1) 0) < 16)
-      × (getD out i 0 ≡ hexDigit (getD word (2 * i) 0) * 16 + hexDigit (getD word (2 * i + 1) 0)))
-Read word AreNot out = Unit {0}
+-- the octet at an index is the number that its two digits write
+pub record Pair (word out : List ℕ) (i : ℕ) : Type 0 where
+  pub high : hexDigit (getD word (2 * i) 0) < 16
+  pub low : hexDigit (getD word (2 * i + 1) 0) < 16
+  pub octet : getD out i 0 ≡ hexDigit (getD word (2 * i) 0) * 16 + hexDigit (getD word (2 * i + 1) 0)
+
+-- what was read of a word: octets, two digits for each; or it was no such word
+pub data Read : List ℕ → Octets → List ℕ → Type 0 where
+  octets : {word out : List ℕ} {n : ℕ} → length word ≡ 2 * n → n ≤ length out → ((i : ℕ) → i < n → Pair word out i) → Read word (Are n) out
+  nothing : {word out : List ℕ} → Read word AreNot out
