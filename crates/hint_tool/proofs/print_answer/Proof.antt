@@ -32,7 +32,7 @@ write-all-requires c κs = search needs
 
 -- src/main.rt:125:38
 slice-aggregate-write-all-2 : tie.Need-slice-aggregate-write-all-2
-slice-aggregate-write-all-2 c = 
+slice-aggregate-write-all-2 c =
     let n = c .before .before .before .before .before .length in
     let out = c .before .before .before .before .before .before .before .args .out .now in
     sym (length-take-le (n .result) out (omega (arith, n .ensures, c .before .before .before .before .before .before .before .pre)))

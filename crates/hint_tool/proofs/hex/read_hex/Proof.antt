@@ -100,7 +100,7 @@ loop-less c = omega arith
 
 -- src/hex.rt:37:5
 loop-again : tie.Need-loop-again Inv-loop μ-loop
-loop-again c = 
+loop-again c =
     let word = c .before .before .before .before .before .before .before .before .before .before .before .before .args .word .now in
     let here = c .before .before .before .before .before .before .before .loop in
     let inv = here .inv in
@@ -111,15 +111,15 @@ loop-again c =
     let new : Pair word (set (here .out) (here .i) octet) (here .i) = record {
       high = omega (arith, c .before .if3 .left);
       low = omega (arith, c .if4 .left);
-      octet = getD-set-same (here .out) (here .i) octet 0 below ∙ ap (λ (k : ℕ). k * 16 + c .before .before .hex-digit2 .result) e₁ ∙ ap (λ (k : ℕ). hexDigit (getD word (2 * here .i) 0) * 16 + k) e₂
+      octet = getD-set-same (here .out) (here .i) octet 0 below ∙ ap (λ (k : ℕ). k * 16 + c .before .before .hex-digit2 .result) e₁ ∙ ap (λ (k : ℕ). hexDigit (getD word (2 * here .i) 0) * 16 + k) e₂;
     } in
     let old : (k : ℕ) → k < here .i → Pair word (set (here .out) (here .i) octet) k = λ (k : ℕ) h.
-      let p = inv .2 k h in
-      record {
-        high = p .high;
-        low = p .low;
-        octet = getD-set-other (here .out) (here .i) k octet 0 (λ e. omega arith) ∙ p .octet
-      } in
+    let p = inv .2 k h in
+    record {
+      high = p .high;
+      low = p .low;
+      octet = getD-set-other (here .out) (here .i) k octet 0 (λ e. omega arith) ∙ p .octet;
+    } in
     (simp length-set (inv .0), omega arith, below-more _ (here .i) old new)
 
 -- src/hex.rt:26:1
@@ -128,7 +128,7 @@ same-length-3 c = c .before .loop .inv .0
 
 -- src/hex.rt:26:1
 returns-5 : tie.Need-returns-5 Inv-loop μ-loop
-returns-5 c = 
+returns-5 c =
     let end : c .before .loop .i ≡ length (c .before .before .before .before .before .before .args .word .now) / 2 = omega arith in
     octets {word = c .before .before .before .before .before .before .args .word .now} {out = c .before .loop .out} {n = length (c .before .before .before .before .before .before .args .word .now) / 2} (omega arith) (omega (arith, c .before .before .if2 .left)) (λ (k : ℕ) h. c .before .loop .inv .2 k (omega arith))
 
