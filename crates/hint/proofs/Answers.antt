@@ -4,22 +4,22 @@ use Prim.Native.Nat.{ℕ, zero, suc, _+_, _-_, _≤_, _<_}
 use native.Mathlib.Nat.{zero-add, zero-sub, sub-zero, suc-sub-suc}
 use native.Mathlib.Omega.{arith}
 use mathlib.Core.Path.{_≡_, refl, sym, ap, _∙_, subst}
-use mathlib.Core.Bool.{Bool, true, false}
-use mathlib.Core.List.{List, [], _∷_, _++_, append-assoc}
-use lib.Dec.{eqb, ltb}
+use mathlib.Core.Bool.{true, false}
+use mathlib.Core.List.{List, _++_, append-assoc}
+use lib.Dec.{eqb}
 use lib.IntN.{ℤ}
 use lib.ListN.{length, take, drop, replicate, length-replicate, length-append}
 use lib.Seq.{take-at, drop-at}
 use borrow.Author.Tests.{lt-ltb, le-ltb}
 use Rattle.hint.specs.Buffer.{written}
 use Rattle.hint.specs.Hint.{Reading, pieces, none, readHint, readForm}
-use Rattle.hint.specs.Print.{Outcome, printed, fault, printing}
+use Rattle.hint.specs.Print.{Outcome, printing}
 use Rattle.hint.specs.Inner.{Wrote, Followed, wrote, failed, isPieces, piecesIn, isBad}
 use Rattle.hint.specs.Answer.{Verdict, text, refusal, Answered, number, place, size, buffer, numberOf, placeOf, lengthOf, ofOutcome, byPieces, octetsVerdict, byForm, inRange, signed, integerVerdict}
 use Rattle.hint.specs.declared.Form.{Form}
 use Rattle.hint.specs.declared.Form.the-variants.{Base, Point, Bad}
 use Rattle.hint.specs.declared.Answer.{Answer}
-use Rattle.hint.specs.declared.Answer.the-variants.{Printed, ShortBuffer, LongValue, BadHint, BadOctet, OutOfRange}
+use Rattle.hint.specs.declared.Answer.the-variants.{Printed, ShortBuffer}
 use Rattle.hint.specs.declared.Progress.the-variants.{To, Fault}
 
 -- a short buffer stays as it was

@@ -1,23 +1,23 @@
 -- An accepted value prints four bytes for each octet at most.
 -- Assumes nothing.
 use Prim.Native.Nat.{ℕ, zero, suc, _+_, _-_, _*_, _/_, _^_, _≤_, _<_, min}
-use native.Mathlib.Nat.{mul-le-mul-right, mul-le-mul-left, mul-assoc, mul-comm, le-of-lt, lt-of-lt-of-le, lt-of-le-of-lt, le-trans, pow-suc, pow-zero, div-lt-iff-lt-mul, div-le-self, suc-mul, one-mul}
+use native.Mathlib.Nat.{mul-le-mul-right, mul-le-mul-left, mul-assoc, mul-comm, pow-suc, pow-zero, div-lt-iff-lt-mul, suc-mul, one-mul}
 use native.Mathlib.Omega.{arith}
 use mathlib.Core.Path.{_≡_, refl, sym, ap, _∙_, subst}
 use mathlib.Core.Bool.{Bool, true, false, cond, _||_}
-use mathlib.Core.List.{List, [], _∷_, _++_}
+use mathlib.Core.List.{List, [], _∷_}
 use lib.Dec.{ltb, leb, eqb, lit<, lit≤}
-use lib.ListN.{length, getD, take, drop, length-append, length-take, length-drop}
+use lib.ListN.{length, getD, take, drop, length-take, length-drop}
 use lib.Seq.{getD-drop}
 use lib.Pow.{pow-add}
-use borrow.Author.Tests.{lt-ltb, le-ltb, ltb-true, ltb-false, le-leb, lt-leb, leb-true, leb-false, eqb-true}
-use Rattle.hint.specs.Digits.{digits, pointed, bigEndian, baseOf}
+use borrow.Author.Tests.{ltb-true, ltb-false, leb-true, leb-false, eqb-true}
+use Rattle.hint.specs.Digits.{digits, bigEndian, baseOf}
 use Rattle.hint.specs.Cut.{Cut, whole, stuck, cut}
 use Rattle.hint.specs.Character.{characterSize}
 use Rattle.hint.specs.Hint.{longest}
-use Rattle.hint.specs.Print.{Outcome, printed, fault, joined, passes, passed, useText, optional, following, oneUse, uses}
+use Rattle.hint.specs.Print.{printed, passes, passed, useText, optional, following, oneUse, uses}
 use Rattle.hint.specs.declared.Piece.{Piece}
-use Rattle.hint.proofs.DigitLaws.{digits-last, digits-longer, pointed-longer, pointed-none}
+use Rattle.hint.proofs.DigitLaws.{digits-last, digits-longer}
 use Rattle.hint.proofs.Outcomes.{sizeOf, joined-size}
 
 -- each element is an octet

@@ -1,17 +1,16 @@
 -- Laws of cutting bytes into items: one step at a time, from any place.
 -- Assumes nothing.
 use Prim.Native.Nat.{ℕ, zero, suc, _+_, _-_, _≤_, _<_}
-use native.Mathlib.Nat.{not-suc-le-zero, sub-zero}
+use native.Mathlib.Nat.{sub-zero}
 use native.Mathlib.Omega.{arith}
-use mathlib.Core.Path.{_≡_, refl, sym, ap, _∙_, subst}
+use mathlib.Core.Path.{_≡_, refl, sym, ap, _∙_}
 use mathlib.Core.Bool.{Bool, true, false}
 use mathlib.Core.List.{List, [], _∷_}
 use lib.Dec.{leb}
-use borrow.Author.Tests.{le-leb, lt-leb, leb-true, leb-false}
+use borrow.Author.Tests.{le-leb, lt-leb, leb-false}
 use Rattle.hint.specs.Cut.{Cut, whole, stuck, before, cut, cutWithin}
-use Rattle.hint.specs.Print.{Outcome, printed, fault, passed}
+use Rattle.hint.specs.Print.{printed, fault, passed}
 use Rattle.hint.specs.Inner.{stuckAt}
-use Rattle.hint.specs.declared.Search.{Search}
 use Rattle.hint.specs.declared.Search.the-variants.{At, Nowhere}
 
 whole-not-stuck : (places : List ℕ) (j : ℕ) → whole places ≡ stuck j → ⊥

@@ -1,17 +1,14 @@
 -- The paper's worked examples P6, P7 and P8, from the definitions.
 -- Assumes nothing.
-use Prim.Native.Nat.{ℕ}
 use mathlib.Core.Path.{_≡_, refl}
-use mathlib.Core.List.{List, [], _∷_}
-use lib.IntN.{ℤ, pos, negsuc}
-use Rattle.hint.specs.Buffer.{written}
+use mathlib.Core.List.{[], _∷_}
+use lib.IntN.{negsuc}
 use Rattle.hint.specs.Digits.{baseOf, glyph, digitsWithin, digits, pointed, bigEndian}
 use Rattle.hint.specs.Cut.{before, cutWithin, cut}
-use Rattle.hint.specs.Hint.{digit, mark, markAt, markSize, numberAfter, numberAt, allowed, bounded, longest, starred, lengthPlace, formatPlace, separatorOf}
-use Rattle.hint.specs.Hint.{terminatorOf, isPiece, pieceAt, pieceEnd, pieceSize, piecesOf, readHint, readPoint, readForm}
+use Rattle.hint.specs.Hint.{digit, mark, markAt, markSize, numberAfter, numberAt, allowed, bounded, longest, starred, lengthPlace, formatPlace, separatorOf, terminatorOf, isPiece, pieceAt, pieceEnd, pieceSize, piecesOf, readHint, readPoint, readForm}
 use Rattle.hint.specs.Character.{between, tail, leadSize, secondLow, secondHigh, tails, sequenceSize, characterSize}
 use Rattle.hint.specs.Print.{joined, passes, passed, useText, optional, following, oneUse, uses, repeats, usesStart, usesEnd, turn, printingWithin, printing}
-use Rattle.hint.specs.Answer.{Verdict, text, refusal, ofOutcome, byPieces, octetsVerdict, magnitude, signed, inRange, byForm, integerVerdict}
+use Rattle.hint.specs.Answer.{text, refusal, ofOutcome, byPieces, octetsVerdict, magnitude, signed, inRange, byForm, integerVerdict}
 
 -- P6: 02 0A 0B 05 under `*1d.:1d` is `10.11:5`
 pub P6 : octetsVerdict 4096 (42 ∷ 49 ∷ 100 ∷ 46 ∷ 58 ∷ 49 ∷ 100 ∷ []) (2 ∷ 10 ∷ 11 ∷ 5 ∷ []) ≡ text (49 ∷ 48 ∷ 46 ∷ 49 ∷ 49 ∷ 58 ∷ 53 ∷ [])

@@ -2,20 +2,17 @@
 -- Assumes nothing.
 use Prim.Native.Nat.{ℕ, zero, suc, _+_, _-_, _*_, _≤_, _<_}
 use native.Mathlib.Omega.{arith}
-use mathlib.Core.Path.{_≡_, refl, sym, ap, _∙_}
-use mathlib.Core.Bool.{Bool, true, false, cond, not, _&&_, _||_}
+use mathlib.Core.Path.{_≡_, refl}
+use mathlib.Core.Bool.{Bool, true, false, cond, not, _&&_}
 use mathlib.Core.List.{List}
-use mathlib.Core.Logic.{_⊎_, ⊎-elim}
-use lib.Dec.{leb, ltb, eqb, lit<, lit≤}
+use lib.Dec.{leb, ltb, eqb, lit≤}
 use lib.ListN.{length}
-use borrow.Author.Tests.{leb-true, ltb-true, le-leb, not-true, not-false, eqb-true}
+use borrow.Author.Tests.{leb-true, ltb-true, le-leb}
 use Rattle.hint.specs.Buffer.{byteAt}
 use Rattle.hint.specs.Cut.{Cut, whole, stuck, cut}
-use Rattle.hint.specs.Hint.{digit, numberAfter, numberAt, allowed, bounded, longest, starred, lengthPlace, formatPlace, separatorOf, terminatorOf, markSize}
-use Rattle.hint.specs.Hint.{isPiece, pieceAt, pieceEnd, pieceSize, readHint, piecesOf}
+use Rattle.hint.specs.Hint.{digit, numberAfter, numberAt, allowed, bounded, longest, starred, lengthPlace, formatPlace, markSize, isPiece, pieceAt, pieceEnd, pieceSize, readHint, piecesOf}
 use Rattle.hint.specs.Inner.{found, isPieces, stuckAt}
 use Rattle.hint.specs.declared.Piece.{Piece}
-use Rattle.hint.specs.declared.Found.{Found}
 use Rattle.hint.specs.declared.Found.the-variants.{Whole, Nothing}
 use Rattle.hint.specs.declared.Search.{Search}
 use Rattle.hint.specs.declared.Search.the-variants.{At, Nowhere}

@@ -9,4 +9,5 @@ pub mod UsesLaws
 pub mod PrintingLaws
 pub mod SignedLaws
 pub mod Answers
+pub mod Laws
 pub mod Examples

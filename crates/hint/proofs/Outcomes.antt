@@ -7,7 +7,7 @@ use mathlib.Core.Path.{_≡_, sym}
 use mathlib.Core.List.{List, []}
 use lib.ListN.{length, length-append}
 use Rattle.hint.specs.Print.{Outcome, printed, fault, joined}
-use Rattle.hint.specs.Inner.{Wrote, Followed, wrote, failed}
+use Rattle.hint.specs.Inner.{Followed, wrote, failed}
 use Rattle.hint.specs.declared.Progress.{Progress}
 use Rattle.hint.specs.declared.Progress.the-variants.{To, Fault}
 use Rattle.hint.proofs.Writing.{written-none, wrote-more}

@@ -11,14 +11,13 @@ use lib.ListN.{length}
 use borrow.Author.Tests.{le-leb, lt-leb, leb-true, leb-false}
 use Rattle.hint.specs.Buffer.{byteAt}
 use Rattle.hint.specs.Cut.{Cut, whole, stuck, before, cut, cutWithin}
-use Rattle.hint.specs.Hint.{Reading, pieces, none, longest, isPiece, pieceAt, pieceEnd, pieceSize, readHint, piecesOf}
-use Rattle.hint.specs.Print.{Outcome, printed, fault, joined, uses, repeats, usesStart, usesEnd, turn, printing, printingWithin}
+use Rattle.hint.specs.Hint.{pieces, none, longest, isPiece, pieceAt, pieceEnd, pieceSize, readHint, piecesOf}
+use Rattle.hint.specs.Print.{Outcome, printed, joined, uses, repeats, usesStart, usesEnd, turn, printing, printingWithin}
 use Rattle.hint.specs.Inner.{stuckAt, isPieces, piecesIn}
 use Rattle.hint.specs.declared.Piece.{Piece}
-use Rattle.hint.specs.declared.Search.{Search}
 use Rattle.hint.specs.declared.Search.the-variants.{At, Nowhere}
 use Rattle.hint.proofs.CutLaws.{from, from-start, from-end, from-stuck, from-item, stuck-before}
-use Rattle.hint.proofs.HintLaws.{and-left, and-right, piece-size-some, piece-size-none, piece-end-after, piece-allowed}
+use Rattle.hint.proofs.HintLaws.{piece-size-some, piece-size-none, piece-end-after, piece-allowed}
 
 -- a piece whose length its format allows, and a list of such pieces
 abbrev pub Allowed : Piece → Type 0
@@ -28,7 +27,7 @@ abbrev pub AllAllowed : List Piece → Type 0
 AllAllowed [] = Unit {0}
 AllAllowed (p ∷ ps) = Allowed p × AllAllowed ps
 
-turn-allowed : (p : Piece) (ps : List Piece) → AllAllowed (p ∷ ps) → AllAllowed (turn p ps)
+pub turn-allowed : (p : Piece) (ps : List Piece) → AllAllowed (p ∷ ps) → AllAllowed (turn p ps)
 unfolding turn
 turn-allowed p [] h = h
 turn-allowed p (q ∷ ps) h = h .1

@@ -1,16 +1,16 @@
 -- Laws of integers: the range, the magnitude, and how long a text is.
 -- Assumes nothing.
-use Prim.Native.Nat.{ℕ, zero, suc, _+_, _-_, _*_, _/_, _%_, _^_, _≤_, _<_}
+use Prim.Native.Nat.{ℕ, zero, suc, _+_, _/_, _%_, _^_, _≤_, _<_}
 use native.Mathlib.Nat.{not-suc-le-zero}
 use native.Mathlib.Omega.{arith}
-use mathlib.Core.Path.{_≡_, refl, sym, ap, _∙_, subst}
+use mathlib.Core.Path.{_≡_, refl, sym, ap, _∙_}
 use mathlib.Core.Bool.{Bool, true, false, cond, not, _&&_, _||_}
-use mathlib.Core.List.{List, [], _∷_, _++_}
-use lib.Dec.{T, leb, ltb, eqb, lit<, lit≤}
+use mathlib.Core.List.{List, [], _∷_}
+use lib.Dec.{leb, ltb, eqb, lit≤}
 use lib.IntN.{ℤ, pos, negsuc, natAbs, _-ℤ_}
-use lib.Signed.{leZ, ltZ, nonNeg, mag}
+use lib.Signed.{leZ, ltZ}
 use lib.ListN.{length, length-append}
-use borrow.Author.Tests.{le-leb, lt-leb, lt-ltb, le-ltb, leb-true, leb-false, ltb-true, ltb-false}
+use borrow.Author.Tests.{lt-ltb, le-ltb, leb-true, leb-false, ltb-true}
 use Rattle.hint.specs.Buffer.{byteAt}
 use Rattle.hint.specs.Digits.{digits, glyph, pointed, baseOf}
 use Rattle.hint.specs.Hint.{numberAt, allowed, bounded, readForm, readPoint}
@@ -18,7 +18,6 @@ use Rattle.hint.specs.Answer.{inRange, magnitude, signed}
 use Rattle.hint.specs.Inner.{Usable}
 use Rattle.hint.specs.declared.Form.{Form}
 use Rattle.hint.specs.declared.Form.the-variants.{Base, Point, Bad}
-use Rattle.hint.proofs.DigitLaws.{pointed-step, pointed-longer}
 use Rattle.hint.proofs.HintLaws.{and-left, and-right}
 use Rattle.hint.proofs.Bounds.{digits-short}
 

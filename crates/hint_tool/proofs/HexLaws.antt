@@ -6,7 +6,7 @@ use native.Mathlib.Omega.{arith}
 use lib.ListN.{length}
 use Rattle.hint_tool.specs.Hex.{Read, octets, nothing}
 use Rattle.hint_tool.specs.declared.hex.Octets.{Octets}
-use Rattle.hint_tool.specs.declared.hex.Octets.the-variants.{Are, AreNot}
+use Rattle.hint_tool.specs.declared.hex.Octets.the-variants.{Are}
 
 pub read-fits : {word out : List ℕ} {r : Octets} {n : ℕ} → Read word r out → r ≡ Are n → n ≤ length out
 read-fits {n = n} (octets {n = m} long fits pairs) e = let same : m ≡ n = cc in omega arith

@@ -1,9 +1,8 @@
 -- `integer` is right: the tests are the verdict's, in its order; the part is zeroed before the text is written.
 -- Assumes nothing.
 use borrow.Author.Needs.{needs}
-use Prim.Native.Nat.{ℕ, _≤_}
 use mathlib.Core.Path.{_≡_, refl, ap, sym, subst, _∙_}
-use mathlib.Core.List.{List, _++_}
+use mathlib.Core.List.{_++_}
 use mathlib.Core.Bool.{true, false}
 use native.Mathlib.Omega.{arith}
 use borrow.Author.Tests.{not-true, not-false}
@@ -21,15 +20,7 @@ use Rattle.hint.specs.Inner.{Wrote, Usable, isBad}
 use Rattle.hint.specs.Hint.{readForm}
 use Rattle.hint.proofs.integer.Statement.{statement}
 use Rattle.hint.proofs.integer.Tie as tie
-use Rattle.hint.proofs.integer.Reads as reads
-use Rattle.hint.proofs.integer.Lts as lts
-use Rattle.hint.proofs.buffer.clear.Reads as clear-reads
-use Rattle.hint.proofs.grammar.form_of.Reads as form-of-reads
-use Rattle.hint.proofs.signed.in_range.Reads as in-range-reads
-use Rattle.hint.proofs.signed.is_bad.Reads as is-bad-reads
-use Rattle.hint.proofs.signed.print_signed.Reads as print-signed-reads
 
--- src/lib.rt:103:9
 returns : tie.Need-returns
 returns c =
     let a = c .before .before .before .args in
@@ -37,23 +28,18 @@ returns c =
     let o = a .out .now in
     answered-short 64 (integerVerdict (length o) h (a .value)) o (integer-short (length o) h (a .value) (c .if1 .taken))
 
--- src/lib.rt:105:5
 clear-requires : tie.Need-clear-requires
 clear-requires c κs = search needs
 
--- src/lib.rt:106:9
 form-of-requires : tie.Need-form-of-requires
 form-of-requires c κs = search needs
 
--- src/lib.rt:107:8
 is-bad-requires : tie.Need-is-bad-requires
 is-bad-requires c κs = search needs
 
--- src/lib.rt:108:9
 same-length : tie.Need-same-length
 same-length c = search needs
 
--- src/lib.rt:108:9
 returns-2 : tie.Need-returns-2
 returns-2 c =
     let a = c .before .before .before .before .before .before .before .before .before .before .args in
@@ -65,15 +51,12 @@ returns-2 c =
     answered-refusal 64 (integerVerdict (length o) h (a .value)) BadHint o (c .before .before .before .before .before .clear .last .0) 32 0
     (integer-hint (length o) h (a .value) (c .before .before .before .before .before .before .before .if1 .left) (sym bad ∙ c .if2 .taken)) refl refl refl refl (c .before .before .before .before .before .clear .ensures)
 
--- src/lib.rt:110:9
 in-range-requires : tie.Need-in-range-requires
 in-range-requires c κs = search needs
 
--- src/lib.rt:111:9
 same-length-2 : tie.Need-same-length-2
 same-length-2 c = search needs
 
--- src/lib.rt:111:9
 returns-3 : tie.Need-returns-3
 returns-3 c =
     let a = c .before .before .before .before .before .before .before .before .before .before .before .before .args in
@@ -86,15 +69,12 @@ returns-3 c =
     answered-refusal 64 (integerVerdict (length o) h (a .value)) OutOfRange o (c .before .before .before .before .before .before .before .clear .last .0) 34 0
     (integer-range (length o) h (a .value) (c .before .before .before .before .before .before .before .before .before .if1 .left) (sym bad ∙ c .before .before .if2 .left) out-of) refl refl refl refl (c .before .before .before .before .before .before .before .clear .ensures)
 
--- src/lib.rt:113:47
 slice-relend-prefix-print-signed : tie.Need-slice-relend-prefix-print-signed
 slice-relend-prefix-print-signed c = search needs
 
--- src/lib.rt:113:47
 slice-aggregate-print-signed : tie.Need-slice-aggregate-print-signed
 slice-aggregate-print-signed c = search needs
 
--- src/lib.rt:113:21
 print-signed-requires : tie.Need-print-signed-requires
 print-signed-requires c κs =
     let a = c .before .before .before .before .before .before .before .before .before .before .before .before .before .args in
@@ -107,11 +87,9 @@ print-signed-requires c κs =
     let kept = c .before .before .before .before .before .before .before .before .clear .kept .0 in
     (subst Usable (sym form) (form-usable h), (sym (c .before .before .in-range .ensures) ∙ not-false _ (c .before .if3 .left), omega (arith, length-take 64 cleared, c .before .before .before .before .before .before .before .before .before .before .if1 .left)))
 
--- src/lib.rt:99:1
 same-length-3 : tie.Need-same-length-3
 same-length-3 c = search needs
 
--- src/lib.rt:99:1
 returns-4 : tie.Need-returns-4
 returns-4 c =
     let a = c .before .before .before .before .before .before .before .before .before .before .before .before .before .before .before .before .args in

@@ -1,30 +1,21 @@
 -- `octets` is right: the tests are the verdict's, in its order; the part is zeroed before anything is written, and again after a fault.
 -- Assumes nothing.
 use borrow.Author.Needs.{needs}
-use Prim.Native.Nat.{ℕ, _≤_}
-use mathlib.Core.Path.{_≡_, refl, ap, sym, subst, _∙_}
-use mathlib.Core.List.{List, _++_}
-use mathlib.Core.Bool.{true, false}
+use mathlib.Core.Path.{_≡_, refl, sym, subst, _∙_}
 use native.Mathlib.Omega.{arith}
 use borrow.Author.Tests.{not-true, not-false}
-use lib.ListN.{length, take, drop, length-take}
+use lib.ListN.{length, take, length-take}
 use Rattle.hint.proofs.Answers.{answered-short, answered-refusal, answered-printed, zeros-again, fault-refusal, octets-short, octets-long, octets-hint, octets-printed}
 use Rattle.hint.specs.declared.Progress.the-variants.{To, Fault}
 use Rattle.hint.specs.declared.Progress.{Progress}
 use Rattle.hint.specs.declared.Answer.the-variants.{LongValue, BadHint, BadOctet}
 use Rattle.hint.specs.Answer.{octetsVerdict}
-use Rattle.hint.specs.Inner.{Followed, isPieces, piecesIn}
+use Rattle.hint.specs.Inner.{Followed, piecesIn}
 use Rattle.hint.specs.Print.{printing}
 use Rattle.hint.specs.Hint.{readHint}
 use Rattle.hint.proofs.octets.Statement.{statement}
 use Rattle.hint.proofs.octets.Tie as tie
-use Rattle.hint.proofs.octets.Reads as reads
-use Rattle.hint.proofs.octets.Lts as lts
-use Rattle.hint.proofs.buffer.clear.Reads as clear-reads
-use Rattle.hint.proofs.grammar.is_hint.Reads as is-hint-reads
-use Rattle.hint.proofs.pieces.print_pieces.Reads as print-pieces-reads
 
--- src/lib.rt:79:9
 returns : tie.Need-returns
 returns c =
     let a = c .before .before .before .before .args in
@@ -33,15 +24,12 @@ returns c =
     let o = a .out .now in
     answered-short 4096 (octetsVerdict (length o) h v) o (octets-short (length o) h v (c .if1 .taken))
 
--- src/lib.rt:81:5
 clear-requires : tie.Need-clear-requires
 clear-requires c κs = search needs
 
--- src/lib.rt:83:9
 same-length : tie.Need-same-length
 same-length c = search needs
 
--- src/lib.rt:83:9
 returns-2 : tie.Need-returns-2
 returns-2 c =
     let a = c .before .before .before .before .before .before .before .before .before .args in
@@ -50,15 +38,12 @@ returns-2 c =
     let o = a .out .now in
     answered-refusal 4096 (octetsVerdict (length o) h v) LongValue o (c .before .before .before .clear .last .0) 31 0 (octets-long (length o) h v (c .before .before .before .before .before .if1 .left) (c .if2 .taken)) refl refl refl refl (c .before .before .before .clear .ensures)
 
--- src/lib.rt:85:9
 is-hint-requires : tie.Need-is-hint-requires
 is-hint-requires c κs = search needs
 
--- src/lib.rt:86:9
 same-length-2 : tie.Need-same-length-2
 same-length-2 c = search needs
 
--- src/lib.rt:86:9
 returns-3 : tie.Need-returns-3
 returns-3 c =
     let a = c .before .before .before .before .before .before .before .before .before .before .before .args in
@@ -68,41 +53,33 @@ returns-3 c =
     let no = sym (c .before .is-hint .ensures) ∙ not-true _ (c .if3 .taken) in
     answered-refusal 4096 (octetsVerdict (length o) h v) BadHint o (c .before .before .before .before .before .clear .last .0) 32 0 (octets-hint (length o) h v (c .before .before .before .before .before .before .before .if1 .left) (c .before .before .if2 .left) no) refl refl refl refl (c .before .before .before .before .before .clear .ensures)
 
--- src/lib.rt:88:37
 slice-relend-prefix-print-pieces : tie.Need-slice-relend-prefix-print-pieces
 slice-relend-prefix-print-pieces c = search needs
 
--- src/lib.rt:88:37
 slice-aggregate-print-pieces : tie.Need-slice-aggregate-print-pieces
 slice-aggregate-print-pieces c =
     let o = c .before .before .before .before .before .before .clear .last .0 in
     let kept = c .before .before .before .before .before .before .clear .kept .0 in
     sym (length-take 4096 o ∙ omega (arith, c .before .before .before .before .before .before .before .before .if1 .left))
 
--- src/lib.rt:88:11
 print-pieces-requires : tie.Need-print-pieces-requires
 print-pieces-requires c κs =
     let o = c .before .before .before .before .before .before .clear .last .0 in
     let kept = c .before .before .before .before .before .before .clear .kept .0 in
     (sym (c .before .before .is-hint .ensures) ∙ not-false _ (c .before .if3 .left), (c .before .before .before .if2 .left, length-take 4096 o ∙ omega (arith, c .before .before .before .before .before .before .before .before .if1 .left)))
 
--- src/lib.rt:89:22
 enum-known-n : tie.Need-enum-known-n
 enum-known-n c = search needs
 
--- src/lib.rt:90:25
 enum-known-place : tie.Need-enum-known-place
 enum-known-place c = search needs
 
--- src/lib.rt:91:13
 clear-requires-2 : tie.Need-clear-requires-2
 clear-requires-2 c κs = search needs
 
--- src/lib.rt:75:1
 same-length-3 : tie.Need-same-length-3
 same-length-3 c = search needs
 
--- src/lib.rt:75:1
 returns-4 : tie.Need-returns-4
 returns-4 c =
     let a = c .before .before .before .before .before .before .before .before .before .before .before .before .before .before .before .before .before .before .args in
@@ -114,11 +91,9 @@ returns-4 c =
     subst (λ (r : Progress). Followed (printing (piecesIn (readHint h)) v) 0 r (take 4096 (c .before .before .before .before .before .before .before .before .before .before .before .before .clear .last .0)) (c .before .before .before .before .before .print-pieces .last .1 .1 .0)) (c .before .n .given .1) (c .before .before .before .before .before .print-pieces .ensures) in
     answered-printed 4096 o (c .before .before .before .before .before .before .before .before .before .before .before .before .clear .last .0) (c .before .before .before .before .before .before .before .before .before .before .before .before .clear .ensures) (octets-printed (length o) h v (c .before .before .before .before .before .before .before .before .before .before .before .before .before .before .if1 .left) (c .before .before .before .before .before .before .before .before .before .if2 .left) yes₁) done
 
--- src/lib.rt:75:1
 same-length-4 : tie.Need-same-length-4
 same-length-4 c = search needs
 
--- src/lib.rt:75:1
 returns-5 : tie.Need-returns-5
 returns-5 c =
     let a = c .before .before .before .before .before .before .before .before .before .before .before .before .before .before .before .before .before .before .before .before .before .before .args in

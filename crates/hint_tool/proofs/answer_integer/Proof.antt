@@ -4,83 +4,58 @@ use borrow.Author.Needs.{needs}
 use Rattle.hint.proofs.Answers.{length-fits}
 use Rattle.hint_tool.proofs.answer_integer.Statement.{statement}
 use Rattle.hint_tool.proofs.answer_integer.Tie as tie
-use Rattle.hint_tool.proofs.answer_integer.Reads as reads
-use Rattle.hint_tool.proofs.answer_integer.Lts as lts
-use Rattle.command.proofs.read_number.Reads as read-number-reads
-use Rattle.hint.proofs.integer.Reads as integer-reads
-use Rattle.hint_tool.proofs.complain.Reads as complain-reads
-use Rattle.hint_tool.proofs.print_answer.Reads as print-answer-reads
-use Rattle.io.proofs.buffer.Reads as buffer-reads
 
--- src/main.rt:104:19
 buffer-requires : tie.Need-buffer-requires
 buffer-requires c κs = search needs
 
--- src/main.rt:105:11
 read-number-requires : tie.Need-read-number-requires
 read-number-requires c κs = search needs
 
--- src/main.rt:106:20
 enum-known-value : tie.Need-enum-known-value
 enum-known-value c = search needs
 
--- src/main.rt:107:58
 slice-aggregate-integer : tie.Need-slice-aggregate-integer
 slice-aggregate-integer c = search needs
 
--- src/main.rt:107:17
 integer-requires : tie.Need-integer-requires
 integer-requires c κs = search needs
 
--- src/main.rt:108:34
 slice-aggregate-print-answer : tie.Need-slice-aggregate-print-answer
 slice-aggregate-print-answer c = search needs
 
--- src/main.rt:108:13
 print-answer-requires : tie.Need-print-answer-requires
 print-answer-requires c κs = length-fits _ _ _ _ _ (c .before .before .integer .ensures)
 
--- src/main.rt:111:63
 enum-told : tie.Need-enum-told
 enum-told c = search needs
 
--- src/main.rt:111:63
 slice-aggregate-integer-2 : tie.Need-slice-aggregate-integer-2
 slice-aggregate-integer-2 c = search needs
 
--- src/main.rt:111:17
 integer-requires-2 : tie.Need-integer-requires-2
 integer-requires-2 c κs = search needs
 
--- src/main.rt:112:34
 slice-aggregate-print-answer-2 : tie.Need-slice-aggregate-print-answer-2
 slice-aggregate-print-answer-2 c = search needs
 
--- src/main.rt:112:13
 print-answer-requires-2 : tie.Need-print-answer-requires-2
 print-answer-requires-2 c κs = length-fits _ _ _ _ _ (c .before .before .integer2 .ensures)
 
--- src/main.rt:114:49
 enum-told-2 : tie.Need-enum-told-2
 enum-told-2 c = search needs
 
--- src/main.rt:114:49
 slice-aggregate-complain : tie.Need-slice-aggregate-complain
 slice-aggregate-complain c = search needs
 
--- src/main.rt:114:26
 complain-requires : tie.Need-complain-requires
 complain-requires c κs = search needs
 
--- src/main.rt:103:1
 returns : tie.Need-returns
 returns c = search needs
 
--- src/main.rt:103:1
 returns-2 : tie.Need-returns-2
 returns-2 c = search needs
 
--- src/main.rt:103:1
 returns-3 : tie.Need-returns-3
 returns-3 c = search needs
 

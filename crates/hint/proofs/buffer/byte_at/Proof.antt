@@ -5,18 +5,13 @@ use lib.ListN.{List·getD-eq-default}
 use mathlib.Core.Path.{sym}
 use Rattle.hint.proofs.buffer.byte_at.Statement.{statement}
 use Rattle.hint.proofs.buffer.byte_at.Tie as tie
-use Rattle.hint.proofs.buffer.byte_at.Reads as reads
-use Rattle.hint.proofs.buffer.byte_at.Lts as lts
 
--- src/buffer.rt:13:22
 shared-slice-read-result : tie.Need-shared-slice-read-result
 shared-slice-read-result c = search needs
 
--- src/buffer.rt:10:1
 returns : tie.Need-returns
 returns c = search needs
 
--- src/buffer.rt:10:1
 returns-2 : tie.Need-returns-2
 returns-2 c = sym (List·getD-eq-default (c .before .args .s .now) 0 (c .if1 .left))
 

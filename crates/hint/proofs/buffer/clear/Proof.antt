@@ -1,19 +1,13 @@
 -- `clear` is right: at i the first i bytes are 0 and the others are as they were.
 -- Assumes nothing.
-use borrow.Author.Needs.{needs}
 use borrow.Author.Fill.{fill-none, fill-more}
-use Prim.Native.Nat.{_≤_, _-_}
-use mathlib.Core.Path.{_≡_, ap, _∙_}
-use mathlib.Core.List.{_++_}
+use Prim.Native.Nat.{_≤_, _-_, ℕ, _<_}
+use mathlib.Core.Path.{_≡_, ap, _∙_, refl}
+use mathlib.Core.List.{_++_, List}
 use native.Mathlib.Omega.{arith}
-use lib.ListN.{length, drop, set, replicate, length-set, length-append, length-replicate, length-drop}
-use Prim.Native.Nat.{ℕ, _<_}
-use mathlib.Core.Path.{refl}
-use mathlib.Core.List.{List}
+use lib.ListN.{length, drop, set, replicate, length-set}
 use Rattle.hint.proofs.buffer.clear.Statement.{statement}
 use Rattle.hint.proofs.buffer.clear.Tie as tie
-use Rattle.hint.proofs.buffer.clear.Reads as reads
-use Rattle.hint.proofs.buffer.clear.Lts as lts
 
 abbrev Inv-loop : tie.InvT-loop
 Inv-loop out₀ count i₀ out i = (out ≡ replicate i 0 ++ drop i out₀) × (i ≤ count) × (length out ≡ length out₀)
@@ -21,23 +15,18 @@ Inv-loop out₀ count i₀ out i = (out ≡ replicate i 0 ++ drop i out₀) × (
 abbrev μ-loop : tie.MeasureT-loop
 μ-loop out₀ count i₀ out i = count - i
 
--- src/buffer.rt:44:5
 loop-holds : tie.Need-loop-holds Inv-loop μ-loop
 loop-holds c = (fill-none _ 0, omega arith, refl)
 
--- src/buffer.rt:45:9
 slice-write-out : tie.Need-slice-write-out Inv-loop μ-loop
 slice-write-out c = omega arith
 
--- src/buffer.rt:46:9
 add-i : tie.Need-add-i Inv-loop μ-loop
 add-i c = omega arith
 
--- src/buffer.rt:44:5
 loop-less : tie.Need-loop-less Inv-loop μ-loop
 loop-less c = omega arith
 
--- src/buffer.rt:44:5
 loop-again : tie.Need-loop-again Inv-loop μ-loop
 loop-again c =
     let inv = c .before .loop .inv in
@@ -46,11 +35,9 @@ loop-again c =
     let below : i < length o = omega arith in
     (ap (λ (l : List ℕ). set l i 0) (inv .0) ∙ fill-more i 0 o below, omega arith, simp length-set (inv .2))
 
--- src/buffer.rt:39:1
 same-length : tie.Need-same-length Inv-loop μ-loop
 same-length c = c .before .loop .inv .2
 
--- src/buffer.rt:39:1
 returns : tie.Need-returns Inv-loop μ-loop
 returns c =
     let inv = c .before .loop .inv in

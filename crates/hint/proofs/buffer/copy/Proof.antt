@@ -1,21 +1,15 @@
 -- `copy` is right: at i the first i bytes have been written.
 -- Assumes nothing.
-use borrow.Author.Needs.{needs}
-use Prim.Native.Nat.{_≤_, _-_}
+use Prim.Native.Nat.{_≤_, _-_, ℕ, _<_, _+_}
 use mathlib.Core.Path.{_≡_, ap, _∙_, sym, refl}
 use native.Mathlib.Omega.{arith}
-use lib.ListN.{length, take}
-use Prim.Native.Nat.{ℕ, _<_, _+_}
+use lib.ListN.{length, take, set, getD, length-set}
 use mathlib.Core.List.{List}
-use lib.ListN.{set, getD, length-set}
 use lib.Seq.{take-length}
-use Rattle.hint.proofs.Writing.{written-next}
-use Rattle.hint.proofs.Writing.{written-none, written-one, written-more, length-written}
+use Rattle.hint.proofs.Writing.{written-next, written-none}
 use Rattle.hint.specs.Buffer.{written}
 use Rattle.hint.proofs.buffer.copy.Statement.{statement}
 use Rattle.hint.proofs.buffer.copy.Tie as tie
-use Rattle.hint.proofs.buffer.copy.Reads as reads
-use Rattle.hint.proofs.buffer.copy.Lts as lts
 
 abbrev Inv-loop : tie.InvT-loop
 Inv-loop s out₀ at i₀ out i = (out ≡ written out₀ at (take i s)) × (i ≤ length s) × (length out ≡ length out₀)
@@ -23,31 +17,24 @@ Inv-loop s out₀ at i₀ out i = (out ≡ written out₀ at (take i s)) × (i �
 abbrev μ-loop : tie.MeasureT-loop
 μ-loop s out₀ at i₀ out i = length s - i
 
--- src/buffer.rt:31:5
 loop-holds : tie.Need-loop-holds Inv-loop μ-loop
 loop-holds c = (sym (written-none _ _), omega arith, refl)
 
--- src/buffer.rt:32:23
 shared-slice-read-out : tie.Need-shared-slice-read-out Inv-loop μ-loop
 shared-slice-read-out c = omega arith
 
--- src/buffer.rt:32:13
 add-out : tie.Need-add-out Inv-loop μ-loop
 add-out c = omega arith
 
--- src/buffer.rt:32:9
 slice-write-out : tie.Need-slice-write-out Inv-loop μ-loop
 slice-write-out c = omega arith
 
--- src/buffer.rt:33:9
 add-i : tie.Need-add-i Inv-loop μ-loop
 add-i c = omega arith
 
--- src/buffer.rt:31:5
 loop-less : tie.Need-loop-less Inv-loop μ-loop
 loop-less c = omega arith
 
--- src/buffer.rt:31:5
 loop-again : tie.Need-loop-again Inv-loop μ-loop
 loop-again c =
     let inv = c .before .before .loop .inv in
@@ -60,15 +47,12 @@ loop-again c =
       simp length-set (inv .2),
     )
 
--- src/buffer.rt:35:5
 add-result : tie.Need-add-result Inv-loop μ-loop
 add-result c = omega arith
 
--- src/buffer.rt:26:1
 same-length : tie.Need-same-length Inv-loop μ-loop
 same-length c = c .before .loop .inv .2
 
--- src/buffer.rt:26:1
 returns : tie.Need-returns Inv-loop μ-loop
 returns c =
     let inv = c .before .loop .inv in

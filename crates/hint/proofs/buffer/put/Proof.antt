@@ -5,22 +5,16 @@ use mathlib.Core.Path.{refl}
 use Rattle.hint.proofs.Writing.{written-one}
 use Rattle.hint.proofs.buffer.put.Statement.{statement}
 use Rattle.hint.proofs.buffer.put.Tie as tie
-use Rattle.hint.proofs.buffer.put.Reads as reads
-use Rattle.hint.proofs.buffer.put.Lts as lts
 
--- src/buffer.rt:21:5
 slice-write-out : tie.Need-slice-write-out
 slice-write-out c = search needs
 
--- src/buffer.rt:22:5
 add-result : tie.Need-add-result
 add-result c = search needs
 
--- src/buffer.rt:17:1
 same-length : tie.Need-same-length
 same-length c = search needs
 
--- src/buffer.rt:17:1
 returns : tie.Need-returns
 returns c = record { next-is = refl; buffer-is = written-one (c .args .out .now) (c .args .at) (c .args .b) (c .pre) }
 

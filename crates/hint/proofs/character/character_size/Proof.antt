@@ -7,30 +7,21 @@ use lib.Dec.{ltb}
 use borrow.Author.Tests.{eq-eqb, ne-eqb, lt-ltb, le-ltb}
 use Rattle.hint.proofs.character.character_size.Statement.{statement}
 use Rattle.hint.proofs.character.character_size.Tie as tie
-use Rattle.hint.proofs.character.character_size.Reads as reads
-use Rattle.hint.proofs.character.character_size.Lts as lts
-use Rattle.hint.proofs.buffer.byte_at.Reads as byte-at-reads
-use Rattle.hint.proofs.character.sequence_size.Reads as sequence-size-reads
 
--- src/character.rt:94:12
 byte-at-requires : tie.Need-byte-at-requires
 byte-at-requires c κs = search needs
 
--- src/character.rt:95:13
 returns : tie.Need-returns
 unfolding Rattle.hint.specs.Character.characterSize
 returns c = simp (eq-eqb _ _ (c .before .before .if1 .taken), ap (λ (b : ℕ). ltb b 128) (sym (c .before .byte-at .ensures)) ∙ lt-ltb _ _ (c .if2 .taken))
 
--- src/character.rt:97:9
 returns-2 : tie.Need-returns-2
 unfolding Rattle.hint.specs.Character.characterSize
 returns-2 c = simp (eq-eqb _ _ (c .before .before .if1 .taken), ap (λ (b : ℕ). ltb b 128) (sym (c .before .byte-at .ensures)) ∙ le-ltb _ _ (c .if2 .left))
 
--- src/character.rt:99:5
 sequence-size-requires : tie.Need-sequence-size-requires
 sequence-size-requires c κs = search needs
 
--- src/character.rt:89:1
 returns-3 : tie.Need-returns-3
 unfolding Rattle.hint.specs.Character.characterSize
 returns-3 c = simp (ne-eqb _ _ (c .before .if1 .left)) (c .sequence-size .ensures)

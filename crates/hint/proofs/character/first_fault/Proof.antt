@@ -1,6 +1,6 @@
 -- `first_fault` is right: at i the cut from i on is stuck where the whole cut is. The measure is what is left of the octets.
 -- Assumes nothing.
-use Prim.Native.Nat.{ℕ, _+_, _-_, _<_, _≤_}
+use Prim.Native.Nat.{ℕ, _+_, _-_, _<_}
 use mathlib.Core.Path.{_≡_, sym, ap, _∙_}
 use native.Mathlib.Omega.{arith}
 use lib.ListN.{length}
@@ -11,9 +11,6 @@ use Rattle.hint.specs.Character.{characterSize}
 use Rattle.hint.specs.Cut.{cut, before}
 use Rattle.hint.proofs.character.first_fault.Statement.{statement}
 use Rattle.hint.proofs.character.first_fault.Tie as tie
-use Rattle.hint.proofs.character.first_fault.Reads as reads
-use Rattle.hint.proofs.character.first_fault.Lts as lts
-use Rattle.hint.proofs.character.character_size.Reads as character-size-reads
 
 abbrev Inv-loop : tie.InvT-loop
 Inv-loop format s i₀ i = stuckAt (from (characterSize format s) (length s) i) ≡ stuckAt (cut (characterSize format s) (length s))
@@ -21,15 +18,12 @@ Inv-loop format s i₀ i = stuckAt (from (characterSize format s) (length s) i) 
 abbrev μ-loop : tie.MeasureT-loop
 μ-loop format s i₀ i = length s - i
 
--- src/character.rt:107:5
 loop-holds : tie.Need-loop-holds Inv-loop μ-loop
 loop-holds c = ap stuckAt (from-start (characterSize (c .before .args .format) (c .before .args .s .now)) (length (c .before .args .s .now)))
 
--- src/character.rt:108:13
 character-size-requires : tie.Need-character-size-requires Inv-loop μ-loop
 character-size-requires c κs = c .loop-test .taken
 
--- src/character.rt:110:13
 returns : tie.Need-returns Inv-loop μ-loop
 unfolding Rattle.hint.specs.Inner.stuckAt
 returns c =
@@ -38,7 +32,6 @@ returns c =
     sym (ap stuckAt (from-stuck (characterSize (a .format) (a .s .now)) (length (a .s .now)) (c .before .before .before .loop .i) (c .before .before .loop-test .taken) none))
     ∙ c .before .before .before .loop .inv
 
--- src/character.rt:112:9
 add-i : tie.Need-add-i Inv-loop μ-loop
 add-i c =
     let a = c .before .before .before .before .before .args in
@@ -46,11 +39,9 @@ add-i c =
     let size = c .before .character-size .ensures in
     omega (arith, c .before .before .before .before .before .good)
 
--- src/character.rt:107:5
 loop-less : tie.Need-loop-less Inv-loop μ-loop
 loop-less c = omega arith
 
--- src/character.rt:107:5
 loop-again : tie.Need-loop-again Inv-loop μ-loop
 loop-again c =
     let a = c .before .before .before .before .before .args in
@@ -63,7 +54,6 @@ loop-again c =
     ∙ sym (ap stuckAt (from-item size (length (a .s .now)) i (c .before .before .loop-test .taken) some))
     ∙ c .before .before .before .loop .inv
 
--- src/character.rt:103:1
 returns-2 : tie.Need-returns-2 Inv-loop μ-loop
 unfolding Rattle.hint.specs.Inner.stuckAt
 returns-2 c =

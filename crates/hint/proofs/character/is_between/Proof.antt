@@ -1,18 +1,13 @@
 -- `is_between` is right: it is the definition, test by test.
 -- Assumes nothing.
-use mathlib.Core.Path.{sym}
 use borrow.Author.Tests.{le-leb, lt-leb}
 use Rattle.hint.proofs.character.is_between.Statement.{statement}
 use Rattle.hint.proofs.character.is_between.Tie as tie
-use Rattle.hint.proofs.character.is_between.Reads as reads
-use Rattle.hint.proofs.character.is_between.Lts as lts
 
--- src/character.rt:11:1
 returns : tie.Need-returns
 unfolding Rattle.hint.specs.Character.between
 returns c = simp (le-leb _ _ (c .if1 .taken))
 
--- src/character.rt:11:1
 returns-2 : tie.Need-returns-2
 unfolding Rattle.hint.specs.Character.between
 returns-2 c = simp (lt-leb _ _ (c .if1 .left))

@@ -5,43 +5,32 @@ use mathlib.Core.Path.{sym, _∙_}
 use borrow.Author.Tests.{lt-ltb, le-ltb}
 use Rattle.hint.proofs.character.lead_size.Statement.{statement}
 use Rattle.hint.proofs.character.lead_size.Tie as tie
-use Rattle.hint.proofs.character.lead_size.Reads as reads
-use Rattle.hint.proofs.character.lead_size.Lts as lts
-use Rattle.hint.proofs.character.is_between.Reads as is-between-reads
 
--- src/character.rt:23:15
 is-between-requires : tie.Need-is-between-requires
 is-between-requires c κs = search needs
 
--- src/character.rt:25:15
 is-between-requires-2 : tie.Need-is-between-requires-2
 is-between-requires-2 c κs = search needs
 
--- src/character.rt:27:15
 is-between-requires-3 : tie.Need-is-between-requires-3
 is-between-requires-3 c κs = search needs
 
--- src/character.rt:18:1
 returns : tie.Need-returns
 unfolding Rattle.hint.specs.Character.leadSize
 returns c = simp (lt-ltb _ _ (c .if1 .taken))
 
--- src/character.rt:18:1
 returns-2 : tie.Need-returns-2
 unfolding Rattle.hint.specs.Character.leadSize
 returns-2 c = simp (le-ltb _ _ (c .before .before .if1 .left), sym (c .before .is-between .ensures) ∙ c .if2 .taken)
 
--- src/character.rt:18:1
 returns-3 : tie.Need-returns-3
 unfolding Rattle.hint.specs.Character.leadSize
 returns-3 c = simp (le-ltb _ _ (c .before .before .before .before .if1 .left), sym (c .before .before .before .is-between .ensures) ∙ c .before .before .if2 .left, sym (c .before .is-between2 .ensures) ∙ c .if3 .taken)
 
--- src/character.rt:18:1
 returns-4 : tie.Need-returns-4
 unfolding Rattle.hint.specs.Character.leadSize
 returns-4 c = simp (le-ltb _ _ (c .before .before .before .before .before .before .if1 .left), sym (c .before .before .before .before .before .is-between .ensures) ∙ c .before .before .before .before .if2 .left, sym (c .before .before .before .is-between2 .ensures) ∙ c .before .before .if3 .left, sym (c .before .is-between3 .ensures) ∙ c .if4 .taken)
 
--- src/character.rt:18:1
 returns-5 : tie.Need-returns-5
 unfolding Rattle.hint.specs.Character.leadSize
 returns-5 c = simp (le-ltb _ _ (c .before .before .before .before .before .before .if1 .left), sym (c .before .before .before .before .before .is-between .ensures) ∙ c .before .before .before .before .if2 .left, sym (c .before .before .before .is-between2 .ensures) ∙ c .before .before .if3 .left, sym (c .before .is-between3 .ensures) ∙ c .if4 .left)

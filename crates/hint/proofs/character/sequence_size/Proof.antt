@@ -11,23 +11,13 @@ use Rattle.hint.specs.Character.{between, tail, leadSize, secondLow, sec
 use Rattle.hint.specs.Buffer.{byteAt}
 use Rattle.hint.proofs.character.sequence_size.Statement.{statement}
 use Rattle.hint.proofs.character.sequence_size.Tie as tie
-use Rattle.hint.proofs.character.sequence_size.Reads as reads
-use Rattle.hint.proofs.character.sequence_size.Lts as lts
-use Rattle.hint.proofs.buffer.byte_at.Reads as byte-at-reads
-use Rattle.hint.proofs.character.is_between.Reads as is-between-reads
-use Rattle.hint.proofs.character.lead_size.Reads as lead-size-reads
-use Rattle.hint.proofs.character.second_high.Reads as second-high-reads
-use Rattle.hint.proofs.character.second_low.Reads as second-low-reads
 
--- src/character.rt:65:9
 byte-at-requires : tie.Need-byte-at-requires
 byte-at-requires c κs = search needs
 
--- src/character.rt:66:9
 lead-size-requires : tie.Need-lead-size-requires
 lead-size-requires c κs = search needs
 
--- src/character.rt:68:9
 returns : tie.Need-returns
 unfolding Rattle.hint.specs.Character.sequenceSize Rattle.hint.specs.Character.tails Rattle.hint.specs.Character.tail
 returns c =
@@ -39,27 +29,21 @@ returns c =
     let l3 : leb (leadSize (byteAt s (a .i))) 3 ≡ true = ap (λ (k : ℕ). leb k 3) (sym n) ∙ le-leb (c .before .lead-size .result) 3 (omega (arith, c .if1 .taken)) in
     simp (l1, l2, l3) n
 
--- src/character.rt:70:20
 second-low-requires : tie.Need-second-low-requires
 second-low-requires c κs = search needs
 
--- src/character.rt:70:38
 second-high-requires : tie.Need-second-high-requires
 second-high-requires c κs = search needs
 
--- src/character.rt:70:68
 add-byte-at : tie.Need-add-byte-at
 add-byte-at c = search needs
 
--- src/character.rt:70:57
 byte-at-requires-2 : tie.Need-byte-at-requires-2
 byte-at-requires-2 c κs = search needs
 
--- src/character.rt:70:9
 is-between-requires : tie.Need-is-between-requires
 is-between-requires c κs = search needs
 
--- src/character.rt:71:9
 returns-2 : tie.Need-returns-2
 unfolding Rattle.hint.specs.Character.sequenceSize Rattle.hint.specs.Character.tails Rattle.hint.specs.Character.tail
 returns-2 c =
@@ -71,7 +55,6 @@ returns-2 c =
     let t₁ : between (secondLow (byteAt s (a .i))) (secondHigh (byteAt s (a .i))) (byteAt s (a .i + 1)) ≡ false = cc in
     simp (l1, t₁)
 
--- src/character.rt:74:9
 returns-3 : tie.Need-returns-3
 unfolding Rattle.hint.specs.Character.sequenceSize Rattle.hint.specs.Character.tails Rattle.hint.specs.Character.tail
 returns-3 c =
@@ -85,19 +68,15 @@ returns-3 c =
     let l3 : leb (leadSize (byteAt s (a .i))) 3 ≡ true = ap (λ (k : ℕ). leb k 3) (sym n) ∙ le-leb (c .before .before .before .before .before .before .before .lead-size .result) 3 (omega (arith, c .if3 .taken)) in
     simp (l1, t₁, l2, l3) n
 
--- src/character.rt:76:43
 add-byte-at-2 : tie.Need-add-byte-at-2
 add-byte-at-2 c = search needs
 
--- src/character.rt:76:32
 byte-at-requires-3 : tie.Need-byte-at-requires-3
 byte-at-requires-3 c κs = search needs
 
--- src/character.rt:76:9
 is-between-requires-2 : tie.Need-is-between-requires-2
 is-between-requires-2 c κs = search needs
 
--- src/character.rt:77:9
 returns-4 : tie.Need-returns-4
 unfolding Rattle.hint.specs.Character.sequenceSize Rattle.hint.specs.Character.tails Rattle.hint.specs.Character.tail
 returns-4 c =
@@ -111,7 +90,6 @@ returns-4 c =
     let t₂ : tail (byteAt s (a .i + 2)) ≡ false = ap tail (sym (c .before .before .byte-at3 .ensures)) ∙ sym (c .before .is-between2 .ensures) ∙ not-true _ (c .if4 .taken) in
     simp (l1, t₁, l2, t₂)
 
--- src/character.rt:80:9
 returns-5 : tie.Need-returns-5
 unfolding Rattle.hint.specs.Character.sequenceSize Rattle.hint.specs.Character.tails Rattle.hint.specs.Character.tail
 returns-5 c =
@@ -126,19 +104,15 @@ returns-5 c =
     let l3 : leb (leadSize (byteAt s (a .i))) 3 ≡ true = ap (λ (k : ℕ). leb k 3) (sym n) ∙ le-leb (c .before .before .before .before .before .before .before .before .before .before .before .lead-size .result) 3 (omega (arith, c .if5 .taken)) in
     simp (l1, t₁, l2, t₂, l3) n
 
--- src/character.rt:82:43
 add-byte-at-3 : tie.Need-add-byte-at-3
 add-byte-at-3 c = search needs
 
--- src/character.rt:82:32
 byte-at-requires-4 : tie.Need-byte-at-requires-4
 byte-at-requires-4 c κs = search needs
 
--- src/character.rt:82:9
 is-between-requires-3 : tie.Need-is-between-requires-3
 is-between-requires-3 c κs = search needs
 
--- src/character.rt:83:9
 returns-6 : tie.Need-returns-6
 unfolding Rattle.hint.specs.Character.sequenceSize Rattle.hint.specs.Character.tails Rattle.hint.specs.Character.tail
 returns-6 c =
@@ -154,7 +128,6 @@ returns-6 c =
     let t₃ : tail (byteAt s (a .i + 3)) ≡ false = ap tail (sym (c .before .before .byte-at4 .ensures)) ∙ sym (c .before .is-between3 .ensures) ∙ not-true _ (c .if6 .taken) in
     simp (l1, t₁, l2, t₂, l3, t₃)
 
--- src/character.rt:61:1
 returns-7 : tie.Need-returns-7
 unfolding Rattle.hint.specs.Character.sequenceSize Rattle.hint.specs.Character.tails Rattle.hint.specs.Character.tail
 returns-7 c =

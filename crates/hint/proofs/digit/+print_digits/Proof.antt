@@ -12,7 +12,7 @@ use lib.ListN.{length}
 use Rattle.hint.proofs.DigitLaws.{quotient-less, digits-last, digits-step, digits-longer}
 use Rattle.hint.proofs.Writing.{wrote-more}
 use Rattle.hint.specs.Inner.{Wrote}
-use Rattle.hint.specs.Digits.{digits, glyph}
+use Rattle.hint.specs.Digits.{digits}
 use Rattle.hint.proofs.digit.print_digits.Reads as print-digits
 use Rattle.hint.proofs.digit.print_digits.Kinds as print-digits-kinds
 use Rattle.hint.proofs.digit.+print_digits.Lts-print_digits as print-digits-lts
@@ -36,7 +36,6 @@ print-digits-below t =
     (falls 1 print-digits-kinds.ps _<_ μ-print-digits t)
     print-digits.Pre
 
--- src/digit.rt:39:29
 print-digits-glyph-of-requires : (t : ℕ) → print-digits-lts.Need-glyph-of-requires (
   glyph-of-reads.Asked,
   glyph-of-reads.Learnt,
@@ -47,7 +46,6 @@ print-digits-glyph-of-requires : (t : ℕ) → print-digits-lts.Need-glyph-of-re
 ) (print-digits-at t) print-digits.Post
 print-digits-glyph-of-requires t c κs = omega arith
 
--- src/digit.rt:39:9
 print-digits-put-requires : (t : ℕ) → print-digits-lts.Need-put-requires (
   glyph-of-reads.Asked,
   glyph-of-reads.Learnt,
@@ -61,7 +59,6 @@ print-digits-put-requires t c κs =
     let one = ap length (digits-last (a .base) (a .n) (c .before .before .if1 .taken)) in
     omega arith
 
--- src/digit.rt:39:9
 print-digits-same-length : (t : ℕ) → print-digits-lts.Need-same-length (
   glyph-of-reads.Asked,
   glyph-of-reads.Learnt,
@@ -72,7 +69,6 @@ print-digits-same-length : (t : ℕ) → print-digits-lts.Need-same-length (
 ) (print-digits-at t) print-digits.Post
 print-digits-same-length t c = c .before .before .put .kept .0
 
--- src/digit.rt:39:9
 print-digits-returns : (t : ℕ) → print-digits-lts.Need-returns (
   glyph-of-reads.Asked,
   glyph-of-reads.Learnt,
@@ -87,7 +83,6 @@ print-digits-returns t c =
     ap (λ (b : ℕ). b ∷ []) (c .before .before .before .glyph-of .ensures) ∙ sym (digits-last (a .base) (a .n) (c .before .before .before .before .before .if1 .taken)) in
     subst (λ (l : List ℕ). Wrote l (a .at) (c .before .before .put .result) (a .out .now) (c .before .before .put .last .0)) one (c .before .before .put .ensures)
 
--- src/digit.rt:41:29
 print-digits-div-print-digits : (t : ℕ) → print-digits-lts.Need-div-print-digits (
   glyph-of-reads.Asked,
   glyph-of-reads.Learnt,
@@ -98,7 +93,6 @@ print-digits-div-print-digits : (t : ℕ) → print-digits-lts.Need-div-print-di
 ) (print-digits-at t) print-digits.Post
 print-digits-div-print-digits t c = omega arith
 
--- src/digit.rt:41:9
 print-digits-print-digits-requires : (t : ℕ) → print-digits-lts.Need-print-digits-requires (
   glyph-of-reads.Asked,
   glyph-of-reads.Learnt,
@@ -115,7 +109,6 @@ print-digits-print-digits-requires t c κs =
     let longer = digits-longer (a .base) (a .n) (p .1 .0 .0) large in
     (omega arith, (p .1 .0, omega arith))
 
--- src/digit.rt:42:29
 print-digits-rem-glyph-of : (t : ℕ) → print-digits-lts.Need-rem-glyph-of (
   glyph-of-reads.Asked,
   glyph-of-reads.Learnt,
@@ -126,7 +119,6 @@ print-digits-rem-glyph-of : (t : ℕ) → print-digits-lts.Need-rem-glyph-of (
 ) (print-digits-at t) print-digits.Post
 print-digits-rem-glyph-of t c = omega (arith, c .before .before .before .before .before .before .before .pre .1 .0)
 
--- src/digit.rt:42:20
 print-digits-glyph-of-requires-2 : (t : ℕ) → print-digits-lts.Need-glyph-of-requires-2 (
   glyph-of-reads.Asked,
   glyph-of-reads.Learnt,
@@ -143,7 +135,6 @@ print-digits-glyph-of-requires-2 t c κs =
     let below = mod-lt (a .n) {m = a .base} (omega arith) in
     omega arith
 
--- src/digit.rt:42:5
 print-digits-put-requires-2 : (t : ℕ) → print-digits-lts.Need-put-requires-2 (
   glyph-of-reads.Asked,
   glyph-of-reads.Learnt,
@@ -160,7 +151,6 @@ print-digits-put-requires-2 t c κs =
     let kept = c .before .before .before .before .print-digits .kept .1 .1 .0 in
     omega (arith, p .1)
 
--- src/digit.rt:33:1
 print-digits-same-length-2 : (t : ℕ) → print-digits-lts.Need-same-length-2 (
   glyph-of-reads.Asked,
   glyph-of-reads.Learnt,
@@ -171,7 +161,6 @@ print-digits-same-length-2 : (t : ℕ) → print-digits-lts.Need-same-length-2 (
 ) (print-digits-at t) print-digits.Post
 print-digits-same-length-2 t c = c .before .before .put2 .kept .0 ∙ c .before .before .before .before .before .before .before .print-digits .kept .1 .1 .0
 
--- src/digit.rt:33:1
 print-digits-returns-2 : (t : ℕ) → print-digits-lts.Need-returns-2 (
   glyph-of-reads.Asked,
   glyph-of-reads.Learnt,

@@ -11,7 +11,7 @@ use lib.Dec.{lit≤}
 use Rattle.hint.proofs.DigitLaws.{pointed-none, pointed-step, pointed-longer}
 use Rattle.hint.proofs.Writing.{wrote-more}
 use Rattle.hint.specs.Inner.{Wrote}
-use Rattle.hint.specs.Digits.{digits, glyph, pointed}
+use Rattle.hint.specs.Digits.{digits, pointed}
 use Rattle.hint.proofs.digit.print_pointed.Reads as print-pointed
 use Rattle.hint.proofs.digit.print_pointed.Kinds as print-pointed-kinds
 use Rattle.hint.proofs.digit.+print_pointed.Lts-print_pointed as print-pointed-lts
@@ -36,7 +36,6 @@ print-pointed-below t =
     (falls 1 print-pointed-kinds.ps _<_ μ-print-pointed t)
     print-pointed.Pre
 
--- src/digit.rt:51:13
 print-pointed-print-digits-requires : (t : ℕ) → print-pointed-lts.Need-print-digits-requires (
   print-digits-reads.Asked,
   print-digits-reads.Learnt,
@@ -53,7 +52,6 @@ print-pointed-print-digits-requires t c κs =
     let more = length-append (digits 10 (a .n)) (46 ∷ []) in
     ((lit≤ tt, lit≤ tt), omega (arith, c .before .before .before .pre))
 
--- src/digit.rt:52:9
 print-pointed-put-requires : (t : ℕ) → print-pointed-lts.Need-put-requires (
   print-digits-reads.Asked,
   print-digits-reads.Learnt,
@@ -72,7 +70,6 @@ print-pointed-put-requires t c κs =
     let kept = c .before .before .before .print-digits .kept .1 .1 .0 in
     omega (arith, c .before .before .before .before .before .before .before .pre)
 
--- src/digit.rt:52:9
 print-pointed-same-length : (t : ℕ) → print-pointed-lts.Need-same-length (
   print-digits-reads.Asked,
   print-digits-reads.Learnt,
@@ -85,7 +82,6 @@ print-pointed-same-length : (t : ℕ) → print-pointed-lts.Need-same-length (
 ) (print-pointed-at t) print-pointed.Post
 print-pointed-same-length t c = c .before .before .put .kept .0 ∙ c .before .before .before .before .before .before .print-digits .kept .1 .1 .0
 
--- src/digit.rt:52:9
 print-pointed-returns : (t : ℕ) → print-pointed-lts.Need-returns (
   print-digits-reads.Asked,
   print-digits-reads.Learnt,
@@ -104,7 +100,6 @@ print-pointed-returns t c =
     subst (λ (l : List ℕ). Wrote l (a .at) (c .before .before .put .result) (a .out .now) (c .before .before .put .last .0)) (sym none)
     (wrote-more (omega (arith, c .before .before .before .before .before .before .before .before .before .before .pre)) (c .before .before .before .before .before .before .print-digits .ensures) (c .before .before .put .ensures))
 
--- src/digit.rt:54:38
 print-pointed-sub-print-pointed : (t : ℕ) → print-pointed-lts.Need-sub-print-pointed (
   print-digits-reads.Asked,
   print-digits-reads.Learnt,
@@ -117,7 +112,6 @@ print-pointed-sub-print-pointed : (t : ℕ) → print-pointed-lts.Need-sub-print
 ) (print-pointed-at t) print-pointed.Post
 print-pointed-sub-print-pointed t c = omega arith
 
--- src/digit.rt:54:9
 print-pointed-print-pointed-requires : (t : ℕ) → print-pointed-lts.Need-print-pointed-requires (
   print-digits-reads.Asked,
   print-digits-reads.Learnt,
@@ -134,7 +128,6 @@ print-pointed-print-pointed-requires t c κs =
     let longer = pointed-longer (a .places) (a .n) some in
     (omega (arith, c .before .before .before .pre), omega (arith, c .before .before .before .pre))
 
--- src/digit.rt:55:20
 print-pointed-glyph-of-requires : (t : ℕ) → print-pointed-lts.Need-glyph-of-requires (
   print-digits-reads.Asked,
   print-digits-reads.Learnt,
@@ -147,7 +140,6 @@ print-pointed-glyph-of-requires : (t : ℕ) → print-pointed-lts.Need-glyph-of-
 ) (print-pointed-at t) print-pointed.Post
 print-pointed-glyph-of-requires t c κs = omega arith
 
--- src/digit.rt:55:5
 print-pointed-put-requires-2 : (t : ℕ) → print-pointed-lts.Need-put-requires-2 (
   print-digits-reads.Asked,
   print-digits-reads.Learnt,
@@ -166,7 +158,6 @@ print-pointed-put-requires-2 t c κs =
     let kept = c .before .before .before .before .print-pointed .kept .1 .1 .0 in
     omega (arith, c .before .before .before .before .before .before .before .before .pre)
 
--- src/digit.rt:46:1
 print-pointed-same-length-2 : (t : ℕ) → print-pointed-lts.Need-same-length-2 (
   print-digits-reads.Asked,
   print-digits-reads.Learnt,
@@ -179,7 +170,6 @@ print-pointed-same-length-2 : (t : ℕ) → print-pointed-lts.Need-same-length-2
 ) (print-pointed-at t) print-pointed.Post
 print-pointed-same-length-2 t c = c .before .before .put2 .kept .0 ∙ c .before .before .before .before .before .before .before .print-pointed .kept .1 .1 .0
 
--- src/digit.rt:46:1
 print-pointed-returns-2 : (t : ℕ) → print-pointed-lts.Need-returns-2 (
   print-digits-reads.Asked,
   print-digits-reads.Learnt,

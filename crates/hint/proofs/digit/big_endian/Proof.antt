@@ -1,10 +1,9 @@
 -- `big_endian` is right: at i the octets from i on, after those that were read, are worth the same. What was read is below 256 ^ i.
 -- Assumes nothing.
-use Prim.Native.Nat.{ℕ, suc, _+_, _-_, _*_, _^_, _<_, _≤_}
+use Prim.Native.Nat.{ℕ, _+_, _-_, _*_, _^_, _<_, _≤_}
 use mathlib.Core.Path.{_≡_, refl, sym, ap, _∙_}
-use mathlib.Core.List.{List, _∷_}
 use native.Mathlib.Omega.{arith}
-use native.Mathlib.Nat.{pow-suc, pow-zero}
+use native.Mathlib.Nat.{pow-suc}
 use native.Mathlib.Numerals.{add-one}
 use lib.Dec.{lit<}
 use lib.ListN.{length, getD, drop}
@@ -13,8 +12,6 @@ use Rattle.hint.proofs.DigitLaws.{power-fits}
 use Rattle.hint.specs.Digits.{bigEndian}
 use Rattle.hint.proofs.digit.big_endian.Statement.{statement}
 use Rattle.hint.proofs.digit.big_endian.Tie as tie
-use Rattle.hint.proofs.digit.big_endian.Reads as reads
-use Rattle.hint.proofs.digit.big_endian.Lts as lts
 
 abbrev Inv-loop : tie.InvT-loop
 Inv-loop s n₀ i₀ n i = (bigEndian n (drop i s) ≡ bigEndian 0 s) × (n < 256 ^ i) × (i ≤ length s)
@@ -22,41 +19,33 @@ Inv-loop s n₀ i₀ n i = (bigEndian n (drop i s) ≡ bigEndian 0 s) × (n < 25
 abbrev μ-loop : tie.MeasureT-loop
 μ-loop s n₀ i₀ n i = length s - i
 
--- src/digit.rt:65:5
 loop-holds : tie.Need-loop-holds Inv-loop μ-loop
 loop-holds c = (refl, lit< tt, omega arith)
 
--- src/digit.rt:66:13
 mul-n : tie.Need-mul-n Inv-loop μ-loop
 mul-n c =
     let i = c .before .loop .i in
     let large = power-fits i (omega arith) in
     omega (arith, pow-suc 256 i)
 
--- src/digit.rt:66:23
 shared-slice-read-n : tie.Need-shared-slice-read-n Inv-loop μ-loop
 shared-slice-read-n c = omega arith
 
--- src/digit.rt:66:23
 cast-n : tie.Need-cast-n Inv-loop μ-loop
 cast-n c = omega (arith, c .shared-slice-known .given (c .before .before .loop .i))
 
--- src/digit.rt:66:13
 add-n : tie.Need-add-n Inv-loop μ-loop
 add-n c =
     let i = c .before .before .loop .i in
     let large = power-fits i (omega arith) in
     omega (arith, pow-suc 256 i, c .shared-slice-known .given i)
 
--- src/digit.rt:67:9
 add-i : tie.Need-add-i Inv-loop μ-loop
 add-i c = omega arith
 
--- src/digit.rt:65:5
 loop-less : tie.Need-loop-less Inv-loop μ-loop
 loop-less c = omega arith
 
--- src/digit.rt:65:5
 loop-again : tie.Need-loop-again Inv-loop μ-loop
 unfolding Rattle.hint.specs.Digits.bigEndian
 loop-again c =
@@ -70,7 +59,6 @@ loop-again c =
     let power : 256 ^ (i + 1) ≡ 256 ^ i * 256 = ap (λ (k : ℕ). 256 ^ k) (add-one i) ∙ pow-suc 256 i in
     (sym step ∙ inv .0, omega (arith, c .shared-slice-known .given i), omega arith)
 
--- src/digit.rt:59:1
 returns : tie.Need-returns Inv-loop μ-loop
 unfolding Rattle.hint.specs.Digits.bigEndian
 returns c =

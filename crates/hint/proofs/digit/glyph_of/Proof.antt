@@ -4,31 +4,23 @@ use borrow.Author.Needs.{needs}
 use borrow.Author.Tests.{lt-ltb, le-ltb}
 use Rattle.hint.proofs.digit.glyph_of.Statement.{statement}
 use Rattle.hint.proofs.digit.glyph_of.Tie as tie
-use Rattle.hint.proofs.digit.glyph_of.Reads as reads
-use Rattle.hint.proofs.digit.glyph_of.Lts as lts
 
--- src/digit.rt:29:18
 add-result : tie.Need-add-result
 add-result c = search needs
 
--- src/digit.rt:29:17
 cast-result : tie.Need-cast-result
 cast-result c = search needs
 
--- src/digit.rt:29:42
 add-result-2 : tie.Need-add-result-2
 add-result-2 c = search needs
 
--- src/digit.rt:29:41
 cast-result-2 : tie.Need-cast-result-2
 cast-result-2 c = search needs
 
--- src/digit.rt:25:1
 returns : tie.Need-returns
 unfolding Rattle.hint.specs.Digits.glyph
 returns c = simp (lt-ltb _ _ (c .if1 .taken))
 
--- src/digit.rt:25:1
 returns-2 : tie.Need-returns-2
 unfolding Rattle.hint.specs.Digits.glyph
 returns-2 c = simp (le-ltb _ _ (c .if1 .left))

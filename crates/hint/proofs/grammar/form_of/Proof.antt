@@ -6,37 +6,26 @@ use mathlib.Core.Path.{_≡_, sym, ap, _∙_}
 use mathlib.Core.Bool.{true, false, _||_}
 use mathlib.Core.Logic.{⊎-elim, inl, inr}
 use lib.Dec.{eqb}
-use lib.ListN.{length}
 use borrow.Author.Tests.{eq-eqb, ne-eqb}
 use Rattle.hint.specs.declared.Form.the-variants.{Base}
 use Rattle.hint.specs.Digits.{baseOf}
 use Rattle.hint.specs.Buffer.{byteAt}
 use Rattle.hint.proofs.grammar.form_of.Statement.{statement}
 use Rattle.hint.proofs.grammar.form_of.Tie as tie
-use Rattle.hint.proofs.grammar.form_of.Reads as reads
-use Rattle.hint.proofs.grammar.form_of.Lts as lts
-use Rattle.hint.proofs.buffer.byte_at.Reads as byte-at-reads
-use Rattle.hint.proofs.digit.base_of.Reads as base-of-reads
-use Rattle.hint.proofs.grammar.point_of.Reads as point-of-reads
 
--- src/grammar.rt:213:9
 point-of-requires : tie.Need-point-of-requires
 point-of-requires c κs = search needs
 
--- src/grammar.rt:213:9
 returns : tie.Need-returns
 unfolding Rattle.hint.specs.Hint.readForm
 returns c = simp (ne-eqb _ _ (c .before .if1 .taken)) (c .point-of .ensures)
 
--- src/grammar.rt:215:9
 byte-at-requires : tie.Need-byte-at-requires
 byte-at-requires c κs = search needs
 
--- src/grammar.rt:217:49
 base-of-requires : tie.Need-base-of-requires
 base-of-requires c κs = search needs
 
--- src/grammar.rt:209:1
 returns-2 : tie.Need-returns-2
 unfolding Rattle.hint.specs.Hint.readForm
 returns-2 c =
@@ -47,7 +36,6 @@ returns-2 c =
     let known = ap (λ (b : ℕ). eqb b 120 || eqb b 111 || eqb b 98 || eqb b 100) (sym letter) ∙ one in
     simp (eq-eqb _ _ (c .before .before .before .if1 .left), known) (ap Base (c .base-of .ensures ∙ ap baseOf letter))
 
--- src/grammar.rt:209:1
 returns-3 : tie.Need-returns-3
 unfolding Rattle.hint.specs.Hint.readForm Rattle.hint.specs.Hint.readPoint
 returns-3 c =

@@ -4,20 +4,15 @@ use native.Mathlib.Omega.{arith}
 use borrow.Author.Tests.{eq-eqb, ne-eqb, le-ltb, lt-ltb}
 use Rattle.hint.proofs.grammar.is_allowed.Statement.{statement}
 use Rattle.hint.proofs.grammar.is_allowed.Tie as tie
-use Rattle.hint.proofs.grammar.is_allowed.Reads as reads
-use Rattle.hint.proofs.grammar.is_allowed.Lts as lts
 
--- src/grammar.rt:110:9
 returns : tie.Need-returns
 unfolding Rattle.hint.specs.Hint.allowed
 returns c = simp (eq-eqb _ _ (c .if1 .taken))
 
--- src/grammar.rt:113:9
 returns-2 : tie.Need-returns-2
 unfolding Rattle.hint.specs.Hint.allowed
 returns-2 c = simp (ne-eqb _ _ (c .before .if1 .left), le-ltb 0 (c .before .before .args .value) (omega arith))
 
--- src/grammar.rt:106:1
 returns-3 : tie.Need-returns-3
 unfolding Rattle.hint.specs.Hint.allowed
 returns-3 c = simp (ne-eqb _ _ (c .before .if1 .left), lt-ltb 0 (c .before .before .args .value) (omega (arith, c .if2 .left)))

@@ -3,15 +3,11 @@
 use borrow.Author.Tests.{le-leb, lt-leb}
 use Rattle.hint.proofs.grammar.is_digit.Statement.{statement}
 use Rattle.hint.proofs.grammar.is_digit.Tie as tie
-use Rattle.hint.proofs.grammar.is_digit.Reads as reads
-use Rattle.hint.proofs.grammar.is_digit.Lts as lts
 
--- src/grammar.rt:14:1
 returns : tie.Need-returns
 unfolding Rattle.hint.specs.Hint.digit
 returns c = simp (le-leb _ _ (c .if1 .taken))
 
--- src/grammar.rt:14:1
 returns-2 : tie.Need-returns-2
 unfolding Rattle.hint.specs.Hint.digit
 returns-2 c = simp (lt-leb _ _ (c .if1 .left))

@@ -1,6 +1,6 @@
 -- `is_hint` is right: at i the cut from i on is stuck where the whole cut is. The measure is what is left of the hint.
 -- Assumes nothing.
-use Prim.Native.Nat.{ℕ, _+_, _-_, _<_, _≤_}
+use Prim.Native.Nat.{ℕ, _+_, _-_, _<_}
 use mathlib.Core.Path.{_≡_, sym, ap, _∙_}
 use native.Mathlib.Omega.{arith}
 use borrow.Author.Needs.{needs}
@@ -13,9 +13,6 @@ use Rattle.hint.specs.Hint.{pieceSize}
 use Rattle.hint.specs.Cut.{cut}
 use Rattle.hint.proofs.grammar.is_hint.Statement.{statement}
 use Rattle.hint.proofs.grammar.is_hint.Tie as tie
-use Rattle.hint.proofs.grammar.is_hint.Reads as reads
-use Rattle.hint.proofs.grammar.is_hint.Lts as lts
-use Rattle.hint.proofs.grammar.piece_at.Reads as piece-at-reads
 
 abbrev Inv-loop : tie.InvT-loop
 Inv-loop hint i₀ i = stuckAt (from (pieceSize hint) (length hint) i) ≡ stuckAt (cut (pieceSize hint) (length hint))
@@ -23,39 +20,32 @@ Inv-loop hint i₀ i = stuckAt (from (pieceSize hint) (length hint) i) ≡ stuck
 abbrev μ-loop : tie.MeasureT-loop
 μ-loop hint i₀ i = length hint - i
 
--- src/grammar.rt:172:9
 returns : tie.Need-returns Inv-loop μ-loop
 unfolding Rattle.hint.specs.Hint.readHint Rattle.hint.specs.Inner.isPieces
 returns c =
     let h = c .before .before .args .hint .now in
     simp (lt-leb 1 (length h) (omega (arith, c .if1 .taken)))
 
--- src/grammar.rt:175:9
 returns-2 : tie.Need-returns-2 Inv-loop μ-loop
 unfolding Rattle.hint.specs.Hint.readHint Rattle.hint.specs.Inner.isPieces
 returns-2 c =
     let h = c .before .before .before .args .hint .now in
     simp (le-leb 1 (length h) (omega (arith, c .if2 .taken)), lt-leb (length h) 255 (c .if2 .taken))
 
--- src/grammar.rt:178:5
 loop-holds : tie.Need-loop-holds Inv-loop μ-loop
 loop-holds c =
     let h = c .before .before .before .args .hint .now in
     ap stuckAt (from-start (pieceSize h) (length h))
 
--- src/grammar.rt:179:37
 piece-at-requires : tie.Need-piece-at-requires Inv-loop μ-loop
 piece-at-requires c κs = c .loop-test .taken
 
--- src/grammar.rt:179:29
 enum-known-next : tie.Need-enum-known-next Inv-loop μ-loop
 enum-known-next c = search needs
 
--- src/grammar.rt:180:13
 enum-told : tie.Need-enum-told Inv-loop μ-loop
 enum-told c = search needs
 
--- src/grammar.rt:180:13
 returns-3 : tie.Need-returns-3 Inv-loop μ-loop
 unfolding Rattle.hint.specs.Inner.stuckAt
 returns-3 c =
@@ -65,7 +55,6 @@ returns-3 c =
     let at = from-stuck (pieceSize h) (length h) i (c .before .before .before .loop-test .taken) none in
     sym (pieces-whole h (omega (arith, c .before .before .before .before .before .before .if1 .left)) (c .before .before .before .before .before .if2 .left) ∙ ap nowhere (sym (c .before .before .before .before .loop .inv) ∙ ap stuckAt at))
 
--- src/grammar.rt:178:5
 loop-less : tie.Need-loop-less Inv-loop μ-loop
 loop-less c =
     let h = c .before .before .before .before .before .before .before .before .before .args .hint .now in
@@ -75,7 +64,6 @@ loop-less c =
     let is = found-whole h i p n (sym (c .before .next .given .1) ∙ c .before .before .before .piece-at .ensures) in
     omega (arith, is .2, piece-end-after h i, c .before .before .before .before .loop-test .taken)
 
--- src/grammar.rt:178:5
 loop-again : tie.Need-loop-again Inv-loop μ-loop
 loop-again c =
     let h = c .before .before .before .before .before .before .before .before .before .args .hint .now in
@@ -91,7 +79,6 @@ loop-again c =
     ∙ sym (ap stuckAt (from-item size (length h) i (c .before .before .before .before .loop-test .taken) some))
     ∙ c .before .before .before .before .before .loop .inv
 
--- src/grammar.rt:168:1
 returns-4 : tie.Need-returns-4 Inv-loop μ-loop
 unfolding Rattle.hint.specs.Inner.stuckAt
 returns-4 c =

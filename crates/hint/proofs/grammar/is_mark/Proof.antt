@@ -5,30 +5,22 @@ use mathlib.Core.Path.{sym, _∙_}
 use borrow.Author.Tests.{lt-leb, le-leb}
 use Rattle.hint.proofs.grammar.is_mark.Statement.{statement}
 use Rattle.hint.proofs.grammar.is_mark.Tie as tie
-use Rattle.hint.proofs.grammar.is_mark.Reads as reads
-use Rattle.hint.proofs.grammar.is_mark.Lts as lts
-use Rattle.hint.proofs.grammar.is_digit.Reads as is-digit-reads
 
--- src/grammar.rt:25:9
 returns : tie.Need-returns
 unfolding Rattle.hint.specs.Hint.mark
 returns c = simp (lt-leb _ _ (c .if1 .taken))
 
--- src/grammar.rt:28:9
 returns-2 : tie.Need-returns-2
 unfolding Rattle.hint.specs.Hint.mark
 returns-2 c = simp (le-leb _ _ (c .before .if1 .left), lt-leb _ _ (c .if2 .taken))
 
--- src/grammar.rt:30:8
 is-digit-requires : tie.Need-is-digit-requires
 is-digit-requires c κs = search needs
 
--- src/grammar.rt:31:9
 returns-3 : tie.Need-returns-3
 unfolding Rattle.hint.specs.Hint.mark
 returns-3 c = simp (le-leb _ _ (c .before .before .before .if1 .left), le-leb _ _ (c .before .before .if2 .left), sym (c .before .is-digit .ensures) ∙ c .if3 .taken)
 
--- src/grammar.rt:21:1
 returns-4 : tie.Need-returns-4
 unfolding Rattle.hint.specs.Hint.mark
 returns-4 c = simp (le-leb _ _ (c .before .before .before .if1 .left), le-leb _ _ (c .before .before .if2 .left), sym (c .before .is-digit .ensures) ∙ c .if3 .left)

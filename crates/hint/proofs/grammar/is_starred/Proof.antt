@@ -6,15 +6,10 @@ use mathlib.Core.Path.{ap}
 use lib.Dec.{eqb}
 use Rattle.hint.proofs.grammar.is_starred.Statement.{statement}
 use Rattle.hint.proofs.grammar.is_starred.Tie as tie
-use Rattle.hint.proofs.grammar.is_starred.Reads as reads
-use Rattle.hint.proofs.grammar.is_starred.Lts as lts
-use Rattle.hint.proofs.buffer.byte_at.Reads as byte-at-reads
 
--- src/grammar.rt:122:5
 byte-at-requires : tie.Need-byte-at-requires
 byte-at-requires c κs = search needs
 
--- src/grammar.rt:119:1
 returns : tie.Need-returns
 unfolding Rattle.hint.specs.Hint.starred
 returns c = ap (λ (b : ℕ). eqb b 42) (c .byte-at .ensures)

@@ -7,24 +7,17 @@ use lib.Dec.{eqb}
 use borrow.Author.Tests.{eq-eqb, ne-eqb}
 use Rattle.hint.proofs.grammar.length_place.Statement.{statement}
 use Rattle.hint.proofs.grammar.length_place.Tie as tie
-use Rattle.hint.proofs.grammar.length_place.Reads as reads
-use Rattle.hint.proofs.grammar.length_place.Lts as lts
-use Rattle.hint.proofs.buffer.byte_at.Reads as byte-at-reads
 
--- src/grammar.rt:98:8
 byte-at-requires : tie.Need-byte-at-requires
 byte-at-requires c κs = search needs
 
--- src/grammar.rt:98:35
 add-result : tie.Need-add-result
 add-result c = search needs
 
--- src/grammar.rt:94:1
 returns : tie.Need-returns
 unfolding Rattle.hint.specs.Hint.lengthPlace Rattle.hint.specs.Hint.starred
 returns c = simp (ap (λ (b : ℕ). eqb b 42) (sym (c .before .byte-at .ensures)) ∙ eq-eqb _ _ (c .if1 .taken))
 
--- src/grammar.rt:94:1
 returns-2 : tie.Need-returns-2
 unfolding Rattle.hint.specs.Hint.lengthPlace Rattle.hint.specs.Hint.starred
 returns-2 c = simp (ap (λ (b : ℕ). eqb b 42) (sym (c .before .byte-at .ensures)) ∙ ne-eqb _ _ (c .if1 .left))

@@ -4,20 +4,15 @@ use mathlib.Core.Logic.{⊎-elim, inl, inr}
 use borrow.Author.Tests.{ne-eqb}
 use Rattle.hint.proofs.grammar.longest_of.Statement.{statement}
 use Rattle.hint.proofs.grammar.longest_of.Tie as tie
-use Rattle.hint.proofs.grammar.longest_of.Reads as reads
-use Rattle.hint.proofs.grammar.longest_of.Lts as lts
 
--- src/grammar.rt:83:1
 returns : tie.Need-returns
 unfolding Rattle.hint.specs.Hint.longest
 returns c = ⊎-elim (λ e. rw e) (⊎-elim (λ e. rw e) (λ e. rw e)) (c .match .keys1)
 
--- src/grammar.rt:83:1
 returns-2 : tie.Need-returns-2
 unfolding Rattle.hint.specs.Hint.longest
 returns-2 c = ⊎-elim (λ e. rw e) (λ e. rw e) (c .match .keys2)
 
--- src/grammar.rt:83:1
 returns-3 : tie.Need-returns-3
 unfolding Rattle.hint.specs.Hint.longest
 returns-3 c =

@@ -3,15 +3,11 @@
 use borrow.Author.Tests.{eq-eqb, ne-eqb}
 use Rattle.hint.proofs.grammar.mark_size.Statement.{statement}
 use Rattle.hint.proofs.grammar.mark_size.Tie as tie
-use Rattle.hint.proofs.grammar.mark_size.Reads as reads
-use Rattle.hint.proofs.grammar.mark_size.Lts as lts
 
--- src/grammar.rt:45:1
 returns : tie.Need-returns
 unfolding Rattle.hint.specs.Hint.markSize
 returns c = simp (eq-eqb _ _ (c .if1 .taken))
 
--- src/grammar.rt:45:1
 returns-2 : tie.Need-returns-2
 unfolding Rattle.hint.specs.Hint.markSize
 returns-2 c = simp (ne-eqb _ _ (c .if1 .left))

@@ -1,31 +1,23 @@
 -- `number_at` is right: each digit that was read is one step of the definition.
 -- Assumes nothing.
 use borrow.Author.Needs.{needs}
-use mathlib.Core.Path.{sym, ap, _∙_}
+use mathlib.Core.Path.{sym, ap, _∙_, _≡_}
 use borrow.Author.Tests.{not-true, not-false}
 use native.Mathlib.Omega.{arith}
 use Prim.Native.Nat.{_+_}
-use mathlib.Core.Path.{_≡_}
 use mathlib.Core.Bool.{true, false}
-use Rattle.hint.proofs.HintLaws.{digit-low, digit-high, number-is}
+use Rattle.hint.proofs.HintLaws.{digit-low, number-is}
 use Rattle.hint.specs.Buffer.{byteAt}
 use Rattle.hint.specs.Hint.{digit}
 use Rattle.hint.proofs.grammar.number_at.Statement.{statement}
 use Rattle.hint.proofs.grammar.number_at.Tie as tie
-use Rattle.hint.proofs.grammar.number_at.Reads as reads
-use Rattle.hint.proofs.grammar.number_at.Lts as lts
-use Rattle.hint.proofs.buffer.byte_at.Reads as byte-at-reads
-use Rattle.hint.proofs.grammar.is_digit.Reads as is-digit-reads
 
--- src/grammar.rt:56:9
 byte-at-requires : tie.Need-byte-at-requires
 byte-at-requires c κs = search needs
 
--- src/grammar.rt:57:9
 is-digit-requires : tie.Need-is-digit-requires
 is-digit-requires c κs = search needs
 
--- src/grammar.rt:58:9
 returns : tie.Need-returns
 unfolding Rattle.hint.specs.Hint.numberAt Rattle.hint.specs.Hint.numberAfter
 returns c =
@@ -33,31 +25,24 @@ returns c =
     let d₁ : digit (byteAt (a .hint .now) (a .i)) ≡ false = ap digit (sym (c .before .before .byte-at .ensures)) ∙ sym (c .before .is-digit .ensures) ∙ not-true _ (c .if1 .taken) in
     simp (d₁) (number-is (omega arith) (omega arith))
 
--- src/grammar.rt:60:16
 sub-one : tie.Need-sub-one
 sub-one c = digit-low _ (sym (c .before .is-digit .ensures) ∙ not-false _ (c .if1 .left))
 
--- src/grammar.rt:60:15
 cast-one : tie.Need-cast-one
 cast-one c = search needs
 
--- src/grammar.rt:61:30
 add-byte-at : tie.Need-add-byte-at
 add-byte-at c = search needs
 
--- src/grammar.rt:61:9
 byte-at-requires-2 : tie.Need-byte-at-requires-2
 byte-at-requires-2 c κs = search needs
 
--- src/grammar.rt:62:9
 is-digit-requires-2 : tie.Need-is-digit-requires-2
 is-digit-requires-2 c κs = search needs
 
--- src/grammar.rt:65:19
 add-t12 : tie.Need-add-t12
 add-t12 c = search needs
 
--- src/grammar.rt:63:9
 returns-2 : tie.Need-returns-2
 unfolding Rattle.hint.specs.Hint.numberAt Rattle.hint.specs.Hint.numberAfter
 returns-2 c =
@@ -66,39 +51,30 @@ returns-2 c =
     let d₂ : digit (byteAt (a .hint .now) (a .i + 1)) ≡ false = ap digit (sym (c .before .before .byte-at2 .ensures)) ∙ sym (c .before .is-digit2 .ensures) ∙ not-true _ (c .if2 .taken) in
     simp (d₁, d₂) (number-is (omega arith) (omega arith))
 
--- src/grammar.rt:68:15
 mul-two : tie.Need-mul-two
 mul-two c = search needs
 
--- src/grammar.rt:68:27
 sub-two : tie.Need-sub-two
 sub-two c = digit-low _ (sym (c .before .is-digit2 .ensures) ∙ not-false _ (c .if2 .left))
 
--- src/grammar.rt:68:26
 cast-two : tie.Need-cast-two
 cast-two c = search needs
 
--- src/grammar.rt:68:15
 add-two : tie.Need-add-two
 add-two c = search needs
 
--- src/grammar.rt:69:31
 add-byte-at-2 : tie.Need-add-byte-at-2
 add-byte-at-2 c = search needs
 
--- src/grammar.rt:69:9
 byte-at-requires-3 : tie.Need-byte-at-requires-3
 byte-at-requires-3 c κs = search needs
 
--- src/grammar.rt:70:9
 is-digit-requires-3 : tie.Need-is-digit-requires-3
 is-digit-requires-3 c κs = search needs
 
--- src/grammar.rt:73:19
 add-t14 : tie.Need-add-t14
 add-t14 c = search needs
 
--- src/grammar.rt:71:9
 returns-3 : tie.Need-returns-3
 unfolding Rattle.hint.specs.Hint.numberAt Rattle.hint.specs.Hint.numberAfter
 returns-3 c =
@@ -109,27 +85,21 @@ returns-3 c =
     let d₃ : digit (byteAt (a .hint .now) (a .i + 1 + 1)) ≡ false = ap digit (sym (e₃)) ∙ sym (c .before .is-digit3 .ensures) ∙ not-true _ (c .if3 .taken) in
     simp (d₁, d₂, d₃) (number-is (omega arith) (omega arith))
 
--- src/grammar.rt:77:16
 mul-t11 : tie.Need-mul-t11
 mul-t11 c = search needs
 
--- src/grammar.rt:77:28
 sub-t10 : tie.Need-sub-t10
 sub-t10 c = digit-low _ (sym (c .before .is-digit3 .ensures) ∙ not-false _ (c .if3 .left))
 
--- src/grammar.rt:77:27
 cast-t13 : tie.Need-cast-t13
 cast-t13 c = search needs
 
--- src/grammar.rt:77:16
 add-t15 : tie.Need-add-t15
 add-t15 c = search needs
 
--- src/grammar.rt:78:15
 add-t16 : tie.Need-add-t16
 add-t16 c = search needs
 
--- src/grammar.rt:52:1
 returns-4 : tie.Need-returns-4
 unfolding Rattle.hint.specs.Hint.numberAt Rattle.hint.specs.Hint.numberAfter
 returns-4 c =

@@ -3,7 +3,7 @@
 use borrow.Author.Needs.{needs}
 use Prim.Native.Nat.{ℕ, _+_}
 use mathlib.Core.Path.{_≡_, sym, ap, _∙_}
-use mathlib.Core.Bool.{Bool, true, false, cond, not, _&&_}
+use mathlib.Core.Bool.{Bool, cond, not, _&&_}
 use native.Mathlib.Omega.{arith}
 use lib.Dec.{eqb}
 use borrow.Author.Tests.{not-true, not-false}
@@ -14,45 +14,27 @@ use Rattle.hint.specs.Hint.{numberAt, allowed, longest, lengthPlace, for
 use Rattle.hint.specs.Buffer.{byteAt}
 use Rattle.hint.proofs.grammar.piece_at.Statement.{statement}
 use Rattle.hint.proofs.grammar.piece_at.Tie as tie
-use Rattle.hint.proofs.grammar.piece_at.Reads as reads
-use Rattle.hint.proofs.grammar.piece_at.Lts as lts
-use Rattle.hint.proofs.buffer.byte_at.Reads as byte-at-reads
-use Rattle.hint.proofs.grammar.is_allowed.Reads as is-allowed-reads
-use Rattle.hint.proofs.grammar.is_starred.Reads as is-starred-reads
-use Rattle.hint.proofs.grammar.length_place.Reads as length-place-reads
-use Rattle.hint.proofs.grammar.longest_of.Reads as longest-of-reads
-use Rattle.hint.proofs.grammar.mark_at.Reads as mark-at-reads
-use Rattle.hint.proofs.grammar.mark_size.Reads as mark-size-reads
-use Rattle.hint.proofs.grammar.number_at.Reads as number-at-reads
-use Rattle.hint.proofs.grammar.terminator_at.Reads as terminator-at-reads
 
--- src/grammar.rt:143:9
 length-place-requires : tie.Need-length-place-requires
 length-place-requires c κs = search needs
 
--- src/grammar.rt:144:9
 number-at-requires : tie.Need-number-at-requires
 number-at-requires c κs =
     let a = c .before .before .args in
     omega (arith, c .length-place .ensures, length-place-near (a .hint .now) (a .i), c .before .before .pre, c .before .before .good)
 
--- src/grammar.rt:147:9
 byte-at-requires : tie.Need-byte-at-requires
 byte-at-requires c κs = search needs
 
--- src/grammar.rt:148:20
 byte-at-requires-2 : tie.Need-byte-at-requires-2
 byte-at-requires-2 c κs = search needs
 
--- src/grammar.rt:148:48
 longest-of-requires : tie.Need-longest-of-requires
 longest-of-requires c κs = search needs
 
--- src/grammar.rt:148:9
 is-allowed-requires : tie.Need-is-allowed-requires
 is-allowed-requires c κs = search needs
 
--- src/grammar.rt:149:9
 returns : tie.Need-returns
 unfolding Rattle.hint.specs.Hint.isPiece Rattle.hint.specs.Hint.bounded Rattle.hint.specs.Hint.formatPlace Rattle.hint.specs.Hint.pieceAt Rattle.hint.specs.Hint.pieceEnd Rattle.hint.specs.Hint.separatorOf Rattle.hint.specs.Hint.terminatorOf Rattle.hint.specs.Inner.found
 returns c =
@@ -67,11 +49,9 @@ returns c =
     ∙ ap (allowed (byteAt h (lengthPlace h (a .i))) (numberAt h (lengthPlace h (a .i)) .value)) (c .before .before .longest-of .ensures ∙ ap longest format) in
     simp (sym ok ∙ not-true _ (c .if1 .taken))
 
--- src/grammar.rt:151:9
 is-starred-requires : tie.Need-is-starred-requires
 is-starred-requires c κs = search needs
 
--- src/grammar.rt:152:35
 add-mark-at : tie.Need-add-mark-at
 add-mark-at c =
     let a = c .before .before .before .before .before .before .before .before .before .args in
@@ -81,11 +61,9 @@ add-mark-at c =
     let next = number-next (a .hint .now) (c .before .before .before .before .before .before .before .length-place .result) in
     omega (arith, c .before .before .before .before .before .before .before .before .before .pre, c .before .before .before .before .before .before .before .before .before .good)
 
--- src/grammar.rt:152:9
 mark-at-requires : tie.Need-mark-at-requires
 mark-at-requires c κs = search needs
 
--- src/grammar.rt:153:62
 add-terminator-at : tie.Need-add-terminator-at
 add-terminator-at c =
     let a = c .before .before .before .before .before .before .before .before .before .before .args in
@@ -95,11 +73,9 @@ add-terminator-at c =
     let next = number-next (a .hint .now) (c .before .before .before .before .before .before .before .before .length-place .result) in
     omega (arith, c .before .before .before .before .before .before .before .before .before .before .pre, c .before .before .before .before .before .before .before .before .before .before .good)
 
--- src/grammar.rt:153:9
 terminator-at-requires : tie.Need-terminator-at-requires
 terminator-at-requires c κs = search needs
 
--- src/grammar.rt:154:16
 add-next : tie.Need-add-next
 add-next c =
     let a = c .before .before .before .before .before .before .before .before .before .before .before .args in
@@ -109,11 +85,9 @@ add-next c =
     let next = number-next (a .hint .now) (c .before .before .before .before .before .before .before .before .before .length-place .result) in
     omega (arith, c .before .before .before .before .before .before .before .before .before .before .before .pre, c .before .before .before .before .before .before .before .before .before .before .before .good)
 
--- src/grammar.rt:154:28
 mark-size-requires : tie.Need-mark-size-requires
 mark-size-requires c κs = search needs
 
--- src/grammar.rt:154:16
 add-next-2 : tie.Need-add-next-2
 add-next-2 c =
     let a = c .before .before .before .before .before .before .before .before .before .before .before .before .args in
@@ -123,11 +97,9 @@ add-next-2 c =
     let next = number-next (a .hint .now) (c .before .before .before .before .before .before .before .before .before .before .length-place .result) in
     omega (arith, c .before .before .before .before .before .before .before .before .before .before .before .before .pre, c .before .before .before .before .before .before .before .before .before .before .before .before .good, c .mark-size .ensures, mark-size-small (c .before .before .mark-at .result))
 
--- src/grammar.rt:154:51
 mark-size-requires-2 : tie.Need-mark-size-requires-2
 mark-size-requires-2 c κs = search needs
 
--- src/grammar.rt:154:16
 add-next-3 : tie.Need-add-next-3
 add-next-3 c =
     let a = c .before .before .before .before .before .before .before .before .before .before .before .before .before .args in
@@ -137,7 +109,6 @@ add-next-3 c =
     let next = number-next (a .hint .now) (c .before .before .before .before .before .before .before .before .before .before .before .length-place .result) in
     omega (arith, c .before .before .before .before .before .before .before .before .before .before .before .before .before .pre, c .before .before .before .before .before .before .before .before .before .before .before .before .before .good, c .before .mark-size .ensures, mark-size-small (c .before .before .before .mark-at .result), c .mark-size2 .ensures, mark-size-small (c .before .before .terminator-at .result))
 
--- src/grammar.rt:139:1
 returns-2 : tie.Need-returns-2
 unfolding Rattle.hint.specs.Hint.isPiece Rattle.hint.specs.Hint.bounded Rattle.hint.specs.Hint.formatPlace Rattle.hint.specs.Hint.pieceAt Rattle.hint.specs.Hint.pieceEnd Rattle.hint.specs.Hint.separatorOf Rattle.hint.specs.Hint.terminatorOf Rattle.hint.specs.Inner.found
 returns-2 c =

@@ -4,7 +4,6 @@ use borrow.Author.Needs.{needs}
 use Prim.Native.Nat.{ℕ}
 use mathlib.Core.Path.{_≡_, sym, ap, _∙_}
 use mathlib.Core.Bool.{true, false}
-use native.Mathlib.Omega.{arith}
 use lib.Dec.{eqb, lit<}
 use lib.ListN.{length}
 use borrow.Author.Tests.{eq-eqb, ne-eqb, not-true, not-false}
@@ -14,17 +13,10 @@ use Rattle.hint.specs.Hint.{numberAt, allowed}
 use Rattle.hint.specs.Buffer.{byteAt}
 use Rattle.hint.proofs.grammar.point_of.Statement.{statement}
 use Rattle.hint.proofs.grammar.point_of.Tie as tie
-use Rattle.hint.proofs.grammar.point_of.Reads as reads
-use Rattle.hint.proofs.grammar.point_of.Lts as lts
-use Rattle.hint.proofs.buffer.byte_at.Reads as byte-at-reads
-use Rattle.hint.proofs.grammar.is_allowed.Reads as is-allowed-reads
-use Rattle.hint.proofs.grammar.number_at.Reads as number-at-reads
 
--- src/grammar.rt:191:8
 byte-at-requires : tie.Need-byte-at-requires
 byte-at-requires c κs = search needs
 
--- src/grammar.rt:192:9
 returns : tie.Need-returns
 unfolding Rattle.hint.specs.Hint.readPoint Rattle.hint.specs.Hint.bounded
 returns c =
@@ -32,11 +24,9 @@ returns c =
     let d : eqb (byteAt h 0) 100 ≡ false = ap (λ (b : ℕ). eqb b 100) (sym (c .before .byte-at .ensures)) ∙ ne-eqb _ _ (c .if1 .taken) in
     simp (d)
 
--- src/grammar.rt:194:8
 byte-at-requires-2 : tie.Need-byte-at-requires-2
 byte-at-requires-2 c κs = search needs
 
--- src/grammar.rt:195:9
 returns-2 : tie.Need-returns-2
 unfolding Rattle.hint.specs.Hint.readPoint Rattle.hint.specs.Hint.bounded
 returns-2 c =
@@ -45,19 +35,15 @@ returns-2 c =
     let m : eqb (byteAt h 1) 45 ≡ false = ap (λ (b : ℕ). eqb b 45) (sym (c .before .byte-at2 .ensures)) ∙ ne-eqb _ _ (c .if2 .taken) in
     simp (d, m)
 
--- src/grammar.rt:197:9
 number-at-requires : tie.Need-number-at-requires
 number-at-requires c κs = lit< tt
 
--- src/grammar.rt:199:20
 byte-at-requires-3 : tie.Need-byte-at-requires-3
 byte-at-requires-3 c κs = search needs
 
--- src/grammar.rt:199:9
 is-allowed-requires : tie.Need-is-allowed-requires
 is-allowed-requires c κs = search needs
 
--- src/grammar.rt:200:9
 returns-3 : tie.Need-returns-3
 unfolding Rattle.hint.specs.Hint.readPoint Rattle.hint.specs.Hint.bounded
 returns-3 c =
@@ -70,7 +56,6 @@ returns-3 c =
     ∙ sym (c .before .is-allowed .ensures) ∙ not-true _ (c .if3 .taken) in
     simp (d, m, n)
 
--- src/grammar.rt:203:9
 returns-4 : tie.Need-returns-4
 unfolding Rattle.hint.specs.Hint.readPoint Rattle.hint.specs.Hint.bounded
 returns-4 c =
@@ -84,7 +69,6 @@ returns-4 c =
     let e : eqb (numberAt h 2 .next) (length h) ≡ false = ap (λ (v : Number). eqb (v .next) (length h)) (sym number) ∙ ne-eqb _ _ (c .if4 .taken) in
     simp (d, m, n, e)
 
--- src/grammar.rt:188:1
 returns-5 : tie.Need-returns-5
 unfolding Rattle.hint.specs.Hint.readPoint Rattle.hint.specs.Hint.bounded
 returns-5 c =

@@ -4,23 +4,16 @@ use borrow.Author.Needs.{needs}
 use borrow.Author.Tests.{not-true, not-false, eq-eqb, ne-eqb}
 use Rattle.hint.proofs.grammar.terminator_at.Statement.{statement}
 use Rattle.hint.proofs.grammar.terminator_at.Tie as tie
-use Rattle.hint.proofs.grammar.terminator_at.Reads as reads
-use Rattle.hint.proofs.grammar.terminator_at.Lts as lts
-use Rattle.hint.proofs.grammar.mark_at.Reads as mark-at-reads
 
--- src/grammar.rt:130:9
 returns : tie.Need-returns
 returns c = simp (not-true (c .before .before .args .star) (c .if1 .taken))
 
--- src/grammar.rt:133:9
 returns-2 : tie.Need-returns-2
 returns-2 c = simp (not-false (c .before .before .before .args .star) (c .before .if1 .left), eq-eqb _ _ (c .if2 .taken))
 
--- src/grammar.rt:135:5
 mark-at-requires : tie.Need-mark-at-requires
 mark-at-requires c κs = search needs
 
--- src/grammar.rt:126:1
 returns-3 : tie.Need-returns-3
 returns-3 c = simp (not-false (c .before .before .before .before .args .star) (c .before .before .if1 .left), ne-eqb _ _ (c .before .if2 .left)) (c .mark-at .ensures)
 

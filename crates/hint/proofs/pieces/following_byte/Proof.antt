@@ -3,25 +3,19 @@
 use borrow.Author.Tests.{le-leb, lt-leb, eq-eqb, ne-eqb}
 use Rattle.hint.proofs.pieces.following_byte.Statement.{statement}
 use Rattle.hint.proofs.pieces.following_byte.Tie as tie
-use Rattle.hint.proofs.pieces.following_byte.Reads as reads
-use Rattle.hint.proofs.pieces.following_byte.Lts as lts
 
--- src/pieces.rt:61:9
 returns : tie.Need-returns
 unfolding Rattle.hint.specs.Print.following
 returns c = simp (le-leb _ _ (c .if1 .taken))
 
--- src/pieces.rt:64:9
 returns-2 : tie.Need-returns-2
 unfolding Rattle.hint.specs.Print.following
 returns-2 c = simp (lt-leb _ _ (c .before .if1 .left), ne-eqb _ _ (c .if2 .taken))
 
--- src/pieces.rt:67:9
 returns-3 : tie.Need-returns-3
 unfolding Rattle.hint.specs.Print.following
 returns-3 c = simp (lt-leb _ _ (c .before .before .before .if1 .left), eq-eqb _ _ (c .before .before .if2 .left), eq-eqb _ _ (c .if3 .taken))
 
--- src/pieces.rt:57:1
 returns-4 : tie.Need-returns-4
 unfolding Rattle.hint.specs.Print.following
 returns-4 c = simp (lt-leb _ _ (c .before .before .before .if1 .left), eq-eqb _ _ (c .before .before .if2 .left), ne-eqb _ _ (c .if3 .left))

@@ -3,15 +3,11 @@
 use borrow.Author.Tests.{eq-eqb, ne-eqb}
 use Rattle.hint.proofs.pieces.passes_on.Statement.{statement}
 use Rattle.hint.proofs.pieces.passes_on.Tie as tie
-use Rattle.hint.proofs.pieces.passes_on.Reads as reads
-use Rattle.hint.proofs.pieces.passes_on.Lts as lts
 
--- src/pieces.rt:22:1
 returns : tie.Need-returns
 unfolding Rattle.hint.specs.Print.passes
 returns c = simp (eq-eqb _ _ (c .if1 .taken))
 
--- src/pieces.rt:22:1
 returns-2 : tie.Need-returns-2
 unfolding Rattle.hint.specs.Print.passes
 returns-2 c = simp (ne-eqb _ _ (c .if1 .left))

@@ -2,7 +2,7 @@
 -- Assumes nothing.
 use borrow.Author.Needs.{needs}
 use Prim.Native.Nat.{ℕ, _+_, _-_, min}
-use mathlib.Core.Path.{_≡_, ap, sym, subst, _∙_}
+use mathlib.Core.Path.{_≡_, ap, subst, _∙_}
 use mathlib.Core.List.{List}
 use native.Mathlib.Omega.{arith}
 use lib.ListN.{length, take, drop, length-take, length-drop}
@@ -10,22 +10,14 @@ use Rattle.hint.proofs.Bounds.{use-size, optional-size, octets-take, oc
 use Rattle.hint.proofs.Outcomes.{followed-next, followed-joined, followed-fault}
 use Rattle.hint.specs.declared.Progress.the-variants.{To, Fault}
 use Rattle.hint.specs.declared.Progress.{Progress}
-use Rattle.hint.specs.Inner.{Wrote, Followed, wrote, failed}
+use Rattle.hint.specs.Inner.{Wrote, Followed, wrote}
 use Rattle.hint.specs.Print.{useText, optional, following, printed}
 use Rattle.hint.proofs.pieces.print_one.Statement.{statement}
 use Rattle.hint.proofs.pieces.print_one.Tie as tie
-use Rattle.hint.proofs.pieces.print_one.Reads as reads
-use Rattle.hint.proofs.pieces.print_one.Lts as lts
-use Rattle.hint.proofs.pieces.following_byte.Reads as following-byte-reads
-use Rattle.hint.proofs.pieces.print_use.Reads as print-use-reads
-use Rattle.hint.proofs.pieces.put_optional.Reads as put-optional-reads
-use Rattle.hint.proofs.pieces.use_octets.Reads as use-octets-reads
 
--- src/pieces.rt:92:9
 use-octets-requires : tie.Need-use-octets-requires
 use-octets-requires c κs = search needs
 
--- src/pieces.rt:93:11
 print-use-requires : tie.Need-print-use-requires
 print-use-requires c κs =
     let a = c .before .before .before .before .args in
@@ -37,21 +29,17 @@ print-use-requires c κs =
     let same = ap length octets in
     ((omega (arith, q), omega (arith, q), omega (arith, q)), omega (arith, q))
 
--- src/pieces.rt:94:22
 enum-known-next : tie.Need-enum-known-next
 enum-known-next c = search needs
 
--- src/pieces.rt:95:59
 add-following-byte : tie.Need-add-following-byte
 add-following-byte c =
     let a = c .before .before .before .before .before .before .before .before .before .before .args in
     omega (arith, c .before .before .before .before .before .before .before .before .before .before .pre, longest-small (a .piece .format))
 
--- src/pieces.rt:95:17
 following-byte-requires : tie.Need-following-byte-requires
 following-byte-requires c κs = search needs
 
--- src/pieces.rt:96:26
 put-optional-requires : tie.Need-put-optional-requires
 put-optional-requires c κs =
     let a = c .before .before .before .before .before .before .before .before .before .before .before .before .args in
@@ -69,15 +57,12 @@ put-optional-requires c κs =
     let kept = c .before .before .before .before .before .before .before .print-use .kept .1 .1 .1 .0 in
     omega (arith, q, size, optional-size (c .before .following-byte .result))
 
--- src/pieces.rt:98:25
 enum-known-place : tie.Need-enum-known-place
 enum-known-place c = search needs
 
--- src/pieces.rt:85:1
 same-length : tie.Need-same-length
 same-length c = search needs
 
--- src/pieces.rt:85:1
 returns : tie.Need-returns
 unfolding Rattle.hint.specs.Print.oneUse
 returns c =
@@ -96,11 +81,9 @@ returns c =
     subst (λ (b : ℕ). Wrote (optional b) (c .before .before .before .before .before .before .next .given .0 .0) (c .before .before .put-optional .result) (c .before .before .before .before .before .before .before .before .before .before .print-use .last .1 .1 .1 .0) (c .before .before .put-optional .last .0)) (c .before .before .before .before .following-byte .ensures) (c .before .before .put-optional .ensures) in
     followed-joined (omega (arith, q, size)) done (wrote after)
 
--- src/pieces.rt:85:1
 same-length-2 : tie.Need-same-length-2
 same-length-2 c = search needs
 
--- src/pieces.rt:85:1
 returns-2 : tie.Need-returns-2
 unfolding Rattle.hint.specs.Print.oneUse
 returns-2 c =

@@ -3,30 +3,24 @@
 -- Assumes nothing.
 use Prim.Native.Nat.{ℕ, _+_, _-_, _*_, _≤_, _<_}
 use mathlib.Core.Path.{_≡_, refl, ap, sym, subst, _∙_}
-use mathlib.Core.List.{List, []}
+use mathlib.Core.List.{List}
 use native.Mathlib.Omega.{arith}
 use borrow.Author.Needs.{needs}
 use lib.ListN.{length}
 use Rattle.hint.proofs.PrintingLaws.{Allowed, piecesFrom, printFrom, print-start, print-end, print-turn, pieces-allowed, piece-there, stuck-step, turn-next, turn-last, turn-either, hint-pieces, uses-start-near, uses-octets-small, uses-end-after, uses-end-is}
 use Rattle.hint.proofs.Bounds.{Octets, uses-size, longest-small}
 use Rattle.hint.proofs.Outcomes.{followed-none, followed-next, followed-joined, followed-fault}
-use Rattle.hint.proofs.HintLaws.{found-whole, found-nothing, piece-allowed, piece-end-after}
+use Rattle.hint.proofs.HintLaws.{found-whole, found-nothing, piece-allowed}
 use Rattle.hint.proofs.CutLaws.{from}
 use Rattle.hint.specs.declared.Search.the-variants.{Nowhere}
 use Rattle.hint.specs.declared.Progress.the-variants.{To, Fault}
 use Rattle.hint.specs.declared.Progress.{Progress}
 use Rattle.hint.specs.declared.Piece.{Piece}
 use Rattle.hint.specs.Inner.{Followed, stuckAt, piecesIn}
-use Rattle.hint.specs.Print.{Outcome, printed, uses, repeats, usesStart, usesEnd, turn, printing}
+use Rattle.hint.specs.Print.{Outcome, uses, repeats, usesStart, usesEnd, turn, printing}
 use Rattle.hint.specs.Hint.{pieceAt, pieceEnd, pieceSize, readHint}
 use Rattle.hint.proofs.pieces.print_pieces.Statement.{statement}
 use Rattle.hint.proofs.pieces.print_pieces.Tie as tie
-use Rattle.hint.proofs.pieces.print_pieces.Reads as reads
-use Rattle.hint.proofs.pieces.print_pieces.Lts as lts
-use Rattle.hint.proofs.grammar.piece_at.Reads as piece-at-reads
-use Rattle.hint.proofs.pieces.print_uses.Reads as print-uses-reads
-use Rattle.hint.proofs.pieces.repeats_of.Reads as repeats-of-reads
-use Rattle.hint.proofs.pieces.uses_start.Reads as uses-start-reads
 
 abbrev Inv-loop : tie.InvT-loop
 Inv-loop hint value out₀ cursor₀ at₀ pos₀ out cursor at pos =
@@ -89,7 +83,6 @@ again d next turned below whole =
       whole,
     )
 
--- src/pieces.rt:160:5
 loop-holds : tie.Need-loop-holds Inv-loop μ-loop
 loop-holds c =
     let a = c .before .before .before .args in
@@ -104,23 +97,18 @@ loop-holds c =
       known .2,
     )
 
--- src/pieces.rt:161:41
 piece-at-requires : tie.Need-piece-at-requires Inv-loop μ-loop
 piece-at-requires c κs = c .before .loop .inv .3
 
--- src/pieces.rt:161:26
 enum-known-piece : tie.Need-enum-known-piece Inv-loop μ-loop
 enum-known-piece c = search needs
 
--- src/pieces.rt:162:13
 enum-told : tie.Need-enum-told Inv-loop μ-loop
 enum-told c = search needs
 
--- src/pieces.rt:162:13
 same-length : tie.Need-same-length Inv-loop μ-loop
 same-length c = c .before .before .before .before .loop .inv .2
 
--- src/pieces.rt:162:13
 returns : tie.Need-returns Inv-loop μ-loop
 returns c =
     let h = c .before .before .before .before .before .before .before .before .args .hint .now in
@@ -130,15 +118,12 @@ returns c =
     let z : _≡_ {A = ℕ} 0 1 = cc in
     absurd (omega arith)
 
--- src/pieces.rt:164:13
 uses-start-requires : tie.Need-uses-start-requires Inv-loop μ-loop
 uses-start-requires c κs = omega (arith, c .before .before .before .before .loop-test .taken, c .before .before .before .before .before .before .before .before .before .pre .1 .0)
 
--- src/pieces.rt:165:13
 repeats-of-requires : tie.Need-repeats-of-requires Inv-loop μ-loop
 repeats-of-requires c κs = c .before .before .before .before .before .loop-test .taken
 
--- src/pieces.rt:166:15
 print-uses-requires : tie.Need-print-uses-requires Inv-loop μ-loop
 print-uses-requires c κs =
     let a = c .before .before .before .before .before .before .before .before .before .before .before .before .args in
@@ -154,19 +139,15 @@ print-uses-requires c κs =
     let start = c .before .before .uses-start .ensures in
     ((q .1 .0, omega (arith, q .1, c .before .before .before .before .before .before .before .loop-test .taken)), (allowed, omega (arith, here .inv .1)))
 
--- src/pieces.rt:167:26
 enum-known-n : tie.Need-enum-known-n Inv-loop μ-loop
 enum-known-n c = search needs
 
--- src/pieces.rt:170:29
 enum-known-place : tie.Need-enum-known-place Inv-loop μ-loop
 enum-known-place c = search needs
 
--- src/pieces.rt:171:17
 same-length-2 : tie.Need-same-length-2 Inv-loop μ-loop
 same-length-2 c = c .before .before .before .before .before .print-uses .kept .1 .1 .1 .1 .0 ∙ c .before .before .before .before .before .before .before .before .before .before .before .before .before .before .loop .inv .2
 
--- src/pieces.rt:171:17
 returns-2 : tie.Need-returns-2 Inv-loop μ-loop
 returns-2 c =
     let a = c .before .before .before .before .before .before .before .before .before .before .before .before .before .before .before .before .before .before .args in
@@ -199,7 +180,6 @@ returns-2 c =
     (subst (λ (o : Outcome). Followed o (here .pos) (Fault (c .before .place .given .0 .0)) (here .out) last) (sym step)
     (followed-fault (printFrom v (piecesFrom h (turned .0)) (usesEnd P v (here .at))) done))
 
--- src/pieces.rt:174:22
 mul-at : tie.Need-mul-at Inv-loop μ-loop
 mul-at c =
     let a = c .before .before .before .before .before .before .before .before .before .before .before .before .before .before .before .before .before .before .before .args in
@@ -220,7 +200,6 @@ mul-at c =
     let same : c .before .before .before .before .before .before .before .before .repeats-of .result * p .size ≡ repeats p v (here .at) * p .size = ap (λ (k : ℕ). k * p .size) count in
     omega (arith, small)
 
--- src/pieces.rt:174:14
 add-at : tie.Need-add-at Inv-loop μ-loop
 add-at c =
     let a = c .before .before .before .before .before .before .before .before .before .before .before .before .before .before .before .before .before .before .before .args in
@@ -241,7 +220,6 @@ add-at c =
     let same : c .before .before .before .before .before .before .before .before .repeats-of .result * p .size ≡ repeats p v (here .at) * p .size = ap (λ (k : ℕ). k * p .size) count in
     omega (arith, small, c .before .before .before .before .before .before .before .before .before .before .before .before .before .before .loop-test .taken, q .1)
 
--- src/pieces.rt:160:5
 loop-less : tie.Need-loop-less Inv-loop μ-loop
 loop-less c =
     let a = c .before .before .before .before .before .before .before .before .before .before .before .before .before .before .before .before .before .before .before .before .args in
@@ -261,7 +239,6 @@ loop-less c =
     ap (λ (k : ℕ). k + c .before .before .before .before .before .before .before .before .before .repeats-of .result * p .size) start ∙ ap (λ (k : ℕ). usesStart p (here .at) + k * p .size) count ∙ uses-end-is p v (here .at) in
     omega (arith, uses-end-after p v (here .at) (allowed .0), c .before .before .before .before .before .before .before .before .before .before .before .before .before .before .before .loop-test .taken)
 
--- src/pieces.rt:160:5
 loop-again : tie.Need-loop-again Inv-loop μ-loop
 loop-again c =
     let a = c .before .before .before .before .before .before .before .before .before .before .before .before .before .before .before .before .before .before .before .before .args in
@@ -278,7 +255,6 @@ loop-again c =
     again (c .before) (c .before .before .before .before .before .before .before .before .before .before .before .before .piece .given .0 .1 .0) (turned ∙ ap (piecesFrom h) (sym (is .2))) (c .if1 .taken)
     (ap (λ (k : ℕ). stuckAt (from (pieceSize h) (length h) k)) (is .2) ∙ stuck-step h (here .cursor) (here .inv .3) (is .0) ∙ here .inv .4)
 
--- src/pieces.rt:160:5
 loop-less-2 : tie.Need-loop-less-2 Inv-loop μ-loop
 loop-less-2 c =
     let a = c .before .before .before .before .before .before .before .before .before .before .before .before .before .before .before .before .before .before .before .before .args in
@@ -298,7 +274,6 @@ loop-less-2 c =
     ap (λ (k : ℕ). k + c .before .before .before .before .before .before .before .before .before .repeats-of .result * p .size) start ∙ ap (λ (k : ℕ). usesStart p (here .at) + k * p .size) count ∙ uses-end-is p v (here .at) in
     omega (arith, uses-end-after p v (here .at) (allowed .0), c .before .before .before .before .before .before .before .before .before .before .before .before .before .before .before .loop-test .taken)
 
--- src/pieces.rt:160:5
 loop-again-2 : tie.Need-loop-again-2 Inv-loop μ-loop
 loop-again-2 c =
     let a = c .before .before .before .before .before .before .before .before .before .before .before .before .before .before .before .before .before .before .before .before .args in
@@ -313,11 +288,9 @@ loop-again-2 c =
     let past : length h ≤ pieceEnd h (here .cursor) = omega (arith, is .2, c .if1 .left) in
     again (c .before) (here .cursor) (turn-last h (here .cursor) (here .inv .3) (here .inv .4) past) (here .inv .3) (here .inv .4)
 
--- src/pieces.rt:152:1
 same-length-3 : tie.Need-same-length-3 Inv-loop μ-loop
 same-length-3 c = c .before .loop .inv .2
 
--- src/pieces.rt:152:1
 returns-3 : tie.Need-returns-3 Inv-loop μ-loop
 returns-3 c =
     let a = c .before .before .before .before .before .args in

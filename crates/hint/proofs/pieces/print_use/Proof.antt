@@ -1,36 +1,24 @@
 -- `print_use` is right: the format picks the case, and the bound on a use says that the text fits.
 -- Assumes nothing.
 use borrow.Author.Needs.{needs}
-use Prim.Native.Nat.{ℕ, _+_, _≤_}
+use Prim.Native.Nat.{ℕ}
 use mathlib.Core.Path.{_≡_, ap, sym, subst, _∙_}
 use mathlib.Core.List.{List}
-use mathlib.Core.Bool.{true, false}
 use native.Mathlib.Omega.{arith}
 use lib.ListN.{length}
 use borrow.Author.Tests.{not-true, not-false}
 use Rattle.hint.proofs.Bounds.{letters, longest-small, number-short}
 use Rattle.hint.proofs.CutLaws.{passed-stuck, passed-whole, stuck-at, stuck-below}
-use Rattle.hint.specs.Inner.{Wrote, Followed, wrote, failed, stuckAt}
-use Rattle.hint.specs.Print.{passes, printed, fault}
+use Rattle.hint.specs.Inner.{Wrote, wrote, failed}
 use Rattle.hint.specs.Character.{characterSize}
 use Rattle.hint.specs.Cut.{cut}
 use Rattle.hint.specs.Digits.{digits, baseOf, bigEndian}
 use Rattle.hint.proofs.pieces.print_use.Statement.{statement}
 use Rattle.hint.proofs.pieces.print_use.Tie as tie
-use Rattle.hint.proofs.pieces.print_use.Reads as reads
-use Rattle.hint.proofs.pieces.print_use.Lts as lts
-use Rattle.hint.proofs.buffer.copy.Reads as copy-reads
-use Rattle.hint.proofs.character.first_fault.Reads as first-fault-reads
-use Rattle.hint.proofs.digit.base_of.Reads as base-of-reads
-use Rattle.hint.proofs.digit.big_endian.Reads as big-endian-reads
-use Rattle.hint.proofs.digit.print_digits.Reads as print-digits-reads
-use Rattle.hint.proofs.pieces.passes_on.Reads as passes-on-reads
 
--- src/pieces.rt:34:9
 passes-on-requires : tie.Need-passes-on-requires
 passes-on-requires c κs = search needs
 
--- src/pieces.rt:35:13
 big-endian-requires : tie.Need-big-endian-requires
 big-endian-requires c κs =
     let a = c .before .before .before .before .args in
@@ -38,11 +26,9 @@ big-endian-requires c κs =
     let known = letters (a .format) (sym (c .before .passes-on .ensures) ∙ not-true _ (c .if1 .taken)) (omega (arith, p)) in
     omega (arith, p, known .2)
 
--- src/pieces.rt:36:13
 base-of-requires : tie.Need-base-of-requires
 base-of-requires c κs = search needs
 
--- src/pieces.rt:37:29
 print-digits-requires : tie.Need-print-digits-requires
 print-digits-requires c κs =
     let a = c .before .before .before .before .before .before .before .args in
@@ -55,11 +41,9 @@ print-digits-requires c κs =
     let long = ap length same in
     (omega (arith, known), omega (arith, p))
 
--- src/pieces.rt:37:9
 same-length : tie.Need-same-length
 same-length c = search needs
 
--- src/pieces.rt:37:9
 returns : tie.Need-returns
 unfolding Rattle.hint.specs.Print.useText
 returns c =
@@ -69,15 +53,12 @@ returns c =
     simp (sym (c .before .before .before .before .before .before .before .passes-on .ensures) ∙ not-true _ (c .before .before .before .before .before .before .if1 .taken))
     (wrote (subst (λ (l : List ℕ). Wrote l (a .pos) (c .before .before .print-digits .result) (a .out .now) (c .before .before .print-digits .last .1 .1 .0)) same (c .before .before .print-digits .ensures)))
 
--- src/pieces.rt:39:28
 first-fault-requires : tie.Need-first-fault-requires
 first-fault-requires c κs = search needs
 
--- src/pieces.rt:39:23
 enum-known-i : tie.Need-enum-known-i
 enum-known-i c = search needs
 
--- src/pieces.rt:40:32
 add-t15 : tie.Need-add-t15
 add-t15 c =
     let a = c .before .before .before .before .before .before .before .before .args in
@@ -85,7 +66,6 @@ add-t15 c =
     let below = stuck-below (characterSize (a .format) (a .s .now)) (length (a .s .now)) (c .before .i .given .0 .0) at in
     omega (arith, longest-small (a .format), c .before .before .before .before .before .before .before .before .pre)
 
--- src/pieces.rt:40:9
 returns-2 : tie.Need-returns-2
 unfolding Rattle.hint.specs.Print.useText
 returns-2 c =
@@ -97,15 +77,12 @@ returns-2 c =
 enum-told : tie.Need-enum-told
 enum-told c = search needs
 
--- src/pieces.rt:42:18
 copy-requires : tie.Need-copy-requires
 copy-requires c κs = search needs
 
--- src/pieces.rt:29:1
 same-length-2 : tie.Need-same-length-2
 same-length-2 c = search needs
 
--- src/pieces.rt:29:1
 returns-3 : tie.Need-returns-3
 unfolding Rattle.hint.specs.Print.useText
 returns-3 c =

@@ -1,9 +1,9 @@
 -- `print_uses` is right: whatever follows the uses that are left, from where the loop stands, follows all of them. The measure is the uses
 -- left.
 -- Assumes nothing.
-use Prim.Native.Nat.{ℕ, _+_, _-_, _*_, _≤_, _<_}
-use mathlib.Core.Path.{_≡_, refl, ap, sym, subst, _∙_}
-use mathlib.Core.List.{List, []}
+use Prim.Native.Nat.{ℕ, _+_, _-_, _*_, _≤_}
+use mathlib.Core.Path.{_≡_, refl, sym, subst, _∙_}
+use mathlib.Core.List.{List}
 use native.Mathlib.Omega.{arith}
 use borrow.Author.Needs.{needs}
 use lib.ListN.{length}
@@ -13,12 +13,9 @@ use Rattle.hint.proofs.Outcomes.{followed-none, followed-next, followed
 use Rattle.hint.specs.declared.Progress.the-variants.{To, Fault}
 use Rattle.hint.specs.declared.Progress.{Progress}
 use Rattle.hint.specs.Inner.{Followed}
-use Rattle.hint.specs.Print.{Outcome, printed, oneUse, uses}
+use Rattle.hint.specs.Print.{Outcome, oneUse, uses}
 use Rattle.hint.proofs.pieces.print_uses.Statement.{statement}
 use Rattle.hint.proofs.pieces.print_uses.Tie as tie
-use Rattle.hint.proofs.pieces.print_uses.Reads as reads
-use Rattle.hint.proofs.pieces.print_uses.Lts as lts
-use Rattle.hint.proofs.pieces.print_one.Reads as print-one-reads
 
 abbrev Inv-loop : tie.InvT-loop
 Inv-loop value start piece count out₀ pos size left₀ at₀ next₀ out left at next =
@@ -30,15 +27,12 @@ Inv-loop value start piece count out₀ pos size left₀ at₀ next₀ out left 
 abbrev μ-loop : tie.MeasureT-loop
 μ-loop value start piece count out₀ pos size left₀ at₀ next₀ out left at next = left
 
--- src/pieces.rt:113:5
 loop-holds : tie.Need-loop-holds Inv-loop μ-loop
 loop-holds c = (λ r after h. h, omega arith, refl, omega arith)
 
--- src/pieces.rt:115:13
 same-length : tie.Need-same-length Inv-loop μ-loop
 same-length c = c .before .before .loop .inv .2
 
--- src/pieces.rt:115:13
 returns : tie.Need-returns Inv-loop μ-loop
 returns c =
     let a = c .before .before .before .before .before .args in
@@ -49,11 +43,9 @@ returns c =
     (subst (λ (o : Outcome). Followed o (here .next) (To (here .next)) (here .out) (here .out)) (sym (uses-end (here .left) (a .piece) (a .value .now) (here .at) (c .if1 .taken)))
     (followed-none (here .next) (here .out)))
 
--- src/pieces.rt:117:9
 sub-left : tie.Need-sub-left Inv-loop μ-loop
 sub-left c = omega arith
 
--- src/pieces.rt:118:15
 print-one-requires : tie.Need-print-one-requires Inv-loop μ-loop
 print-one-requires c κs =
     let a = c .before .before .before .before .before .before .args in
@@ -62,19 +54,15 @@ print-one-requires c κs =
     let inv = here .inv in
     ((c .before .if1 .left, q .0 .0), (q .1 .0, inv .1))
 
--- src/pieces.rt:119:26
 enum-known-n : tie.Need-enum-known-n Inv-loop μ-loop
 enum-known-n c = search needs
 
--- src/pieces.rt:122:29
 enum-known-place : tie.Need-enum-known-place Inv-loop μ-loop
 enum-known-place c = search needs
 
--- src/pieces.rt:123:17
 same-length-2 : tie.Need-same-length-2 Inv-loop μ-loop
 same-length-2 c = c .before .before .before .before .before .print-one .kept .1 .1 .1 .1 .0 ∙ c .before .before .before .before .before .before .before .before .before .loop .inv .2
 
--- src/pieces.rt:123:17
 returns-2 : tie.Need-returns-2 Inv-loop μ-loop
 returns-2 c =
     let a = c .before .before .before .before .before .before .before .before .before .before .before .before .args in
@@ -88,7 +76,6 @@ returns-2 c =
     (subst (λ (o : Outcome). Followed o (here .next) (Fault (c .before .place .given .0 .0)) (here .out) (c .before .before .before .before .before .print-one .last .1 .1 .1 .1 .0)) (sym step)
     (followed-fault (uses (here .left - 1) (a .piece) (a .value .now) (here .at + a .piece .size)) done))
 
--- src/pieces.rt:126:9
 add-at : tie.Need-add-at Inv-loop μ-loop
 add-at c =
     let a = c .before .before .before .before .before .before .before .before .before .before .before .before .args in
@@ -97,11 +84,9 @@ add-at c =
     let inv = here .inv in
     omega (arith, q, inv .3, longest-small (a .piece .format))
 
--- src/pieces.rt:113:5
 loop-less : tie.Need-loop-less Inv-loop μ-loop
 loop-less c = omega (arith, c .before .before .before .before .before .before .before .before .loop-test .taken)
 
--- src/pieces.rt:113:5
 loop-again : tie.Need-loop-again Inv-loop μ-loop
 loop-again c =
     let a = c .before .before .before .before .before .before .before .before .before .before .before .before .args in
@@ -122,11 +107,9 @@ loop-again c =
       omega (arith, q, longest-small (a .piece .format), c .before .before .before .before .before .before .before .if1 .left),
     )
 
--- src/pieces.rt:103:1
 same-length-3 : tie.Need-same-length-3 Inv-loop μ-loop
 same-length-3 c = c .before .loop .inv .2
 
--- src/pieces.rt:103:1
 returns-3 : tie.Need-returns-3 Inv-loop μ-loop
 returns-3 c =
     let a = c .before .before .before .before .args in

@@ -2,8 +2,8 @@
 -- Assumes nothing.
 use borrow.Author.Needs.{needs}
 use Prim.Native.Nat.{ℕ}
-use mathlib.Core.Path.{ap, sym, subst, _∙_}
-use mathlib.Core.List.{List, [], _∷_}
+use mathlib.Core.Path.{ap, sym, subst}
+use mathlib.Core.List.{List}
 use native.Mathlib.Omega.{arith}
 use native.Mathlib.Nat.{add-zero}
 use lib.ListN.{length}
@@ -12,28 +12,21 @@ use Rattle.hint.proofs.Writing.{written-none}
 use Rattle.hint.specs.Inner.{Wrote}
 use Rattle.hint.proofs.pieces.put_optional.Statement.{statement}
 use Rattle.hint.proofs.pieces.put_optional.Tie as tie
-use Rattle.hint.proofs.pieces.put_optional.Reads as reads
-use Rattle.hint.proofs.pieces.put_optional.Lts as lts
-use Rattle.hint.proofs.buffer.put.Reads as put-reads
 
--- src/pieces.rt:51:9
 returns : tie.Need-returns
 returns c =
     let a = c .before .before .args in
     subst (λ (l : List ℕ). Wrote l (a .at) (a .at) (a .out .now) (a .out .now)) (sym (optional-none (a .b) (c .if1 .taken)))
     (record { next-is = sym (add-zero (a .at)); buffer-is = sym (written-none (a .out .now) (a .at)) })
 
--- src/pieces.rt:53:5
 put-requires : tie.Need-put-requires
 put-requires c κs =
     let a = c .before .before .before .args in
     omega (arith, ap length (optional-some (a .b) (c .before .if1 .left)), c .before .before .before .pre)
 
--- src/pieces.rt:46:1
 same-length : tie.Need-same-length
 same-length c = search needs
 
--- src/pieces.rt:46:1
 returns-2 : tie.Need-returns-2
 returns-2 c =
     let a = c .before .before .before .before .before .before .args in

@@ -4,23 +4,17 @@ use borrow.Author.Needs.{needs}
 use native.Mathlib.Omega.{arith}
 use Rattle.hint.proofs.pieces.repeats_of.Statement.{statement}
 use Rattle.hint.proofs.pieces.repeats_of.Tie as tie
-use Rattle.hint.proofs.pieces.repeats_of.Reads as reads
-use Rattle.hint.proofs.pieces.repeats_of.Lts as lts
 
--- src/pieces.rt:137:9
 shared-slice-read-result : tie.Need-shared-slice-read-result
 shared-slice-read-result c = search needs
 
--- src/pieces.rt:137:9
 cast-result : tie.Need-cast-result
 cast-result c = omega (arith, c .shared-slice-known .given (c .before .before .args .at))
 
--- src/pieces.rt:132:1
 returns : tie.Need-returns
 unfolding Rattle.hint.specs.Print.repeats
 returns c = simp (c .before .if1 .taken)
 
--- src/pieces.rt:132:1
 returns-2 : tie.Need-returns-2
 unfolding Rattle.hint.specs.Print.repeats
 returns-2 c = simp (c .if1 .left)

@@ -1,59 +1,44 @@
 -- `use_octets` is right: where fewer octets are left than the length says, taking more takes the same.
 -- Assumes nothing.
 use borrow.Author.Needs.{needs}
-use Prim.Native.Nat.{ℕ}
-use mathlib.Core.Path.{ap, sym, _∙_}
+use Prim.Native.Nat.{ℕ, _-_, _+_}
+use mathlib.Core.Path.{ap, sym, _∙_, _≡_}
 use native.Mathlib.Omega.{arith}
 use lib.ListN.{take, drop, length, length-drop}
 use lib.Seq.{take-all}
-use Prim.Native.Nat.{_-_}
-use Prim.Native.Nat.{_+_}
-use mathlib.Core.Path.{_≡_}
 use Rattle.hint.proofs.pieces.use_octets.Statement.{statement}
 use Rattle.hint.proofs.pieces.use_octets.Tie as tie
-use Rattle.hint.proofs.pieces.use_octets.Reads as reads
-use Rattle.hint.proofs.pieces.use_octets.Lts as lts
 
--- src/pieces.rt:77:15
 sub-if1 : tie.Need-sub-if1
 sub-if1 c = search needs
 
--- src/pieces.rt:78:20
 add-result : tie.Need-add-result
 add-result c = search needs
 
--- src/pieces.rt:78:9
 sub-result : tie.Need-sub-result
 sub-result c = search needs
 
--- src/pieces.rt:78:9
 part-result-start : tie.Need-part-result-start
 part-result-start c = search needs
 
--- src/pieces.rt:78:9
 part-result-end : tie.Need-part-result-end
 part-result-end c = search needs
 
--- src/pieces.rt:80:9
 sub-result-2 : tie.Need-sub-result-2
 sub-result-2 c = search needs
 
--- src/pieces.rt:80:9
 part-result-start-2 : tie.Need-part-result-start-2
 part-result-start-2 c = search needs
 
--- src/pieces.rt:80:9
 part-result-end-2 : tie.Need-part-result-end-2
 part-result-end-2 c = search needs
 
--- src/pieces.rt:73:1
 returns : tie.Need-returns
 returns c =
     let a = c .before .before .args in
     let same : a .at + a .size - a .at ≡ a .size = omega arith in
     ap (λ (k : ℕ). take k (drop (a .at) (a .value .now))) same
 
--- src/pieces.rt:73:1
 returns-2 : tie.Need-returns-2
 returns-2 c =
     let a = c .before .before .args in

@@ -3,21 +3,16 @@
 use mathlib.Core.Path.{ap, sym, _∙_}
 use lib.IntN.{ℤ, pos, negsuc}
 use lib.Signed.{leZ}
-use mir.Syntax.{w64}
 use mir.Facts.{toZ-ofZ}
 use Rattle.hint.proofs.SignedLaws.{range-high, range-low}
 use Rattle.hint.proofs.signed.in_range.Statement.{statement}
 use Rattle.hint.proofs.signed.in_range.Tie as tie
-use Rattle.hint.proofs.signed.in_range.Reads as reads
-use Rattle.hint.proofs.signed.in_range.Lts as lts
 
--- src/signed.rt:15:1
 returns : tie.Need-returns
 returns c =
     let same = toZ-ofZ (c .before .fits .value) in
     ap (λ (z : ℤ). leZ z (pos 4294967295)) same ∙ range-high (c .before .args .value) (ap (λ (z : ℤ). leZ (negsuc 2147483647) z) (sym same) ∙ c .if1 .taken)
 
--- src/signed.rt:15:1
 returns-2 : tie.Need-returns-2
 returns-2 c =
     let same = toZ-ofZ (c .before .fits .value) in

@@ -1,23 +1,18 @@
 -- `magnitude_of` is right: below zero the integer is negated within its bounds, and is then its magnitude.
 -- Assumes nothing.
 use borrow.Author.Needs.{needs}
-use Prim.Native.Nat.{ℕ, _<_}
 use mathlib.Core.Path.{_≡_, ap, sym, subst, _∙_}
 use native.Mathlib.Omega.{arith}
 use lib.Dec.{T}
-use lib.IntN.{ℤ, pos, negsuc, natAbs, _-ℤ_}
+use lib.IntN.{ℤ, pos, natAbs, _-ℤ_}
 use lib.Signed.{ltZ, nonNeg}
 use mir.Syntax.{w64}
 use mir.Val.{Fits, SFits, toZ, ofZ}
 use mir.Facts.{toZ-ofZ}
-use lib.Dec.{lit<}
 use Rattle.hint.proofs.SignedLaws.{negated, not-negative, magnitude-small}
 use Rattle.hint.proofs.signed.magnitude_of.Statement.{statement}
 use Rattle.hint.proofs.signed.magnitude_of.Tie as tie
-use Rattle.hint.proofs.signed.magnitude_of.Reads as reads
-use Rattle.hint.proofs.signed.magnitude_of.Lts as lts
 
--- src/signed.rt:27:10
 sub-result : tie.Need-sub-result
 sub-result c =
     let v = c .before .args .value in
@@ -33,13 +28,11 @@ negative c =
     let same = toZ-ofZ (c .before .fits .value) in
     toZ-ofZ (sub-result c) ∙ ap (λ (z : ℤ). pos 0 -ℤ z) same ∙ negated v (ap (λ (z : ℤ). ltZ z (pos 0)) (sym same) ∙ c .if1 .taken)
 
--- src/signed.rt:27:9
 cast-result : tie.Need-cast-result
 cast-result c =
     let small = magnitude-small (c .before .args .value) (c .before .pre) in
     subst (λ (z : ℤ). T (nonNeg z) × Fits w64 (natAbs z)) (sym (negative c)) (tt, record { fits = omega arith })
 
--- src/signed.rt:29:9
 cast-result-2 : tie.Need-cast-result-2
 cast-result-2 c =
     let v = c .before .args .value in
@@ -48,11 +41,9 @@ cast-result-2 c =
     let small = magnitude-small v (c .before .pre) in
     subst (λ (z : ℤ). T (nonNeg z) × Fits w64 (natAbs z)) (sym is) (tt, record { fits = omega arith })
 
--- src/signed.rt:22:1
 returns : tie.Need-returns
 returns c = ap natAbs (negative c)
 
--- src/signed.rt:22:1
 returns-2 : tie.Need-returns-2
 returns-2 c = search needs
 

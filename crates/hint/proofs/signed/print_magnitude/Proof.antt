@@ -2,7 +2,7 @@
 -- Assumes nothing.
 use borrow.Author.Needs.{needs}
 use Prim.Native.Nat.{ℕ}
-use mathlib.Core.Path.{_≡_, ap, sym, subst, _∙_}
+use mathlib.Core.Path.{ap, sym, subst}
 use mathlib.Core.List.{List}
 use native.Mathlib.Omega.{arith}
 use native.Mathlib.Nat.{add-zero}
@@ -13,16 +13,10 @@ use Rattle.hint.specs.Inner.{Wrote, Usable}
 use Rattle.hint.specs.Answer.{magnitude}
 use Rattle.hint.proofs.signed.print_magnitude.Statement.{statement}
 use Rattle.hint.proofs.signed.print_magnitude.Tie as tie
-use Rattle.hint.proofs.signed.print_magnitude.Reads as reads
-use Rattle.hint.proofs.signed.print_magnitude.Lts as lts
-use Rattle.hint.proofs.digit.print_digits.Reads as print-digits-reads
-use Rattle.hint.proofs.digit.print_pointed.Reads as print-pointed-reads
 
--- src/signed.rt:40:20
 enum-known-form : tie.Need-enum-known-form
 enum-known-form c = search needs
 
--- src/signed.rt:40:29
 print-digits-requires : tie.Need-print-digits-requires
 unfolding Rattle.hint.specs.Answer.magnitude
 print-digits-requires c κs =
@@ -32,11 +26,9 @@ print-digits-requires c κs =
     let long = ap length same in
     (subst Usable is (c .before .before .before .before .before .pre .0), omega (arith, c .before .before .before .before .before .pre .1))
 
--- src/signed.rt:41:21
 enum-known-form-2 : tie.Need-enum-known-form-2
 enum-known-form-2 c = search needs
 
--- src/signed.rt:41:32
 print-pointed-requires : tie.Need-print-pointed-requires
 unfolding Rattle.hint.specs.Answer.magnitude
 print-pointed-requires c κs =
@@ -46,15 +38,12 @@ print-pointed-requires c κs =
     let long = ap length same in
     omega (arith, c .before .before .before .before .before .pre .1)
 
--- src/signed.rt:42:22
 enum-told : tie.Need-enum-told
 enum-told c = search needs
 
--- src/signed.rt:34:1
 same-length : tie.Need-same-length
 same-length c = search needs
 
--- src/signed.rt:34:1
 returns : tie.Need-returns
 unfolding Rattle.hint.specs.Answer.magnitude
 returns c =
@@ -63,11 +52,9 @@ returns c =
     let same = ap (λ (f : Form). magnitude f (a .n)) is in
     subst (λ (l : List ℕ). Wrote l (a .at) (c .before .before .print-digits .result) (a .out .now) (c .before .before .print-digits .last .1 .1 .0)) (sym same) (c .before .before .print-digits .ensures)
 
--- src/signed.rt:34:1
 same-length-2 : tie.Need-same-length-2
 same-length-2 c = search needs
 
--- src/signed.rt:34:1
 returns-2 : tie.Need-returns-2
 unfolding Rattle.hint.specs.Answer.magnitude
 returns-2 c =
@@ -76,7 +63,6 @@ returns-2 c =
     let same = ap (λ (f : Form). magnitude f (a .n)) is in
     subst (λ (l : List ℕ). Wrote l (a .at) (c .before .before .print-pointed .result) (a .out .now) (c .before .before .print-pointed .last .1 .1 .0)) (sym same) (c .before .before .print-pointed .ensures)
 
--- src/signed.rt:34:1
 returns-3 : tie.Need-returns-3
 unfolding Rattle.hint.specs.Answer.magnitude
 returns-3 c =

@@ -15,21 +15,13 @@ use Rattle.hint.specs.Inner.{Wrote}
 use Rattle.hint.specs.Answer.{magnitude, signed}
 use Rattle.hint.proofs.signed.print_signed.Statement.{statement}
 use Rattle.hint.proofs.signed.print_signed.Tie as tie
-use Rattle.hint.proofs.signed.print_signed.Reads as reads
-use Rattle.hint.proofs.signed.print_signed.Lts as lts
-use Rattle.hint.proofs.buffer.put.Reads as put-reads
-use Rattle.hint.proofs.signed.magnitude_of.Reads as magnitude-of-reads
-use Rattle.hint.proofs.signed.print_magnitude.Reads as print-magnitude-reads
 
--- src/signed.rt:52:9
 magnitude-of-requires : tie.Need-magnitude-of-requires
 magnitude-of-requires c κs = search needs
 
--- src/signed.rt:54:13
 put-requires : tie.Need-put-requires
 put-requires c κs = search needs
 
--- src/signed.rt:55:9
 print-magnitude-requires : tie.Need-print-magnitude-requires
 print-magnitude-requires c κs =
     let a = c .before .before .before .before .before .before .before .before .args in
@@ -41,11 +33,9 @@ print-magnitude-requires c κs =
     let long = ap length digits in
     (q .0, omega (arith, q .1, short, long, c .before .before .before .put .ensures .next-is, c .before .before .before .put .kept .0))
 
--- src/signed.rt:55:9
 same-length : tie.Need-same-length
 same-length c = search needs
 
--- src/signed.rt:55:9
 returns : tie.Need-returns
 returns c =
     let a = c .before .before .before .before .before .before .before .before .before .before .before .args in
@@ -61,7 +51,6 @@ returns c =
     subst (λ (l : List ℕ). Wrote l 0 (c .before .before .print-magnitude .result) (a .out .now) (c .before .before .print-magnitude .last .1 .1 .0)) all
     (wrote-more (omega (arith, q .1)) (c .before .before .before .before .before .before .put .ensures) (c .before .before .print-magnitude .ensures))
 
--- src/signed.rt:57:5
 print-magnitude-requires-2 : tie.Need-print-magnitude-requires-2
 print-magnitude-requires-2 c κs =
     let a = c .before .before .before .before .args in
@@ -73,11 +62,9 @@ print-magnitude-requires-2 c κs =
     let long = ap length digits in
     (q .0, omega (arith, q .1, short, long))
 
--- src/signed.rt:47:1
 same-length-2 : tie.Need-same-length-2
 same-length-2 c = search needs
 
--- src/signed.rt:47:1
 returns-2 : tie.Need-returns-2
 returns-2 c =
     let a = c .before .before .before .before .before .before .before .args in

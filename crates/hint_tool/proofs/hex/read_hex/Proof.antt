@@ -8,13 +8,9 @@ use borrow.Author.Needs.{needs}
 use borrow.Author.Count.{below-more}
 use lib.ListN.{length, getD, set, length-set}
 use lib.Seq.{getD-set-same, getD-set-other}
-use native.Mathlib.Nat.{not-suc-le-zero}
 use Rattle.hint_tool.specs.Hex.{hexDigit, Pair, octets, nothing}
 use Rattle.hint_tool.proofs.hex.read_hex.Statement.{statement}
 use Rattle.hint_tool.proofs.hex.read_hex.Tie as tie
-use Rattle.hint_tool.proofs.hex.read_hex.Reads as reads
-use Rattle.hint_tool.proofs.hex.read_hex.Lts as lts
-use Rattle.hint_tool.proofs.hex.hex_digit.Reads as hex-digit-reads
 
 abbrev Inv-loop : tie.InvT-loop
 Inv-loop word out₀ count i₀ out i = (length out ≡ length out₀) × (i ≤ count) × ((k : ℕ) → k < i → Pair word out k)
@@ -22,83 +18,63 @@ Inv-loop word out₀ count i₀ out i = (length out ≡ length out₀) × (i ≤
 abbrev μ-loop : tie.MeasureT-loop
 μ-loop word out₀ count i₀ out i = count - i
 
--- src/hex.rt:31:9
 returns : tie.Need-returns Inv-loop μ-loop
 returns c = nothing
 
--- src/hex.rt:34:9
 returns-2 : tie.Need-returns-2 Inv-loop μ-loop
 returns-2 c = nothing
 
--- src/hex.rt:37:5
 loop-holds : tie.Need-loop-holds Inv-loop μ-loop
 loop-holds c = (refl, omega arith, λ (k : ℕ) h. absurd (not-suc-le-zero h))
 
--- src/hex.rt:38:35
 mul-hex-digit : tie.Need-mul-hex-digit Inv-loop μ-loop
 mul-hex-digit c = omega arith
 
--- src/hex.rt:38:30
 shared-slice-read-hex-digit : tie.Need-shared-slice-read-hex-digit Inv-loop μ-loop
 shared-slice-read-hex-digit c = omega arith
 
--- src/hex.rt:38:13
 hex-digit-requires : tie.Need-hex-digit-requires Inv-loop μ-loop
 hex-digit-requires c κs = search needs
 
--- src/hex.rt:39:34
 mul-hex-digit-2 : tie.Need-mul-hex-digit-2 Inv-loop μ-loop
 mul-hex-digit-2 c = omega arith
 
--- src/hex.rt:39:34
 add-hex-digit : tie.Need-add-hex-digit Inv-loop μ-loop
 add-hex-digit c = omega arith
 
--- src/hex.rt:39:29
 shared-slice-read-hex-digit-2 : tie.Need-shared-slice-read-hex-digit-2 Inv-loop μ-loop
 shared-slice-read-hex-digit-2 c = omega arith
 
--- src/hex.rt:39:13
 hex-digit-requires-2 : tie.Need-hex-digit-requires-2 Inv-loop μ-loop
 hex-digit-requires-2 c κs = search needs
 
--- src/hex.rt:41:13
 same-length : tie.Need-same-length Inv-loop μ-loop
 same-length c = c .before .before .before .before .before .before .loop .inv .0
 
--- src/hex.rt:41:13
 returns-3 : tie.Need-returns-3 Inv-loop μ-loop
 returns-3 c = nothing
 
--- src/hex.rt:44:13
 same-length-2 : tie.Need-same-length-2 Inv-loop μ-loop
 same-length-2 c = c .before .before .before .before .before .before .before .loop .inv .0
 
--- src/hex.rt:44:13
 returns-4 : tie.Need-returns-4 Inv-loop μ-loop
 returns-4 c = nothing
 
--- src/hex.rt:46:18
 mul-out : tie.Need-mul-out Inv-loop μ-loop
 mul-out c = omega arith
 
--- src/hex.rt:46:18
 add-out : tie.Need-add-out Inv-loop μ-loop
 add-out c = omega arith
 
--- src/hex.rt:46:9
 slice-write-out : tie.Need-slice-write-out Inv-loop μ-loop
 slice-write-out c = omega (arith, c .before .before .before .before .before .before .before .before .if2 .left)
 
--- src/hex.rt:47:9
 add-i : tie.Need-add-i Inv-loop μ-loop
 add-i c = omega arith
 
--- src/hex.rt:37:5
 loop-less : tie.Need-loop-less Inv-loop μ-loop
 loop-less c = omega arith
 
--- src/hex.rt:37:5
 loop-again : tie.Need-loop-again Inv-loop μ-loop
 loop-again c =
     let word = c .before .before .before .before .before .before .before .before .before .before .before .before .args .word .now in
@@ -122,11 +98,9 @@ loop-again c =
     } in
     (simp length-set (inv .0), omega arith, below-more _ (here .i) old new)
 
--- src/hex.rt:26:1
 same-length-3 : tie.Need-same-length-3 Inv-loop μ-loop
 same-length-3 c = c .before .loop .inv .0
 
--- src/hex.rt:26:1
 returns-5 : tie.Need-returns-5 Inv-loop μ-loop
 returns-5 c =
     let end : c .before .loop .i ≡ length (c .before .before .before .before .before .before .args .word .now) / 2 = omega arith in
