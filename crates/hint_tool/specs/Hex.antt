@@ -1,5 +1,5 @@
 -- Octets that are written in hexadecimal. Assumes nothing.
-use Prim.Native.Nat.{ℕ, _+_, _-_, _*_, _<_, _≤_}
+use Prim.Native.Nat.{ℕ, _+_, _-_, _*_, _/_, _%_, _<_, _≤_}
 use mathlib.Core.Path.{_≡_}
 use mathlib.Core.Bool.{Bool, true, false, cond, _&&_}
 use mathlib.Core.List.{List}
@@ -19,7 +19,9 @@ pub record Pair (word out : List ℕ) (i : ℕ) : Type 0 where
   pub low : hexDigit (getD word (2 * i + 1) 0) < 16
   pub octet : getD out i 0 ≡ hexDigit (getD word (2 * i) 0) * 16 + hexDigit (getD word (2 * i + 1) 0)
 
--- what was read of a word: octets, two digits for each; or it was no such word
+-- what was read of a word: octets, two digits for each; or it has an odd length, a byte that is no digit, or more octets than the buffer
 pub data Read : List ℕ → Octets → List ℕ → Type 0 where
   octets : {word out : List ℕ} {n : ℕ} → length word ≡ 2 * n → n ≤ length out → ((i : ℕ) → i < n → Pair word out i) → Read word (Are n) out
-  nothing : {word out : List ℕ} → Read word AreNot out
+  odd : {word out : List ℕ} → length word % 2 ≡ 1 → Read word AreNot out
+  noDigit : {word out : List ℕ} (i : ℕ) → i < length word → hexDigit (getD word i 0) ≡ 16 → Read word AreNot out
+  noRoom : {word out : List ℕ} → length out < length word / 2 → Read word AreNot out

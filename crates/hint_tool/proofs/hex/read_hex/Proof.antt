@@ -8,7 +8,8 @@ use borrow.Author.Needs.{needs}
 use borrow.Author.Count.{below-more}
 use lib.ListN.{length, getD, set, length-set}
 use lib.Seq.{getD-set-same, getD-set-other}
-use Rattle.hint_tool.specs.Hex.{hexDigit, Pair, octets, nothing}
+use Rattle.hint_tool.proofs.HexLaws.{no-digit}
+use Rattle.hint_tool.specs.Hex.{hexDigit, Pair, octets, odd, noDigit, noRoom}
 use Rattle.hint_tool.proofs.hex.read_hex.Statement.{statement}
 use Rattle.hint_tool.proofs.hex.read_hex.Tie as tie
 
@@ -19,10 +20,10 @@ abbrev μ-loop : tie.MeasureT-loop
 μ-loop word out₀ count i₀ out i = count - i
 
 returns : tie.Need-returns Inv-loop μ-loop
-returns c = nothing
+returns c = let w = c .before .before .before .args .word .now in odd {word = w} (omega (arith, c .if1 .taken))
 
 returns-2 : tie.Need-returns-2 Inv-loop μ-loop
-returns-2 c = nothing
+returns-2 c = noRoom (c .if2 .taken)
 
 loop-holds : tie.Need-loop-holds Inv-loop μ-loop
 loop-holds c = (refl, omega arith, λ (k : ℕ) h. absurd (not-suc-le-zero h))
@@ -52,13 +53,21 @@ same-length : tie.Need-same-length Inv-loop μ-loop
 same-length c = c .before .before .before .before .before .before .loop .inv .0
 
 returns-3 : tie.Need-returns-3 Inv-loop μ-loop
-returns-3 c = nothing
+returns-3 c =
+    let w = c .before .before .before .before .before .before .before .before .before .before .before .args .word .now in
+    let i = c .before .before .before .before .before .before .loop .i in
+    let high = c .before .before .before .hex-digit .ensures in
+    noDigit {word = w} (2 * i) (omega arith) (no-digit (getD w (2 * i) 0) (omega (arith, c .if3 .taken)))
 
 same-length-2 : tie.Need-same-length-2 Inv-loop μ-loop
 same-length-2 c = c .before .before .before .before .before .before .before .loop .inv .0
 
 returns-4 : tie.Need-returns-4 Inv-loop μ-loop
-returns-4 c = nothing
+returns-4 c =
+    let w = c .before .before .before .before .before .before .before .before .before .before .before .before .args .word .now in
+    let i = c .before .before .before .before .before .before .before .loop .i in
+    let low = c .before .before .hex-digit2 .ensures in
+    noDigit {word = w} (2 * i + 1) (omega arith) (no-digit (getD w (2 * i + 1) 0) (omega (arith, c .if4 .taken)))
 
 mul-out : tie.Need-mul-out Inv-loop μ-loop
 mul-out c = omega arith
