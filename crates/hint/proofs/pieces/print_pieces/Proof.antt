@@ -1,0 +1,278 @@
+-- `print_pieces` is right: whatever follows printing by the pieces in turn, from where the loop stands, follows printing the whole. The
+-- measure is the octets left.
+-- Assumes nothing.
+use Prim.Native.Nat.{ℕ, _+_, _-_, _*_, _≤_, _<_}
+use mathlib.Core.Path.{_≡_, refl, ap, sym, subst, _∙_}
+use mathlib.Core.Bool.{true}
+use mathlib.Core.List.{List}
+use native.Mathlib.Omega.{arith}
+use borrow.Author.Needs.{needs}
+use lib.ListN.{length}
+use Rattle.hint.proofs.PrintingLaws.{Allowed, piecesFrom, printFrom, print-start, print-end, print-turn, pieces-allowed, piece-there, stuck-step, turn-next, turn-last, turn-either, hint-pieces, uses-start-near, uses-octets-small, uses-end-after, uses-end-is}
+use Rattle.hint.proofs.Bounds.{Octets, uses-size, longest-small}
+use Rattle.hint.proofs.Outcomes.{followed-none, followed-next, followed-joined, followed-fault}
+use Rattle.hint.proofs.HintLaws.{found-whole, found-nothing, piece-allowed}
+use Rattle.hint.proofs.CutLaws.{from}
+use Rattle.hint.specs.declared.Search.the-variants.{Nowhere}
+use Rattle.hint.specs.declared.Progress.the-variants.{To, Fault}
+use Rattle.hint.specs.declared.Progress.{Progress}
+use Rattle.hint.specs.declared.Piece.{Piece}
+use Rattle.hint.specs.Inner.{Followed, stuckAt, piecesIn}
+use Rattle.hint.specs.Print.{Outcome, uses, repeats, usesStart, usesEnd, turn, printing}
+use Rattle.hint.specs.Hint.{isPiece, pieceAt, pieceEnd, pieceSize, readHint}
+use Rattle.hint.proofs.pieces.print_pieces.Statement.{statement}
+use Rattle.hint.proofs.pieces.print_pieces.Tie as tie
+
+abbrev Inv-loop : tie.InvT-loop
+Inv-loop hint value out₀ cursor₀ at₀ pos₀ out cursor at pos =
+    ((r : Progress) (after : List ℕ) → Followed (printFrom value (piecesFrom hint cursor) at) pos r out after
+    → Followed (printing (piecesIn (readHint hint)) value) 0 r out₀ after)
+    × (pos + 4 * (length value - at) ≤ length out)
+    × (length out ≡ length out₀)
+    × (cursor < length hint)
+    × (stuckAt (from (pieceSize hint) (length hint) cursor) ≡ Nowhere)
+
+abbrev μ-loop : tie.MeasureT-loop
+μ-loop hint value out₀ cursor₀ at₀ pos₀ out cursor at pos = length value - at
+
+-- what a turn knows once it has its piece
+abbrev hint : tie.After-known-told Inv-loop μ-loop → List ℕ
+hint d = d .before .before .before .before .before .before .before .before .before .args .hint .now
+
+abbrev value : tie.After-known-told Inv-loop μ-loop → List ℕ
+value d = d .before .before .before .before .before .before .before .before .before .args .value .now
+
+abbrev cursor : tie.After-known-told Inv-loop μ-loop → ℕ
+cursor d = d .before .before .before .before .before .loop .cursor
+
+abbrev at : tie.After-known-told Inv-loop μ-loop → ℕ
+at d = d .before .before .before .before .before .loop .at
+
+abbrev piece : tie.After-known-told Inv-loop μ-loop → Piece
+piece d = d .before .piece .given .0 .0
+
+-- it is the piece at the cursor
+there : (d : tie.After-known-told Inv-loop μ-loop)
+    → (isPiece (hint d) (cursor d) ≡ true) × (piece d ≡ pieceAt (hint d) (cursor d)) × (d .before .piece .given .0 .1 .0 ≡ pieceEnd (hint d) (cursor d))
+there d = found-whole (hint d) (cursor d) (piece d) (d .before .piece .given .0 .1 .0) (sym (d .before .piece .given .1) ∙ d .before .before .before .piece-at .ensures)
+
+allowed : (d : tie.After-known-told Inv-loop μ-loop) → Allowed (piece d)
+allowed d = subst Allowed (sym (there d .1)) (piece-allowed (hint d) (cursor d) (there d .0))
+
+octets : (d : tie.After-known-told Inv-loop μ-loop) → Octets (value d)
+octets d k = omega (arith, d .before .before .before .before .before .before .before .shared-slice-known2 .given k)
+
+-- where the octets of the piece end, and that the way there is short
+end : (d : tie.After-repeats-of Inv-loop μ-loop)
+    → d .before .uses-start .result + d .repeats-of .result * piece (d .before .before) .size ≡ usesEnd (piece (d .before .before)) (value (d .before .before)) (at (d .before .before))
+end d =
+    let k = d .before .before in
+    ap (λ (n : ℕ). n + d .repeats-of .result * piece k .size) (d .before .uses-start .ensures)
+    ∙ ap (λ (n : ℕ). usesStart (piece k) (at k) + n * piece k .size) (d .repeats-of .ensures)
+    ∙ uses-end-is (piece k) (value k) (at k)
+
+short : (d : tie.After-repeats-of Inv-loop μ-loop) → d .repeats-of .result * piece (d .before .before) .size ≤ 65025
+short d =
+    let k = d .before .before in
+    omega (
+      arith,
+      ap (λ (n : ℕ). n * piece k .size) (d .repeats-of .ensures),
+      uses-octets-small (piece k) (value k) (at k) (octets k (at k)) (omega (arith, allowed k, longest-small (piece k .format))),
+    )
+
+-- the uses of the piece were followed, with what they answered
+followed : (d : tie.After-print-uses Inv-loop μ-loop) (r : Progress) → d .print-uses .result ≡ r
+    → Followed (uses (repeats (pieceAt (hint (d .before .before .before .before)) (cursor (d .before .before .before .before))) (value (d .before .before .before .before)) (at (d .before .before .before .before))) (pieceAt (hint (d .before .before .before .before)) (cursor (d .before .before .before .before))) (value (d .before .before .before .before)) (usesStart (pieceAt (hint (d .before .before .before .before)) (cursor (d .before .before .before .before))) (at (d .before .before .before .before))))
+    (d .before .before .before .before .before .before .before .before .before .loop .pos) r (d .before .before .before .before .before .before .before .before .before .loop .out) (d .print-uses .last .1 .1 .1 .1 .0)
+followed d r e =
+    let k = d .before .before .before .before in
+    let here = d .before .before .before .before .before .before .before .before .before .loop in
+    let last : List ℕ = d .print-uses .last .1 .1 .1 .1 .0 in
+    let start = d .before .before .before .uses-start in
+    let count = d .before .before .repeats-of in
+    subst (λ (o : Outcome). Followed o (here .pos) r (here .out) last)
+    (ap (λ (n : ℕ). uses n (piece k) (value k) (start .result)) (count .ensures)
+    ∙ ap (λ (n : ℕ). uses (repeats (piece k) (value k) (at k)) (piece k) (value k) n) (start .ensures)
+    ∙ ap (λ (x : Piece). uses (repeats x (value k) (at k)) x (value k) (usesStart x (at k))) (there k .1))
+    (subst (λ (x : Progress). Followed (uses (count .result) (piece k) (value k) (start .result)) (here .pos) x (here .out) last) e (d .print-uses .ensures))
+
+-- after a turn, wherever the next one starts
+again : (d : tie.After-struct-known Inv-loop μ-loop) (next : ℕ)
+    → turn (pieceAt (hint (d .before .before .before .before .before .before .before .before .before .before)) (cursor (d .before .before .before .before .before .before .before .before .before .before))) (piecesFrom (hint (d .before .before .before .before .before .before .before .before .before .before)) (pieceEnd (hint (d .before .before .before .before .before .before .before .before .before .before)) (cursor (d .before .before .before .before .before .before .before .before .before .before)))) ≡ piecesFrom (hint (d .before .before .before .before .before .before .before .before .before .before)) next
+    → next < length (hint (d .before .before .before .before .before .before .before .before .before .before)) → stuckAt (from (pieceSize (hint (d .before .before .before .before .before .before .before .before .before .before))) (length (hint (d .before .before .before .before .before .before .before .before .before .before))) next) ≡ Nowhere
+    → Inv-loop (hint (d .before .before .before .before .before .before .before .before .before .before)) (value (d .before .before .before .before .before .before .before .before .before .before)) (d .before .before .before .before .before .before .before .before .before .before .before .before .before .before .before .before .before .before .before .args .out .now) 0 0 0 (d .before .before .before .before .before .before .print-uses .last .1 .1 .1 .1 .0) next
+    (d .before .before .before .before .before .before .before .before .before .uses-start .result + d .before .before .before .before .before .before .before .before .repeats-of .result * piece (d .before .before .before .before .before .before .before .before .before .before) .size) (d .before .before .n .given .0 .0)
+again d next turned below whole =
+    let k = d .before .before .before .before .before .before .before .before .before .before in
+    let here = d .before .before .before .before .before .before .before .before .before .before .before .before .before .before .before .loop in
+    let inv = here .inv in
+    let P : Piece = pieceAt (hint k) (cursor k) in
+    let last : List ℕ = d .before .before .before .before .before .before .print-uses .last .1 .1 .1 .1 .0 in
+    let done = followed (d .before .before .before .before .before .before) (To (d .before .before .n .given .0 .0)) (d .before .before .n .given .1) in
+    let room : here .pos + 4 * (length (value k) - here .at) ≤ length (here .out) = inv .1 in
+    let fits : Allowed P = piece-allowed (hint k) (cursor k) (there k .0) in
+    let size = uses-size P (value k) (fits .0) (fits .1) (octets k) (repeats P (value k) (at k)) (usesStart P (at k)) in
+    let place = followed-next done in
+    let kept = d .before .before .before .before .before .before .print-uses .kept .1 .1 .1 .1 .0 in
+    let end₁ = end (d .before .before .before .before .before .before .before .before) ∙ ap (λ (x : Piece). usesEnd x (value k) (at k)) (there k .1) in
+    let near = uses-start-near P (at k) in
+    let is = uses-end-is P (value k) (at k) in
+    let step = print-turn (hint k) (value k) (cursor k) (at k) next (inv .3) (inv .4) (d .before .before .before .before .before .before .before .before .before .before .before .before .before .before .loop-test .taken) turned in (
+      λ (r : Progress) (after : List ℕ) f. inv .0 r after
+          (subst (λ (o : Outcome). Followed o (here .pos) r (here .out) after) (sym step)
+          (followed-joined (omega (arith, size)) done
+          (subst (λ (n : ℕ). Followed (printFrom (value k) (piecesFrom (hint k) next) n) (d .before .before .n .given .0 .0) r last after) end₁ f))),
+      omega (arith, size),
+      kept ∙ inv .2,
+      below,
+      whole,
+    )
+
+-- a turn takes an octet at least
+less : (d : tie.After-repeats-of Inv-loop μ-loop) → length (value (d .before .before)) - (d .before .uses-start .result + d .repeats-of .result * piece (d .before .before) .size) < length (value (d .before .before)) - at (d .before .before)
+less d =
+    let k = d .before .before in
+    omega (arith, end d, uses-end-after (piece k) (value k) (at k) (allowed k .0), d .before .before .before .before .before .before .loop-test .taken)
+
+loop-holds : tie.Need-loop-holds Inv-loop μ-loop
+loop-holds c =
+    let a = c .before .before .before .args in
+    let q = c .before .before .before .pre in
+    let known = hint-pieces (a .hint .now) (q .0) in (
+      λ (r : Progress) (after : List ℕ) f.
+          subst (λ (o : Outcome). Followed o 0 r (a .out .now) after)
+          (print-start (a .value .now) (piecesFrom (a .hint .now) 0) ∙ sym (ap (λ (ps : List Piece). printing ps (a .value .now)) (known .0))) f,
+      omega (arith, q .1),
+      refl,
+      known .1,
+      known .2,
+    )
+
+piece-at-requires : tie.Need-piece-at-requires Inv-loop μ-loop
+piece-at-requires c κs = c .before .loop .inv .3
+
+enum-known-piece : tie.Need-enum-known-piece Inv-loop μ-loop
+enum-known-piece c = search needs
+
+enum-told : tie.Need-enum-told Inv-loop μ-loop
+enum-told c = search needs
+
+same-length : tie.Need-same-length Inv-loop μ-loop
+same-length c = c .before .before .before .before .loop .inv .2
+
+returns : tie.Need-returns Inv-loop μ-loop
+returns c =
+    let h = c .before .before .before .before .before .before .before .before .args .hint .now in
+    let here = c .before .before .before .before .loop in
+    let no = found-nothing h (here .cursor) (sym (c .enum-told .given .1) ∙ c .before .before .piece-at .ensures) in
+    let yes₁ = piece-there h (here .cursor) (here .inv .3) (here .inv .4) in
+    let z : _≡_ {A = ℕ} 0 1 = cc in
+    absurd (omega arith)
+
+uses-start-requires : tie.Need-uses-start-requires Inv-loop μ-loop
+uses-start-requires c κs = omega (arith, c .before .before .before .before .loop-test .taken, c .before .before .before .before .before .before .before .before .before .pre .1 .0)
+
+repeats-of-requires : tie.Need-repeats-of-requires Inv-loop μ-loop
+repeats-of-requires c κs = c .before .before .before .before .before .loop-test .taken
+
+print-uses-requires : tie.Need-print-uses-requires Inv-loop μ-loop
+print-uses-requires c κs =
+    let k = c .before .before .before in (
+      (c .before .before .before .before .before .before .before .before .before .before .before .before .pre .1 .0, omega (arith, c .before .before .before .before .before .before .before .before .before .before .before .before .pre .1, c .before .before .before .before .before .before .before .loop-test .taken, c .before .before .uses-start .ensures, uses-start-near (piece k) (at k))),
+      (allowed k, omega (arith, c .before .before .before .before .before .before .before .before .loop .inv .1, c .before .before .uses-start .ensures, uses-start-near (piece k) (at k))),
+    )
+
+enum-known-n : tie.Need-enum-known-n Inv-loop μ-loop
+enum-known-n c = search needs
+
+enum-known-place : tie.Need-enum-known-place Inv-loop μ-loop
+enum-known-place c = search needs
+
+same-length-2 : tie.Need-same-length-2 Inv-loop μ-loop
+same-length-2 c = c .before .before .before .before .before .print-uses .kept .1 .1 .1 .1 .0 ∙ c .before .before .before .before .before .before .before .before .before .before .before .before .before .before .loop .inv .2
+
+returns-2 : tie.Need-returns-2 Inv-loop μ-loop
+returns-2 c =
+    let k = c .before .before .before .before .before .before .before .before .before in
+    let here = c .before .before .before .before .before .before .before .before .before .before .before .before .before .before .loop in
+    let inv = here .inv in
+    let P : Piece = pieceAt (hint k) (cursor k) in
+    let fault = c .before .place .given in
+    let last : List ℕ = c .before .before .before .before .before .print-uses .last .1 .1 .1 .1 .0 in
+    let turned = turn-either (hint k) (cursor k) (inv .3) (inv .4) in
+    let step = print-turn (hint k) (value k) (cursor k) (at k) (turned .0) (inv .3) (inv .4) (c .before .before .before .before .before .before .before .before .before .before .before .before .before .loop-test .taken) (turned .1) in
+    inv .0 (Fault (fault .0 .0)) last
+    (subst (λ (o : Outcome). Followed o (here .pos) (Fault (fault .0 .0)) (here .out) last) (sym step)
+    (followed-fault (printFrom (value k) (piecesFrom (hint k) (turned .0)) (usesEnd P (value k) (at k))) (followed (c .before .before .before .before .before) (Fault (fault .0 .0)) (fault .1))))
+
+mul-at : tie.Need-mul-at Inv-loop μ-loop
+mul-at c = omega (arith, short (c .before .before .before .before .before .before .before .before))
+
+add-at : tie.Need-add-at Inv-loop μ-loop
+add-at c =
+    let k = c .before .before .before .before .before .before .before .before .before .before in
+    omega (arith, short (c .before .before .before .before .before .before .before .before), c .before .before .before .before .before .before .before .before .before .uses-start .ensures, uses-start-near (piece k) (at k), c .before .before .before .before .before .before .before .before .before .before .before .before .before .before .loop-test .taken, c .before .before .before .before .before .before .before .before .before .before .before .before .before .before .before .before .before .before .before .pre .1)
+
+loop-less : tie.Need-loop-less Inv-loop μ-loop
+loop-less c = less (c .before .before .before .before .before .before .before .before .before)
+
+loop-again : tie.Need-loop-again Inv-loop μ-loop
+loop-again c =
+    let k = c .before .before .before .before .before .before .before .before .before .before .before in
+    let inv = c .before .before .before .before .before .before .before .before .before .before .before .before .before .before .before .before .loop .inv in
+    let next = there k .2 in
+    let below : pieceEnd (hint k) (cursor k) < length (hint k) = omega (arith, next, c .if1 .taken) in
+    again (c .before) (c .before .before .before .before .before .before .before .before .before .before .before .before .piece .given .0 .1 .0)
+    (turn-next (hint k) (cursor k) (inv .3) (inv .4) below ∙ ap (piecesFrom (hint k)) (sym next))
+    (c .if1 .taken)
+    (ap (λ (n : ℕ). stuckAt (from (pieceSize (hint k)) (length (hint k)) n)) next ∙ stuck-step (hint k) (cursor k) (inv .3) (there k .0) ∙ inv .4)
+
+loop-less-2 : tie.Need-loop-less-2 Inv-loop μ-loop
+loop-less-2 c = less (c .before .before .before .before .before .before .before .before .before)
+
+loop-again-2 : tie.Need-loop-again-2 Inv-loop μ-loop
+loop-again-2 c =
+    let k = c .before .before .before .before .before .before .before .before .before .before .before in
+    let inv = c .before .before .before .before .before .before .before .before .before .before .before .before .before .before .before .before .loop .inv in
+    let past : length (hint k) ≤ pieceEnd (hint k) (cursor k) = omega (arith, there k .2, c .if1 .left) in
+    again (c .before) (cursor k) (turn-last (hint k) (cursor k) (inv .3) (inv .4) past) (inv .3) (inv .4)
+
+same-length-3 : tie.Need-same-length-3 Inv-loop μ-loop
+same-length-3 c = c .before .loop .inv .2
+
+returns-3 : tie.Need-returns-3 Inv-loop μ-loop
+returns-3 c =
+    let a = c .before .before .before .before .before .args in
+    let here = c .before .loop in
+    here .inv .0 (To (here .pos)) (here .out)
+    (subst (λ (o : Outcome). Followed o (here .pos) (To (here .pos)) (here .out) (here .out))
+    (sym (print-end (a .value .now) (piecesFrom (a .hint .now) (here .cursor)) (here .at) (pieces-allowed (a .hint .now) (here .cursor)) (c .loop-test .left)))
+    (followed-none (here .pos) (here .out)))
+
+pub print-pieces-spec : {M : Type 1} → statement M
+print-pieces-spec =
+    tie.close
+    (tie.spec
+    Inv-loop
+    μ-loop
+    loop-holds
+    piece-at-requires
+    enum-known-piece
+    enum-told
+    same-length
+    returns
+    uses-start-requires
+    repeats-of-requires
+    print-uses-requires
+    enum-known-n
+    enum-known-place
+    same-length-2
+    returns-2
+    mul-at
+    add-at
+    loop-less
+    loop-again
+    loop-less-2
+    loop-again-2
+    same-length-3
+    returns-3)

@@ -1,0 +1,160 @@
+// Prints a value by its DISPLAY-HINT: octets by octet-format pieces, integers by one integer format (RFC 2579, 3.1).
+// The caller lends the output buffer. Nothing is asked of the arguments: what cannot be printed is refused.
+mod buffer;
+mod character;
+mod digit;
+mod grammar;
+mod pieces;
+mod signed;
+
+ghost use mathlib.Core.Path.{_≡_};
+ghost use Rattle.hint.specs.Answer.{numberOf, placeOf, lengthOf};
+ghost use Rattle.hint.specs.Answer.{Answered, octetsVerdict, integerVerdict, octetsPart, integerPart};
+ghost use lib.ListN.{length};
+use buffer::clear;
+use grammar::form_of;
+use grammar::is_hint;
+use pieces::print_pieces;
+use signed::in_range;
+use signed::is_bad;
+use signed::print_signed;
+
+// What a call answers. Answer.antt gives the number, place and length of each case.
+pub enum Answer {
+    // The text's length.
+    Printed(usize),
+    // The output buffer is shorter than the part that the call works on.
+    ShortBuffer,
+    // A value of more than 1,024 octets.
+    LongValue,
+    BadHint,
+    // The first octet that isn't of its format, or its character's start.
+    BadOctet(usize),
+    OutOfRange,
+}
+
+impl Answer {
+    // The paper's number: 0 for a text, 30 to 34 for a refusal.
+    pub fn number(self) -> u64
+        ensures { λ r. ⌜ r ≡ numberOf self ⌝ }
+    {
+        match self {
+            Answer::Printed(_) => 0,
+            Answer::ShortBuffer => 30,
+            Answer::LongValue => 31,
+            Answer::BadHint => 32,
+            Answer::BadOctet(_) => 33,
+            Answer::OutOfRange => 34,
+        }
+    }
+
+    // The place of refusal 33, and 0 for any other answer.
+    pub fn place(self) -> usize
+        ensures { λ r. ⌜ r ≡ placeOf self ⌝ }
+    {
+        match self {
+            Answer::Printed(_) => 0,
+            Answer::ShortBuffer => 0,
+            Answer::LongValue => 0,
+            Answer::BadHint => 0,
+            Answer::BadOctet(place) => place,
+            Answer::OutOfRange => 0,
+        }
+    }
+
+    // The text's length, and 0 for a refusal.
+    pub fn length(self) -> usize
+        ensures { λ r. ⌜ r ≡ lengthOf self ⌝ }
+    {
+        match self {
+            Answer::Printed(n) => n,
+            Answer::ShortBuffer => 0,
+            Answer::LongValue => 0,
+            Answer::BadHint => 0,
+            Answer::BadOctet(_) => 0,
+            Answer::OutOfRange => 0,
+        }
+    }
+}
+
+// One octet-format specification. A separator or terminator of 0 is none.
+pub struct Piece {
+    pub starred: bool,
+    pub size: usize,
+    pub format: u8,
+    pub separator: u8,
+    pub terminator: u8,
+}
+
+// A number of a hint, and the place after it.
+pub struct Number {
+    pub value: usize,
+    pub next: usize,
+}
+
+// A hint for integers: a base, or a decimal point before so many digits.
+pub enum Form {
+    Base(u64),
+    Point(u64),
+    Bad,
+}
+
+// Where something is found first.
+pub enum Search {
+    At(usize),
+    Nowhere,
+}
+
+// Printing has come to this place of the output, or found this octet at fault.
+pub enum Progress {
+    To(usize),
+    Fault(usize),
+}
+
+// What stands at a place of a hint: a piece and the place after it, or none.
+pub enum Found {
+    Whole(Piece, usize),
+    Nothing,
+}
+
+// Prints octets by a hint for octets. Works on the first 4,096 bytes of the output: the text, then zeros. A refusal zeroes
+// them too, but for a buffer that is shorter, of which nothing changes.
+pub fn octets(hint: &[u8], value: &[u8], out: &mut [u8]) -> Answer
+    ensures { λ r. ⌜ Answered octetsPart (octetsVerdict (length (now (out .entry))) (now (hint .entry)) (now (value .entry))) r (now (out .entry)) (now (out .exit)) ⌝ }
+{
+    if out.len() < 4096 {
+        return Answer::ShortBuffer;
+    }
+    clear(out, 4096);
+    if 1024 < value.len() {
+        return Answer::LongValue;
+    }
+    if !is_hint(hint) {
+        return Answer::BadHint;
+    }
+    match print_pieces(hint, value, &mut out[..4096]) {
+        Progress::To(n) => Answer::Printed(n),
+        Progress::Fault(place) => {
+            clear(out, 4096);
+            Answer::BadOctet(place)
+        }
+    }
+}
+
+// Prints an integer by a hint for integers, likewise in the first 64 bytes of the output.
+pub fn integer(hint: &[u8], value: i64, out: &mut [u8]) -> Answer
+    ensures { λ r. ⌜ Answered integerPart (integerVerdict (length (now (out .entry))) (now (hint .entry)) value) r (now (out .entry)) (now (out .exit)) ⌝ }
+{
+    if out.len() < 64 {
+        return Answer::ShortBuffer;
+    }
+    clear(out, 64);
+    let form = form_of(hint);
+    if is_bad(form) {
+        return Answer::BadHint;
+    }
+    if !in_range(value) {
+        return Answer::OutOfRange;
+    }
+    Answer::Printed(print_signed(form, value, &mut out[..64]))
+}

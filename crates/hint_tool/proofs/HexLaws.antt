@@ -1,0 +1,37 @@
+-- Octets that were read lie in the buffer; a hex digit is below 16, and 16 stands for no digit. Assumes nothing.
+use Prim.Native.Nat.{ℕ, _-_, _≤_, _<_}
+use mathlib.Core.Path.{_≡_, refl}
+use mathlib.Core.Bool.{Bool, true, false, cond, _&&_, false≢true}
+use lib.Dec.{leb}
+use borrow.Author.Tests.{leb-true}
+use mathlib.Core.List.{List}
+use native.Mathlib.Omega.{arith}
+use lib.ListN.{length}
+use Rattle.hint_tool.specs.Hex.{hexDigit, Read, octets, odd, noDigit, noRoom}
+use Rattle.hint_tool.specs.declared.hex.Octets.{Octets}
+use Rattle.hint_tool.specs.declared.hex.Octets.the-variants.{Are, AreNot}
+
+not-are : {n : ℕ} → AreNot ≡ Are n → ⊥
+not-are e = let z : _≡_ {A = ℕ} 0 1 = cc in omega arith
+
+pub read-fits : {word out : List ℕ} {r : Octets} {n : ℕ} → Read word r out → r ≡ Are n → n ≤ length out
+read-fits {n = n} (octets {n = m} long fits pairs) e = let same : m ≡ n = cc in omega arith
+read-fits (odd o) e = absurd (not-are e)
+read-fits (noDigit i below none) e = absurd (not-are e)
+read-fits (noRoom less) e = absurd (not-are e)
+
+-- past 15 there is 16 alone
+pub no-digit : (b : ℕ) → 15 < hexDigit b → hexDigit b ≡ 16
+unfolding hexDigit
+no-digit b = go (leb 48 b && leb b 57) (leb 65 b && leb b 70) (leb 97 b && leb b 102) (upper (leb 48 b) 57) (upper (leb 65 b) 70) (upper (leb 97 b) 102)
+  where
+    upper : (low : Bool) (high : ℕ) → (low && leb b high) ≡ true → b ≤ high
+    upper true high e = leb-true b high e
+    upper false high e = absurd (false≢true e)
+
+    go : (d u l : Bool) → (d ≡ true → b ≤ 57) → (u ≡ true → b ≤ 70) → (l ≡ true → b ≤ 102) → 15 < cond d (b - 48) (cond u (b - 55) (cond l (b - 87) 16))
+        → cond d (b - 48) (cond u (b - 55) (cond l (b - 87) 16)) ≡ 16
+    go true u l hd hu hl h = absurd (omega (arith, hd refl))
+    go false true l hd hu hl h = absurd (omega (arith, hu refl))
+    go false false true hd hu hl h = absurd (omega (arith, hl refl))
+    go false false false hd hu hl h = refl

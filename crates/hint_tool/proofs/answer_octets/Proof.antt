@@ -1,0 +1,78 @@
+-- `answer_octets` is safe: the octets that were read lie in their buffer, and what the call answers in its own.
+-- Assumes nothing.
+use borrow.Author.Needs.{needs}
+use mathlib.Core.Path.{sym}
+use lib.Seq.{length-take-le}
+use Rattle.hint_tool.proofs.HexLaws.{read-fits}
+use Rattle.hint.proofs.Answers.{length-fits}
+use Rattle.hint_tool.proofs.answer_octets.Statement.{statement}
+use Rattle.hint_tool.proofs.answer_octets.Tie as tie
+
+large-buffer-requires : tie.Need-large-buffer-requires
+large-buffer-requires c κs = search needs
+
+slice-aggregate-read-hex : tie.Need-slice-aggregate-read-hex
+slice-aggregate-read-hex c = search needs
+
+read-hex-requires : tie.Need-read-hex-requires
+read-hex-requires c κs = search needs
+
+enum-known-n : tie.Need-enum-known-n
+enum-known-n c = search needs
+
+enum-told : tie.Need-enum-told
+enum-told c = search needs
+
+slice-aggregate-complain : tie.Need-slice-aggregate-complain
+slice-aggregate-complain c = search needs
+
+complain-requires : tie.Need-complain-requires
+complain-requires c κs = search needs
+
+returns : tie.Need-returns
+returns c = search needs
+
+buffer-requires : tie.Need-buffer-requires
+buffer-requires c κs = search needs
+
+array-share-prefix-space : tie.Need-array-share-prefix-space
+array-share-prefix-space c = read-fits (c .before .before .before .before .before .read-hex .ensures) (c .before .before .n .given .1)
+
+slice-aggregate-octets : tie.Need-slice-aggregate-octets
+slice-aggregate-octets c = sym (length-take-le _ _ (read-fits (c .before .before .before .before .before .before .read-hex .ensures) (c .before .before .before .n .given .1)))
+
+slice-aggregate-octets-2 : tie.Need-slice-aggregate-octets-2
+slice-aggregate-octets-2 c = search needs
+
+octets-requires : tie.Need-octets-requires
+octets-requires c κs = search needs
+
+slice-aggregate-print-answer : tie.Need-slice-aggregate-print-answer
+slice-aggregate-print-answer c = search needs
+
+print-answer-requires : tie.Need-print-answer-requires
+print-answer-requires c κs = length-fits _ _ _ _ _ (c .before .before .octets .ensures)
+
+returns-2 : tie.Need-returns-2
+returns-2 c = search needs
+
+pub answer-octets-spec : {M : Type 1} → statement M
+answer-octets-spec =
+    tie.close
+    (tie.spec
+    large-buffer-requires
+    slice-aggregate-read-hex
+    read-hex-requires
+    enum-known-n
+    enum-told
+    slice-aggregate-complain
+    complain-requires
+    returns
+    buffer-requires
+    array-share-prefix-space
+    slice-aggregate-octets
+    slice-aggregate-octets-2
+    octets-requires
+    slice-aggregate-print-answer
+    print-answer-requires
+    returns-2)

@@ -1,0 +1,71 @@
+-- `hint_tool::main` is safe: the arguments that fit the buffer are a part of it. Assumes nothing.
+use native.Mathlib.Omega.{arith}
+use lib.ListN.{length-take}
+use borrow.Author.Needs.{needs}
+use Rattle.hint_tool.proofs.main.Statement.{statement}
+use Rattle.hint_tool.proofs.main.Tie as tie
+
+large-buffer-requires : tie.Need-large-buffer-requires
+large-buffer-requires c κs = search needs
+
+arg-count-requires : tie.Need-arg-count-requires
+arg-count-requires c κs = search needs
+
+slice-aggregate-read-list : tie.Need-slice-aggregate-read-list
+slice-aggregate-read-list c = search needs
+
+read-list-requires : tie.Need-read-list-requires
+read-list-requires c κs = search needs
+
+returns : tie.Need-returns
+returns c = search needs
+
+slice-aggregate-arguments : tie.Need-slice-aggregate-arguments
+slice-aggregate-arguments c = search needs
+
+arguments-requires : tie.Need-arguments-requires
+arguments-requires c κs = search needs
+
+slice-aggregate-complain : tie.Need-slice-aggregate-complain
+slice-aggregate-complain c = search needs
+
+slice-aggregate-complain-2 : tie.Need-slice-aggregate-complain-2
+slice-aggregate-complain-2 c = search needs
+
+complain-requires : tie.Need-complain-requires
+complain-requires c κs = search needs
+
+returns-2 : tie.Need-returns-2
+returns-2 c = search needs
+
+array-share-prefix-space : tie.Need-array-share-prefix-space
+array-share-prefix-space c = search needs
+
+slice-aggregate-answer-case : tie.Need-slice-aggregate-answer-case
+slice-aggregate-answer-case c = simp length-take (omega arith)
+
+answer-case-requires : tie.Need-answer-case-requires
+answer-case-requires c κs = search needs
+
+returns-3 : tie.Need-returns-3
+returns-3 c = search needs
+
+pub main-spec : {M : Type 1} → statement M
+main-spec =
+    tie.close
+    (tie.spec
+    large-buffer-requires
+    arg-count-requires
+    slice-aggregate-read-list
+    read-list-requires
+    returns
+    slice-aggregate-arguments
+    arguments-requires
+    slice-aggregate-complain
+    slice-aggregate-complain-2
+    complain-requires
+    returns-2
+    array-share-prefix-space
+    slice-aggregate-answer-case
+    answer-case-requires
+    returns-3)

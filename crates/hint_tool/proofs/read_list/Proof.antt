@@ -1,0 +1,117 @@
+-- `hint_tool::read_list` is safe and ends: what is not used yet always stands in the buffer. Assumes nothing.
+use Rattle.command.specs.Within.{LinesWithin}
+use Prim.Native.Nat.{_-_}
+use mathlib.Core.Path.{_≡_}
+use Rattle.command.proofs.Found.{line-within, too-long-within}
+use native.Mathlib.Omega.{arith}
+use lib.ListN.{length}
+use borrow.Author.Needs.{needs}
+use Rattle.hint_tool.proofs.read_list.Statement.{statement}
+use Rattle.hint_tool.proofs.read_list.Tie as tie
+
+abbrev Inv-loop : tie.InvT-loop
+Inv-loop buf₀ lines₀ line₀ t8 t9 buf lines line = (length buf ≡ length buf₀) × LinesWithin lines (length buf)
+
+abbrev μ-loop : tie.MeasureT-loop
+μ-loop buf₀ lines₀ line₀ t8 t9 buf lines line = 18446744073709551615 - line
+
+loop-holds : tie.Need-loop-holds Inv-loop μ-loop
+loop-holds c = search needs
+
+add-line : tie.Need-add-line Inv-loop μ-loop
+add-line c = search needs
+
+next-line-requires : tie.Need-next-line-requires Inv-loop μ-loop
+next-line-requires c κs = search needs
+
+enum-known-from : tie.Need-enum-known-from Inv-loop μ-loop
+enum-known-from c = search needs
+
+sub-answer-case : tie.Need-sub-answer-case Inv-loop μ-loop
+sub-answer-case c =
+    let within = line-within _ _ _ _ _ (c .before .from .given .1) (c .before .before .before .before .before .next-line .ensures) in
+    search needs
+
+part-answer-case-start : tie.Need-part-answer-case-start Inv-loop μ-loop
+part-answer-case-start c =
+    let within = line-within _ _ _ _ _ (c .before .before .from .given .1) (c .before .before .before .before .before .before .next-line .ensures) in
+    search needs
+
+part-answer-case-end : tie.Need-part-answer-case-end Inv-loop μ-loop
+part-answer-case-end c =
+    let within = line-within _ _ _ _ _ (c .before .before .from .given .1) (c .before .before .before .before .before .before .next-line .ensures) in
+    search needs
+
+answer-case-requires : tie.Need-answer-case-requires Inv-loop μ-loop
+answer-case-requires c κs = search needs
+
+loop-less : tie.Need-loop-less Inv-loop μ-loop
+loop-less c = search needs
+
+loop-again : tie.Need-loop-again Inv-loop μ-loop
+loop-again c =
+    let within = line-within _ _ _ _ _ (c .before .before .before .before .from .given .1) (c .before .before .before .before .before .before .before .before .next-line .ensures) in
+    (omega arith, record { ordered = omega arith; inside = omega arith })
+
+enum-known-rest : tie.Need-enum-known-rest Inv-loop μ-loop
+enum-known-rest c = search needs
+
+slice-aggregate-complain : tie.Need-slice-aggregate-complain Inv-loop μ-loop
+slice-aggregate-complain c = search needs
+
+slice-aggregate-complain-2 : tie.Need-slice-aggregate-complain-2 Inv-loop μ-loop
+slice-aggregate-complain-2 c = search needs
+
+complain-requires : tie.Need-complain-requires Inv-loop μ-loop
+complain-requires c κs = search needs
+
+loop-less-2 : tie.Need-loop-less-2 Inv-loop μ-loop
+loop-less-2 c = search needs
+
+loop-again-2 : tie.Need-loop-again-2 Inv-loop μ-loop
+loop-again-2 c =
+    let within = too-long-within _ _ _ (c .before .before .before .before .rest .given .1) (c .before .before .before .before .before .before .before .before .next-line .ensures) in
+    (omega arith, record { ordered = omega arith; inside = omega arith })
+
+enum-told : tie.Need-enum-told Inv-loop μ-loop
+enum-told c = search needs
+
+same-length : tie.Need-same-length Inv-loop μ-loop
+same-length c = search needs
+
+returns : tie.Need-returns Inv-loop μ-loop
+returns c = search needs
+
+same-length-2 : tie.Need-same-length-2 Inv-loop μ-loop
+same-length-2 c = search needs
+
+returns-2 : tie.Need-returns-2 Inv-loop μ-loop
+returns-2 c = search needs
+
+pub read-list-spec : {M : Type 1} → statement M
+read-list-spec =
+    tie.close
+    (tie.spec
+    Inv-loop
+    μ-loop
+    loop-holds
+    add-line
+    next-line-requires
+    enum-known-from
+    sub-answer-case
+    part-answer-case-start
+    part-answer-case-end
+    answer-case-requires
+    loop-less
+    loop-again
+    enum-known-rest
+    slice-aggregate-complain
+    slice-aggregate-complain-2
+    complain-requires
+    loop-less-2
+    loop-again-2
+    enum-told
+    same-length
+    returns
+    same-length-2
+    returns-2)

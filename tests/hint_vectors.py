@@ -1,0 +1,340 @@
+#!/usr/bin/env python3
+"""The cases of crates/hint_tool, from a reading of document 01, "Printing by hint", of its own.
+
+hint_vectors.py          writes crates/hint_tool/stdin and crates/hint_tool/stdout
+hint_vectors.py --check  says whether the two files are those of this reading, and exits 1 where they are not
+
+What a case should print is written out by hand beside it, or computed by the reading below where it is long. The
+reading shares nothing with the crate: hints are matched by regular expressions, UTF-8 is Python's own strict decoder,
+digits are Python's. Every expectation that stands by hand is held against the reading too.
+"""
+import os
+import re
+import sys
+
+HERE = os.path.dirname(os.path.dirname(os.path.abspath(__file__)))
+MARK = rb'[ -)+-/:-~]'                      # 32 to 126, no digit and no `*` (42)
+LENGTH8 = rb'[1-8]'
+LENGTH255 = rb'(?:25[0-5]|2[0-4][0-9]|1[0-9][0-9]|[1-9][0-9]?)'
+PIECE = re.compile(
+    rb'(?:(?P<star>\*)(?P<n1>' + LENGTH8 + rb'(?=[xdo])|' + LENGTH255 + rb'(?=[at]))(?P<f1>[xdoat])(?:(?P<s1>' + MARK + rb')(?P<t1>' + MARK + rb')?)?'
+    rb'|(?P<n2>' + LENGTH8 + rb'(?=[xdo])|' + LENGTH255 + rb'(?=[at]))(?P<f2>[xdoat])(?P<s2>' + MARK + rb')?)', re.S)
+INTEGER = re.compile(rb'(?:(?P<base>[xobd])|d-(?P<point>10|[1-9]))\Z', re.S)
+
+
+def pieces_of(hint):
+    """(star, length, format, separator, terminator) for each piece, or None."""
+    if not 1 <= len(hint) <= 255:
+        return None
+    found, at = [], 0
+    while at < len(hint):
+        m = PIECE.match(hint, at)
+        if not m:
+            return None
+        star = m.group('star') is not None
+        k = '1' if star else '2'
+        found.append((star, int(m.group('n' + k)), m.group('f' + k).decode(), m.group('s' + k) or b'', (m.group('t1') or b'') if star else b''))
+        at = m.end()
+    return found
+
+
+class Fault(Exception):
+    pass
+
+
+def use(form, octets, at):
+    if form == 'a':
+        for k, o in enumerate(octets):
+            if o > 127:
+                raise Fault(at + k)
+        return octets
+    if form == 't':
+        try:
+            octets.decode('utf-8', 'strict')
+        except UnicodeDecodeError as e:
+            raise Fault(at + e.start)
+        return octets
+    return format(int.from_bytes(octets, 'big'), {'x': 'x', 'd': 'd', 'o': 'o'}[form]).encode()
+
+
+def octets_text(pieces, value):
+    out, at, turn = b'', 0, 0
+    while at < len(value):
+        star, length, form, separator, terminator = pieces[min(turn, len(pieces) - 1)]
+        turn += 1
+        count = 1
+        if star:
+            count, at = value[at], at + 1
+        for left in range(count - 1, -1, -1):
+            if at == len(value):
+                break
+            octets = value[at:at + length]
+            out += use(form, octets, at)
+            at += len(octets)
+            if at < len(value):
+                out += terminator if left == 0 and terminator else separator
+    return out
+
+
+def octets(hint, hexed):
+    value = bytes.fromhex(hexed)
+    if len(value) > 1024:
+        return b'refused\t31\t0'
+    pieces = pieces_of(hint)
+    if pieces is None:
+        return b'refused\t32\t0'
+    try:
+        text = octets_text(pieces, value)
+    except Fault as f:
+        return b'refused\t33\t%d' % f.args[0]
+    assert len(text) <= 4 * len(value)
+    return b'printed\t' + text
+
+
+def integer(hint, number):
+    m = INTEGER.match(hint)
+    if not m:
+        return b'refused\t32\t0'
+    n = int(number)
+    if not -2147483648 <= n <= 4294967295:
+        return b'refused\t34\t0'
+    sign, n = ('-' if n < 0 else ''), abs(n)
+    if m.group('base'):
+        text = format(n, m.group('base').decode())
+    else:
+        places = int(m.group('point'))
+        digits = str(n).rjust(places + 1, '0')
+        text = digits[:-places] + '.' + digits[-places:]
+    return b'printed\t' + (sign + text).encode()
+
+
+# (kind, hint, value, what it prints by hand; None where the reading says it)
+T = 'printed\t'
+
+
+def refused(n, place=0):
+    return 'refused\t%d\t%d' % (n, place)
+
+
+CASES = [
+    # P6, P7 and P8 of the paper
+    ('octets', '*1d.:1d', '020A0B05', T + '10.11:5'),
+    ('integer', 'd-2', '-5', T + '-0.05'),
+    ('octets', '255t', 'C3A9', T + '\u00e9'),
+    ('octets', '255a', 'C3A9', refused(33)),
+    # RFC 2579's own hints: DisplayString, PhysAddress, MacAddress, DateAndTime with its example, and a shorter one
+    ('octets', '255a', '48656c6c6f2c20776f726c64', T + 'Hello, world'),
+    ('octets', '1x:', '0008a15e', T + '0:8:a1:5e'),
+    ('octets', '1x:', '001b44113ab7', T + '0:1b:44:11:3a:b7'),
+    ('octets', '2d-1d-1d,1d:1d:1d.1d,1a1d:1d', '07c8051a0d1e0f002d0400', T + '1992-5-26,13:30:15.0,-4:0'),
+    ('octets', '2d-1d-1d,1d:1d:1d.1d,1a1d:1d', '07c8051a0d1e0f00', T + '1992-5-26,13:30:15.0'),
+    ('integer', 'd-2', '1234', T + '12.34'),
+    # a maker's name with accents
+    ('octets', '255t', 'Soci\u00e9t\u00e9 \u00c9lectrique M\u00fcller'.encode().hex(), T + 'Soci\u00e9t\u00e9 \u00c9lectrique M\u00fcller'),
+    # lengths of hints: 0, 255 and 256 bytes
+    ('octets', '', '01', refused(32)),
+    ('octets', '1x:' * 85, '01' * 90, None),
+    ('octets', '1x' * 126 + '1x:', '01' * 130, None),
+    ('octets', '1x:' * 84 + '1x1x', '01', refused(32)),
+    ('octets', '1x' * 128, '01', refused(32)),
+    # lengths of pieces
+    ('octets', '8x', 'ff' * 8, T + 'f' * 16),
+    ('octets', '8d', 'ff' * 8, T + '18446744073709551615'),
+    ('octets', '8o', 'ff' * 8, T + '1777777777777777777777'),
+    ('octets', '8x-', '00' * 8 + '01', T + '0-1'),
+    ('octets', '9x', '01', refused(32)),
+    ('octets', '9d', '01', refused(32)),
+    ('octets', '9o', '01', refused(32)),
+    ('octets', '10x', '01', refused(32)),
+    ('octets', '9a', '414243', T + 'ABC'),
+    ('octets', '255a.', '41' * 256, T + 'A' * 255 + '.A'),
+    ('octets', '256a', '41', refused(32)),
+    ('octets', '256t', '41', refused(32)),
+    ('octets', '300t', '41', refused(32)),
+    ('octets', '1000a', '41', refused(32)),
+    ('octets', '0x', '01', refused(32)),
+    ('octets', '0a', '01', refused(32)),
+    ('octets', '01x', '01', refused(32)),
+    ('octets', '08x', '01', refused(32)),
+    ('octets', '1x:01x', '01', refused(32)),
+    # what is no piece
+    ('octets', '*', '01', refused(32)),
+    ('octets', '**1x', '01', refused(32)),
+    ('octets', '*x', '01', refused(32)),
+    ('octets', 'x', '01', refused(32)),
+    ('octets', '1', '01', refused(32)),
+    ('octets', '1b', '01', refused(32)),
+    ('octets', '1X', '01', refused(32)),
+    ('octets', '1x:1', '01', refused(32)),
+    ('octets', '1x:*', '01', refused(32)),
+    ('octets', ' 1x', '01', refused(32)),
+    ('octets', '1x\x7f', '01', refused(32)),
+    ('octets', '1x\x1f', '01', refused(32)),
+    ('octets', '1x\u00e9', '01', refused(32)),
+    # separators: a letter, the first and the last byte, a format's letter, and none
+    ('octets', '1xx', '0a0b', T + 'axb'),
+    ('octets', '1xx1x', '0a0b', T + 'axb'),
+    ('octets', '1d 1d~', '010203', T + '1 2~3'),
+    ('octets', '1dd', '0102', T + '1d2'),
+    ('octets', '1x', '0a0b0c', T + 'abc'),
+    ('octets', '2x', '000a0b', T + 'ab'),
+    # a terminator only after `*` and a separator
+    ('octets', '1d.:', '0102', refused(32)),
+    ('octets', '1d.:1d', '0102', refused(32)),
+    ('octets', '*1d.:;', '0102', refused(32)),
+    ('octets', '*1d1d', '02030405', T + '345'),
+    ('octets', '*1d.1d', '02030405', T + '3.4.5'),
+    # repeat counts: 0, fewer octets than it says, nothing after it, and the last piece again
+    ('octets', '*1d.:1d', '0005', T + '5'),
+    ('octets', '*1d.:1d', '00', T),
+    ('octets', '*1d.:1d', '05', T),
+    ('octets', '*1d.:', '050102', T + '1.2'),
+    ('octets', '*1d.:1d', '020102', T + '1.2'),
+    ('octets', '1d.*1d', '0502', T + '5.'),
+    ('octets', '1d.*1d-', '0500', T + '5.'),
+    ('octets', '*1x:-', '020a0b010c', T + 'a:b-c'),
+    ('octets', '*1x:-', '00000301020300', T + '1:2:3-'),
+    ('octets', '*2d,', '0201020304', T + '258,772'),
+    ('octets', '*2d,;1a', '020102030441', T + '258,772;A'),
+    ('octets', '1d.2x:', '010203040506', T + '1.203:405:6'),
+    ('octets', '*1a', 'ff' + '41' * 255 + '0142', T + 'A' * 255 + 'B'),
+    # the empty value, and 1,024 and 1,025 octets
+    ('octets', '1x', '', T),
+    ('octets', '*1x', '', T),
+    ('octets', '255t', '', T),
+    ('octets', '', '', refused(32)),
+    ('octets', '255a', '41' * 1024, T + 'A' * 1024),
+    ('octets', '255a', '41' * 1025, refused(31)),
+    ('octets', '?', '41' * 1025, refused(31)),
+    ('octets', '1o:', 'ff' * 1024, T + ':'.join(['377'] * 1024)),
+    ('octets', '8d-', 'ff' * 1024, None),
+    # digits: no leading zeros, lower case
+    ('octets', '4x', '00000000', T + '0'),
+    ('octets', '4x', 'DEADBEEF', T + 'deadbeef'),
+    ('octets', '3d.3o', '00ffff000040', T + '65535.100'),
+    # octets that are no ASCII
+    ('octets', '1a', '41427f', T + 'AB\x7f'),
+    ('octets', '1a', '414280', refused(33, 2)),
+    ('octets', '*2a.', '0241424380', refused(33, 4)),
+    ('octets', '1d.255a', '80ff', refused(33, 1)),
+    # octets that are no UTF-8: overlong, surrogates, above 10FFFF, a lone tail, cut off; and characters cut by a use
+    ('octets', '255t', 'c080', refused(33)),
+    ('octets', '255t', 'c1bf', refused(33)),
+    ('octets', '255t', 'c280', T + '\u0080'),
+    ('octets', '255t', 'e08080', refused(33)),
+    ('octets', '255t', 'e09fbf', refused(33)),
+    ('octets', '255t', 'e0a080', T + '\u0800'),
+    ('octets', '255t', 'ed9fbf', T + '\ud7ff'),
+    ('octets', '255t', 'eda080', refused(33)),
+    ('octets', '255t', 'edbfbf', refused(33)),
+    ('octets', '255t', 'ee8080', T + '\ue000'),
+    ('octets', '255t', 'efbfbf', T + '\uffff'),
+    ('octets', '255t', 'f0808080', refused(33)),
+    ('octets', '255t', 'f08fbfbf', refused(33)),
+    ('octets', '255t', 'f0908080', T + '\U00010000'),
+    ('octets', '255t', 'f48fbfbf', T + '\U0010ffff'),
+    ('octets', '255t', 'f4908080', refused(33)),
+    ('octets', '255t', 'f5808080', refused(33)),
+    ('octets', '255t', 'ff', refused(33)),
+    ('octets', '255t', '80', refused(33)),
+    ('octets', '255t', '4180', refused(33, 1)),
+    ('octets', '255t', '41c3', refused(33, 1)),
+    ('octets', '255t', '41e282', refused(33, 1)),
+    ('octets', '255t', 'e282ace282', refused(33, 3)),
+    ('octets', '255t', 'c3a9e228a1', refused(33, 2)),
+    ('octets', '255t', 'f09f98', refused(33)),
+    ('octets', '255t', 'f09f9880', T + '\U0001f600'),
+    ('octets', '1t', 'c3a9', refused(33)),
+    ('octets', '2t', '41c3a9', refused(33, 1)),
+    ('octets', '2t:', 'c3a9c3a8', T + '\u00e9:\u00e8'),
+    ('octets', '*3t/', '02e282ac414243', T + '\u20ac/ABC'),
+    # a bad hint comes before a bad octet
+    ('octets', '255a?1', 'c3', refused(32)),
+    # integers: the range and one past each end
+    ('integer', 'd', '-2147483648', T + '-2147483648'),
+    ('integer', 'd', '-2147483649', refused(34)),
+    ('integer', 'd', '4294967295', T + '4294967295'),
+    ('integer', 'd', '4294967296', refused(34)),
+    ('integer', 'd', '99999999999999999999999999', refused(34)),
+    ('integer', 'd', '-99999999999999999999999999', refused(34)),
+    ('integer', 'x', '9223372036854775808', refused(34)),
+    ('integer', 'q', '9223372036854775808', refused(32)),
+    ('integer', '', '4294967296', refused(32)),
+    # each base
+    ('integer', 'x', '255', T + 'ff'),
+    ('integer', 'x', '-255', T + '-ff'),
+    ('integer', 'x', '3735928559', T + 'deadbeef'),
+    ('integer', 'o', '8', T + '10'),
+    ('integer', 'o', '4294967295', T + '37777777777'),
+    ('integer', 'b', '5', T + '101'),
+    ('integer', 'b', '-2147483648', T + '-1' + '0' * 31),
+    ('integer', 'b', '4294967295', T + '1' * 32),
+    ('integer', 'd', '0', T + '0'),
+    ('integer', 'b', '0', T + '0'),
+    ('integer', 'd', '-0', T + '0'),
+    ('integer', 'd', '007', T + '7'),
+    # the point
+    ('integer', 'd-1', '0', T + '0.0'),
+    ('integer', 'd-1', '-1', T + '-0.1'),
+    ('integer', 'd-2', '5', T + '0.05'),
+    ('integer', 'd-2', '100', T + '1.00'),
+    ('integer', 'd-9', '4294967295', T + '4.294967295'),
+    ('integer', 'd-10', '4294967295', T + '0.4294967295'),
+    ('integer', 'd-10', '-2147483648', T + '-0.2147483648'),
+    ('integer', 'd-10', '1', T + '0.0000000001'),
+    ('integer', 'd-0', '5', refused(32)),
+    ('integer', 'd-11', '5', refused(32)),
+    ('integer', 'd-100', '5', refused(32)),
+    ('integer', 'd-', '5', refused(32)),
+    ('integer', 'd-01', '5', refused(32)),
+    ('integer', 'd-1x', '5', refused(32)),
+    ('integer', 'd--1', '5', refused(32)),
+    ('integer', 'x-1', '5', refused(32)),
+    ('integer', 'o-1', '5', refused(32)),
+    ('integer', 'b-2', '5', refused(32)),
+    ('integer', 'dd', '5', refused(32)),
+    ('integer', 'D', '5', refused(32)),
+    ('integer', '1d', '5', refused(32)),
+    ('integer', 'a', '5', refused(32)),
+]
+
+# words that are none of these: a message on standard error alone, and the list goes on
+NO_CASE = ['', 'octets', 'octets\t1x', 'octets\t1x\t0', 'octets\t1x\t0g', 'octets\t1x\t01\tmore', 'integer\td\t', 'integer\td\t+5', 'integer\td\t1.5', 'bytes\t1x\t01']
+
+
+def encoded(text):
+    return text.encode('utf-8', 'surrogatepass')
+
+
+def build():
+    given, wanted, wrong = [], [], 0
+    for kind, hint, value, by_hand in CASES:
+        hint = encoded(hint) if any(ord(c) > 127 for c in hint) else hint.encode('latin-1')
+        read = (octets if kind == 'octets' else integer)(hint, value)
+        if by_hand is not None and encoded(by_hand) != read:
+            print('hint_vectors: %s %r %s: by hand %r, read %r' % (kind, hint, value, by_hand, read), file=sys.stderr)
+            wrong += 1
+        given.append(kind.encode() + b'\t' + hint + b'\t' + value.encode())
+        wanted.append(read)
+    middle = len(given) // 2
+    given[middle:middle] = [w.encode() for w in NO_CASE]
+    return b'\n'.join(given) + b'\n', b'\n'.join(wanted) + b'\n', wrong
+
+
+def main():
+    given, wanted, wrong = build()
+    files = [('stdin', given), ('stdout', wanted)]
+    if sys.argv[1:] == ['--check']:
+        for name, content in files:
+            with open(os.path.join(HERE, 'crates/hint_tool', name), 'rb') as f:
+                if f.read() != content:
+                    print('hint_vectors: crates/hint_tool/%s is not that of this reading' % name, file=sys.stderr)
+                    wrong += 1
+    else:
+        for name, content in files:
+            with open(os.path.join(HERE, 'crates/hint_tool', name), 'wb') as f:
+                f.write(content)
+    sys.exit(1 if wrong else 0)
+
+
+main()
