@@ -23,11 +23,11 @@ fn main() {
     let mut space = io::large_buffer();
     let n = command::arguments(&mut space);
     if space.len() < n {
-        command::complain(b"tokens", 0, b"..", b"is too long", b"tokens FILE..");
+        command::complain(b"tokens", 0, b"..", b"is too long", b"./mib tokens FILE...");
         return;
     }
     if os::arg_count() <= 1 {
-        command::complain(b"tokens", 0, b"", b"is no file", b"tokens FILE..");
+        command::complain(b"tokens", 0, b"", b"is no file", b"./mib tokens FILE...");
         return;
     }
     list_files(&space[..n]);
