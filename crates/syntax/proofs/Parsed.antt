@@ -11,19 +11,21 @@ use lib.ListN.{length, getD, take, drop, List·getD-append, length-map, length-a
 use lib.Seq.{take-at, take-all}
 use borrow.Author.Tests.{lt-ltb, le-ltb, ltb-true, ltb-false}
 use Rattle.token.specs.Token.{Tok}
-use Rattle.token.specs.Cut.{cut, Ending, whole, refused}
+use Rattle.token.specs.Cut.{Cut, cut, cutFrom, Ending, whole, refused}
+use Rattle.token.specs.Law.{QuotedChange}
 use Rattle.token.specs.Table.{Held, overlaid, answerTo as token-answer}
 use Rattle.token.specs.declared.Answer.{Answer as TokenAnswer}
 use Rattle.token.specs.declared.Answer.the-variants.{Tokens, Refused}
 use Rattle.token.specs.declared.Place.{Place}
 use Rattle.token.proofs.Entries.{counted}
 use Rattle.token.proofs.Laws.{few}
+use Rattle.token.proofs.Quotes.{quotes}
 use Rattle.grammar.specs.Grammar.{smi-module}
 use Rattle.grammar.specs.Automaton.{run}
 use Rattle.grammar.specs.Table.{module-automaton}
 use Rattle.grammar.specs.Answer.{Verdict, derived, Answers, Derives, Begins}
 use Rattle.grammar.specs.Answer.{refused as refused-at}
-use Rattle.grammar.proofs.Theorem.{grammar-theorem}
+use Rattle.grammar.proofs.Theorem.{grammar-theorem, empty-refused}
 use Rattle.syntax.specs.Parsing.{classes, placeOf, number, place, count, answerTo, Parses, Fault, ThirdDemand}
 use Rattle.syntax.specs.Placing.{placed}
 use Rattle.syntax.specs.declared.Answer.{Answer}
@@ -143,3 +145,26 @@ module _ (t : List ℕ) where
   third-demand answer right ending =
       let judged = right .judged ending in
       subst (ThirdDemand t) (sym (judged .2)) (demand-of (judged .0) (judged .1))
+
+-- P5: the right answer to the empty text is refusal 7 at place 0
+pub empty-text : (answer : Answer) → Parses [] answer → answer ≡ Underived 0 (record { 0 = 0 })
+unfolding cut cutFrom
+empty-text answer right =
+    let judged = right .judged refl in
+    judged .2 ∙ ap (answerTo [] 0) (empty-refused (judged .0) (judged .1))
+
+-- the second demand's sentence on quotes, as far as refusals 3 to 7: new bytes inside text tokens change no answer
+pub quotes-answer : (a b : List ℕ) (answer : Answer) → QuotedChange a b → Parses a answer → Parses b answer
+quotes-answer a b answer change right =
+    let same = quotes a b change in
+    record {
+      uncut = λ n p ending. right .uncut n p (ap (λ (c : Cut). c .ending) same ∙ ending);
+      judged = λ ending.
+          let judged = right .judged (ap (λ (c : Cut). c .ending) same ∙ ending) in (
+            judged .0,
+            subst (λ (c : Cut). Answers smi-module (classes (c .tokens)) (judged .0)) same (judged .1),
+            judged .2
+                ∙ ap (λ (c : Cut). answerTo (c .tokens) (length a) (judged .0)) same
+                ∙ ap (λ (n : ℕ). answerTo (cut b .tokens) n (judged .0)) (change .same-length),
+          );
+    }

@@ -89,36 +89,36 @@ pub const READ_WRITE: u8 = 41;
 
 pub const READ_CREATE: u8 = 42;
 
-// a name with a lower-case first letter, other than the eight words above
+// A name with a lower-case first letter, other than the eight words above.
 pub const LOWER: u8 = 43;
-// a name with an upper-case first letter that is no capital word of the grammar
+// A name with an upper-case first letter that is no capital word of the grammar.
 pub const UPPER: u8 = 44;
-// 0 or a positive number
+// 0 or a positive number.
 pub const NUMBER: u8 = 45;
-// a negative number
+// A negative number.
 pub const NEGATIVE: u8 = 46;
-// bytes between quotes
+// Bytes between quotes.
 pub const TEXT: u8 = 47;
-// hex digits between apostrophes, then H
+// Hex digits between apostrophes, then H.
 pub const HEX: u8 = 48;
 
-// `::=`
+// `::=`.
 pub const ASSIGN: u8 = 49;
-// `..`
+// `..`.
 pub const DOTS: u8 = 50;
-// `{`
+// `{`.
 pub const LEFT_BRACE: u8 = 51;
-// `}`
+// `}`.
 pub const RIGHT_BRACE: u8 = 52;
-// `(`
+// `(`.
 pub const LEFT_PAREN: u8 = 53;
-// `)`
+// `)`.
 pub const RIGHT_PAREN: u8 = 54;
-// `,`
+// `,`.
 pub const COMMA: u8 = 55;
-// `;`
+// `;`.
 pub const SEMICOLON: u8 = 56;
-// `|`
+// `|`.
 pub const BAR: u8 = 57;
 
 // How many there are.
