@@ -15,22 +15,24 @@ enum-known-count : tie.Need-enum-known-count
 enum-known-count c = search needs
 
 judge-requires : tie.Need-judge-requires
-judge-requires c κs = (
-  omega (arith, count-fits _ _ (c .before .before .before .before .before .cut .ensures .answered) _ (c .before .before .before .count .given .1)),
-  held-length _ _ _ (c .before .before .before .before .before .cut .ensures .classes-held) (c .before .before .before .before .before .before .before .before .before .before .pre .0) (c .before .before .before .before .before .before .before .before .before .before .pre .1),
-)
+judge-requires c κs =
+    let cut = c .before .before .before .before .before in
+    let start = cut .before .before .before .before .before in (
+      omega (arith, count-fits _ _ (cut .cut .ensures .answered) _ (c .before .before .before .count .given .1)),
+      held-length _ _ _ (cut .cut .ensures .classes-held) (start .pre .0) (start .pre .1),
+    )
 
 returns : tie.Need-returns
-returns c = (uncut-parses _ _ (c .before .before .before .cut .ensures .answered) _ _ (c .before .number .given .1), (_, c .before .before .before .cut .ensures))
+returns c =
+    let held = c .before .before .before .cut .ensures in
+    (uncut-parses _ _ (held .answered) _ _ (c .before .number .given .1), (_, held))
 
 returns-2 : tie.Need-returns-2
-returns-2 c = (
-  judged-parses _ _ (c .before .before .before .before .before .before .cut .ensures .answered) _ _ _ _ _ _ (c .before .before .before .before .count .given .1)
-      (c .before .before .before .before .before .before .cut .ensures .classes-held)
-      (c .before .before .before .before .before .before .cut .ensures .starts-held)
-      (c .judge .ensures),
-  (_, c .before .before .before .before .before .before .cut .ensures),
-)
+returns-2 c =
+    let held = c .before .before .before .before .before .before .cut .ensures in (
+      judged-parses _ _ (held .answered) _ _ _ _ _ _ (c .before .before .before .before .count .given .1) (held .classes-held) (held .starts-held) (c .judge .ensures),
+      (_, held),
+    )
 
 pub parse-spec : {M : Type 1} → statement M
 parse-spec =

@@ -22,13 +22,17 @@ shared-slice-read-if1 : tie.Need-shared-slice-read-if1 Inv-loop μ-loop
 shared-slice-read-if1 c = search needs
 
 returns : tie.Need-returns Inv-loop μ-loop
-returns c = sym (c .before .before .before .loop .inv .1 ∙ below-digits (c .before .before .before .before .args .word .now) (c .before .before .before .loop .i) (omega arith) (c .if1 .taken))
+returns c =
+    let at = c .before .before .before in
+    sym (at .loop .inv .1 ∙ below-digits (at .before .args .word .now) (at .loop .i) (omega arith) (c .if1 .taken))
 
 shared-slice-read-if2 : tie.Need-shared-slice-read-if2 Inv-loop μ-loop
 shared-slice-read-if2 c = search needs
 
 returns-2 : tie.Need-returns-2 Inv-loop μ-loop
-returns-2 c = sym (c .before .before .before .before .before .loop .inv .1 ∙ above-digits (c .before .before .before .before .before .before .args .word .now) (c .before .before .before .before .before .loop .i) (omega arith) (c .if2 .taken))
+returns-2 c =
+    let at = c .before .before .before .before .before in
+    sym (at .loop .inv .1 ∙ above-digits (at .before .args .word .now) (at .loop .i) (omega arith) (c .if2 .taken))
 
 add-i : tie.Need-add-i Inv-loop μ-loop
 add-i c = search needs
@@ -37,7 +41,9 @@ loop-less : tie.Need-loop-less Inv-loop μ-loop
 loop-less c = search needs
 
 loop-again : tie.Need-loop-again Inv-loop μ-loop
-loop-again c = (omega arith, c .before .before .before .before .before .loop .inv .1 ∙ past-digit (c .before .before .before .before .before .before .args .word .now) (c .before .before .before .before .before .loop .i) (omega arith) (omega arith) (omega arith))
+loop-again c =
+    let at = c .before .before .before .before .before in
+    (omega arith, at .loop .inv .1 ∙ past-digit (at .before .args .word .now) (at .loop .i) (omega arith) (omega arith) (omega arith))
 
 returns-3 : tie.Need-returns-3 Inv-loop μ-loop
 returns-3 c = sym (c .before .loop .inv .1 ∙ digits-ended (c .before .before .args .word .now) (c .before .loop .i) (omega arith) (omega arith))

@@ -23,7 +23,9 @@ shared-slice-read-more : tie.Need-shared-slice-read-more Inv-loop μ-loop
 shared-slice-read-more c = search needs
 
 more-requires : tie.Need-more-requires Inv-loop μ-loop
-more-requires c κs = (omega arith, first-digit (c .before .before .before .before .args .word .now) (c .before .before .loop .i) (omega arith) (c .before .before .loop .inv .2))
+more-requires c κs =
+    let at = c .before .before in
+    (omega arith, first-digit (at .before .before .args .word .now) (at .loop .i) (omega arith) (at .loop .inv .2))
 
 add-i : tie.Need-add-i Inv-loop μ-loop
 add-i c = search needs
@@ -32,16 +34,19 @@ loop-less : tie.Need-loop-less Inv-loop μ-loop
 loop-less c = search needs
 
 loop-again : tie.Need-loop-again Inv-loop μ-loop
-loop-again c = (
-  omega (arith, c .more .ensures),
-  omega arith,
-  rest-digits (c .before .before .before .before .before .args .word .now) (c .before .before .before .loop .i) (omega arith) (c .before .before .before .loop .inv .2),
-  rw (c .more .ensures) (one-more (c .before .before .before .loop .n) (c .before .before .before .before .before .args .word .now) (c .before .before .before .loop .i) (omega arith) ∙ c .before .before .before .loop .inv .3),
-)
+loop-again c =
+    let at = c .before .before .before in
+    let word = at .before .before .args .word .now in (
+      omega (arith, c .more .ensures),
+      omega arith,
+      rest-digits word (at .loop .i) (omega arith) (at .loop .inv .2),
+      rw (c .more .ensures) (one-more (at .loop .n) word (at .loop .i) (omega arith) ∙ at .loop .inv .3),
+    )
 
 returns : tie.Need-returns Inv-loop μ-loop
 returns c =
-    omega (arith, c .before .loop .inv .3, value-ended (c .before .loop .n) (c .before .before .before .args .word .now) (c .before .loop .i) (omega arith) (omega arith))
+    let at = c .before in
+    omega (arith, at .loop .inv .3, value-ended (at .loop .n) (at .before .before .args .word .now) (at .loop .i) (omega arith) (omega arith))
 
 pub value-spec : {M : Type 1} → statement M
 value-spec =
