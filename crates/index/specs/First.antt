@@ -1,0 +1,23 @@
+-- Searches by index: the first index from a on, below b, where a test holds; whether there is one; whether the test holds at
+-- all of them.
+-- Assumes nothing.
+use mathlib.Core.Bool.{Bool, cond, not}
+use Prim.Native.Nat.{ℕ, zero, suc, _-_}
+use lib.Dec.{ltb}
+
+-- the first of n indices from a on where the test holds, or the index after them
+unfoldable pub first-of : (ℕ → Bool) → ℕ → ℕ → ℕ
+first-of test a zero = a
+first-of test a (suc n) = cond (test a) a (first-of test (suc a) n)
+
+-- the first index from a on, below b, where the test holds; b where it holds at none
+unfoldable pub first : (ℕ → Bool) → ℕ → ℕ → ℕ
+first test a b = first-of test a (b - a)
+
+-- the test holds at some index from a on, below b
+unfoldable pub any : (ℕ → Bool) → ℕ → ℕ → Bool
+any test a b = ltb (first test a b) b
+
+-- the test holds at every index from a on, below b
+unfoldable pub all : (ℕ → Bool) → ℕ → ℕ → Bool
+all test a b = not (any (λ (i : ℕ). not (test i)) a b)
