@@ -11,9 +11,9 @@ use lib.ListN.{length, getD, take, drop, List·getD-append, length-map, length-a
 use lib.Seq.{take-at, take-all}
 use borrow.Author.Tests.{lt-ltb, le-ltb, ltb-true, ltb-false}
 use Rattle.token.specs.Token.{Tok}
-use Rattle.token.specs.Cut.{Cut, cut, cutFrom, Ending, whole, refused}
+use Rattle.token.specs.Cut.{Cut, cut, cut-from, Ending, whole, refused}
 use Rattle.token.specs.Law.{QuotedChange}
-use Rattle.token.specs.Table.{Held, overlaid, answerTo as token-answer}
+use Rattle.token.specs.Table.{Held, overlaid, answer-to as token-answer}
 use Rattle.token.specs.declared.Answer.{Answer as TokenAnswer}
 use Rattle.token.specs.declared.Answer.the-variants.{Tokens, Refused}
 use Rattle.token.specs.declared.Place.{Place}
@@ -26,7 +26,7 @@ use Rattle.grammar.specs.Table.{module-automaton}
 use Rattle.grammar.specs.Answer.{Verdict, derived, Answers, Derives, Begins}
 use Rattle.grammar.specs.Answer.{refused as refused-at}
 use Rattle.grammar.proofs.Theorem.{grammar-theorem, empty-refused}
-use Rattle.syntax.specs.Parsing.{classes, placeOf, number, place, count, answerTo, Parses, Fault, ThirdDemand}
+use Rattle.syntax.specs.Parsing.{classes, place-of, number, place, count, answer-to, Parses, Fault, ThirdDemand}
 use Rattle.syntax.specs.Placing.{placed}
 use Rattle.syntax.specs.declared.Answer.{Answer}
 use Rattle.syntax.specs.declared.Answer.the-variants.{Derived, Underived, Uncut}
@@ -35,7 +35,7 @@ abbrev starts : List Tok → List ℕ
 starts ts = map (λ (t : Tok). t .start) ts
 
 -- the place of an index, by the list of starts
-place-is : (ts : List Tok) (size i : ℕ) → cond (ltb i (length ts)) (getD (starts ts) i 0) size ≡ placeOf ts size i
+place-is : (ts : List Tok) (size i : ℕ) → cond (ltb i (length ts)) (getD (starts ts) i 0) size ≡ place-of ts size i
 place-is [] size i = simp (le-ltb i 0 (omega arith))
 place-is (t ∷ ts) size zero = simp (lt-ltb 0 (suc (length ts)) (omega arith))
 place-is (t ∷ ts) size (suc i) = rw (leb·suc-suc (suc i) (length ts)) (place-is ts size i)
@@ -46,10 +46,10 @@ array-place ts old size i true inside =
     List·getD-append (starts ts) (drop (length (starts ts)) old) 0 i (rw length-map (ltb-true i (length ts) inside))
 array-place ts old size i false outside = refl
 
-place-held : (ts : List Tok) (old : List ℕ) (size i : ℕ) → cond (ltb i (length ts)) (getD (overlaid (starts ts) old) i 0) size ≡ placeOf ts size i
+place-held : (ts : List Tok) (old : List ℕ) (size i : ℕ) → cond (ltb i (length ts)) (getD (overlaid (starts ts) old) i 0) size ≡ place-of ts size i
 place-held ts old size i = array-place ts old size i (ltb i (length ts)) refl ∙ place-is ts size i
 
-placed-is : (ts : List Tok) (old : List ℕ) (size : ℕ) (v : Verdict) → placed (length ts) (overlaid (starts ts) old) size v ≡ answerTo ts size v
+placed-is : (ts : List Tok) (old : List ℕ) (size : ℕ) (v : Verdict) → placed (length ts) (overlaid (starts ts) old) size v ≡ answer-to ts size v
 placed-is ts old size derived = refl
 placed-is ts old size (refused-at i) = ap (λ (p : ℕ). Underived (length ts) (record { 0 = p })) (place-held ts old size i)
 
@@ -96,7 +96,7 @@ module _ (t : List ℕ) (a : TokenAnswer) (answered : a ≡ token-answer (length
 
 -- the answer counts no more tokens than the text has
 module _ (t : List ℕ) (answer : Answer) (right : Parses t answer) where
-  count-of : (v : Verdict) → count (answerTo (cut t .tokens) (length t) v) ≡ length (cut t .tokens)
+  count-of : (v : Verdict) → count (answer-to (cut t .tokens) (length t) v) ≡ length (cut t .tokens)
   count-of derived = refl
   count-of (refused-at i) = refl
 
@@ -120,7 +120,7 @@ module _ (t : List ℕ) where
       let end : i ≡ length (classes (cut t .tokens)) = omega (arith, right .within i refl, ltb-false i (length (classes (cut t .tokens))) outside) in
       rw (take-all i (classes (cut t .tokens)) (omega arith)) (right .cut-short (ap refused-at end) .0)
 
-  demand-of : (v : Verdict) → Answers smi-module (classes (cut t .tokens)) v → ThirdDemand t (answerTo (cut t .tokens) (length t) v)
+  demand-of : (v : Verdict) → Answers smi-module (classes (cut t .tokens)) v → ThirdDemand t (answer-to (cut t .tokens) (length t) v)
   demand-of derived right = record {
     exactly = (λ seven. absurd (omega arith), λ none. absurd (none (right .accepts .0 refl)));
     otherwise = (λ _. right .accepts .0 refl, λ _. refl);
@@ -148,10 +148,10 @@ module _ (t : List ℕ) where
 
 -- P5: the right answer to the empty text is refusal 7 at place 0
 pub empty-text : (answer : Answer) → Parses [] answer → answer ≡ Underived 0 (record { 0 = 0 })
-unfolding cut cutFrom
+unfolding cut cut-from
 empty-text answer right =
     let judged = right .judged refl in
-    judged .2 ∙ ap (answerTo [] 0) (empty-refused (judged .0) (judged .1))
+    judged .2 ∙ ap (answer-to [] 0) (empty-refused (judged .0) (judged .1))
 
 -- the second demand's sentence on quotes, as far as refusals 3 to 7: new bytes inside text tokens change no answer
 pub quotes-answer : (a b : List ℕ) (answer : Answer) → QuotedChange a b → Parses a answer → Parses b answer
@@ -164,7 +164,7 @@ quotes-answer a b answer change right =
             judged .0,
             subst (λ (c : Cut). Answers smi-module (classes (c .tokens)) (judged .0)) same (judged .1),
             judged .2
-                ∙ ap (λ (c : Cut). answerTo (c .tokens) (length a) (judged .0)) same
-                ∙ ap (λ (n : ℕ). answerTo (cut b .tokens) n (judged .0)) (change .same-length),
+                ∙ ap (λ (c : Cut). answer-to (c .tokens) (length a) (judged .0)) same
+                ∙ ap (λ (n : ℕ). answer-to (cut b .tokens) n (judged .0)) (change .same-length),
           );
     }

@@ -13,7 +13,7 @@ use Rattle.grammar.specs.Reading.{verdict}
 use Rattle.grammar.specs.declared.Reading.{Reading}
 use Rattle.grammar.specs.declared.Reading.the-variants.{Refused}
 use Rattle.grammar.specs.declared.TokenIndex.{TokenIndex}
-use Rattle.syntax.specs.Parsing.{placeOf, answerTo}
+use Rattle.syntax.specs.Parsing.{place-of, answer-to}
 use Rattle.syntax.specs.Placing.{placed}
 use Rattle.syntax.specs.declared.Answer.{Answer}
 use Rattle.syntax.specs.declared.Answer.the-variants.{Derived, Underived}

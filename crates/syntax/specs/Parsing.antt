@@ -22,10 +22,10 @@ abbrev pub classes : List Tok → List ℕ
 classes ts = map (λ (t : Tok). t .class) ts
 
 -- a place: the start of the token of that index, or the text's length at its end
-abbrev pub placeOf : List Tok → ℕ → ℕ → ℕ
-placeOf [] size i = size
-placeOf (t ∷ ts) size zero = t .start
-placeOf (t ∷ ts) size (suc i) = placeOf ts size i
+abbrev pub place-of : List Tok → ℕ → ℕ → ℕ
+place-of [] size i = size
+place-of (t ∷ ts) size zero = t .start
+place-of (t ∷ ts) size (suc i) = place-of ts size i
 
 -- the number of each case of the answer, and its place
 abbrev pub number : Answer → ℕ
@@ -45,16 +45,16 @@ count (Underived n at) = n
 count (Uncut n at) = 0
 
 -- the answer to a verdict of the grammar on all tokens of a text of that size
-abbrev pub answerTo : List Tok → ℕ → Verdict → Answer
-answerTo ts size derived = Derived (length ts)
-answerTo ts size (refused-at i) = Underived (length ts) (record { 0 = placeOf ts size i })
+abbrev pub answer-to : List Tok → ℕ → Verdict → Answer
+answer-to ts size derived = Derived (length ts)
+answer-to ts size (refused-at i) = Underived (length ts) (record { 0 = place-of ts size i })
 
 -- The right answer to a text.
 pub record Parses (t : List ℕ) (answer : Answer) : Type 0 where
   -- a text that does not cut into tokens has the cut's refusal, 3 to 6
   pub uncut : (n p : ℕ) → cut t .ending ≡ refused n p → answer ≡ Uncut n (record { 0 = p })
   -- any other is answered by the right verdict of the grammar on its tokens
-  pub judged : cut t .ending ≡ whole → (v : Verdict) × Answers smi-module (classes (cut t .tokens)) v × (answer ≡ answerTo (cut t .tokens) (length t) v)
+  pub judged : cut t .ending ≡ whole → (v : Verdict) × Answers smi-module (classes (cut t .tokens)) v × (answer ≡ answer-to (cut t .tokens) (length t) v)
 
 -- the arrays become the token table of the text, as its cut leaves them
 abbrev pub Tabled : (t classes starts ends classes′ starts′ ends′ : List ℕ) → Type 0
@@ -66,7 +66,7 @@ Tabled t classes starts ends classes′ starts′ ends′ =
 pub record Fault (t : List ℕ) (at : ℕ) : Type 0 where
   pub index : ℕ
   pub within : index ≤ length (cut t .tokens)
-  pub stands : at ≡ placeOf (cut t .tokens) (length t) index
+  pub stands : at ≡ place-of (cut t .tokens) (length t) index
   pub begun : Begins smi-module (take index (classes (cut t .tokens)))
   pub spoiled : index < length (cut t .tokens) → Begins smi-module (take (index + 1) (classes (cut t .tokens))) → ⊥
 

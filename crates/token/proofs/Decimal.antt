@@ -6,10 +6,10 @@ use Prim.Native.Nat.{ℕ, zero, suc, _+_, _-_, _*_, _≤_, _<_, min}
 use native.Mathlib.Omega.{arith}
 use lib.ListN.{length, getD, take, drop, length-drop}
 use lib.Seq.{take-suc, getD-drop}
-use Rattle.token.specs.Token.{decimalAfter, decimal}
+use Rattle.token.specs.Token.{decimal-after, decimal}
 
-decimal-snoc : (n : ℕ) (ds : List ℕ) (d : ℕ) → decimalAfter n (ds ++ (d ∷ [])) ≡ 10 * decimalAfter n ds + (d - 48)
-unfolding decimalAfter
+decimal-snoc : (n : ℕ) (ds : List ℕ) (d : ℕ) → decimal-after n (ds ++ (d ∷ [])) ≡ 10 * decimal-after n ds + (d - 48)
+unfolding decimal-after
 decimal-snoc n [] d = refl
 decimal-snoc n (x ∷ ds) d = decimal-snoc (10 * n + (x - 48)) ds d
 
@@ -25,7 +25,7 @@ decimal-more t at i h l =
 
 -- the value cut off above the largest number, of no digit and of one digit more
 pub capped-none : (t : List ℕ) (at : ℕ) → 0 ≡ min (decimal (take (at - at) (drop at t))) 4294967296
-unfolding decimalAfter
+unfolding decimal-after
 capped-none t at = let none : at - at ≡ 0 = omega arith in rw none
 
 pub capped-more : (t : List ℕ) (at i : ℕ) {value next : ℕ} → at ≤ i → i < length t → value ≡ min (decimal (take (i - at) (drop at t))) 4294967296 → next ≡ min (10 * value + (getD t i 0 - 48)) 4294967296 → next ≡ min (decimal (take (i + 1 - at) (drop at t))) 4294967296

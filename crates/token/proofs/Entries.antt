@@ -7,14 +7,14 @@ use native.Mathlib.Omega.{arith}
 use lib.ListN.{length, getD}
 use Rattle.token.specs.Token.{Tok, tok}
 use Rattle.token.specs.Cut.{Ending, whole, refused, cut}
-use Rattle.token.specs.Table.{entry, answerTo, Held}
+use Rattle.token.specs.Table.{entry, answer-to, Held}
 use Rattle.token.specs.Law.{Sound, Rising}
 use Rattle.token.specs.declared.Answer.{Answer}
 use Rattle.token.specs.declared.Answer.the-variants.{Tokens}
 use Rattle.token.proofs.Laws.{rising, few, sound-at, held-at, no-token}
 
 -- an answer that counts tokens counts them all, and the whole text is cut
-pub counted : (count n : ℕ) (ending : Ending) → Tokens count ≡ answerTo n ending → (count ≡ n) × (ending ≡ whole)
+pub counted : (count n : ℕ) (ending : Ending) → Tokens count ≡ answer-to n ending → (count ≡ n) × (ending ≡ whole)
 counted count n whole e = (cc, refl)
 counted count n (refused r p) e = let z : _≡_ {A = ℕ} 0 1 = cc in absurd (omega arith)
 

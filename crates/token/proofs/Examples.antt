@@ -4,10 +4,10 @@ use mathlib.Core.Path.{_≡_, refl}
 use mathlib.Core.Bool.{Bool}
 use mathlib.Core.List.{List, [], _∷_}
 use Rattle.terminal.specs.Terminal.{lower}
-use Rattle.token.specs.Byte.{classOf, classIn, rows}
-use Rattle.token.specs.Word.{bytes, word, wordTable, words, wordClasses, same, placeIn, nameClass}
-use Rattle.token.specs.Token.{tok, decimalAfter, spellingOf, valueOf}
-use Rattle.token.specs.Cut.{span, name, misfit, nonNegative, belowZero, comment, afterHyphen, quoted, hexString, afterColon, afterDot, punctuation, piece, whole, refused, Cut, cutFrom, cut}
+use Rattle.token.specs.Byte.{class-of, class-in, rows}
+use Rattle.token.specs.Word.{bytes, word, word-table, words, word-classes, same, place-in, name-class}
+use Rattle.token.specs.Token.{tok, decimal-after, spelling-of, value-of}
+use Rattle.token.specs.Cut.{span, name, misfit, non-negative, below-zero, comment, after-hyphen, quoted, hex-string, after-colon, after-dot, punctuation, piece, whole, refused, Cut, cut-from, cut}
 
 -- P1 `----` no token. P2 `-----` refusal 3 at 4. P3 `a--b` the name a. P4 4294967296 refusal 6.
 pub record Examples : Type 0 where
@@ -17,5 +17,5 @@ pub record Examples : Type 0 where
   pub P4 : cut (bytes "4294967296") ≡ record { tokens = []; ending = refused 6 0 }
 
 pub examples : Examples
-unfolding bytes classOf classIn rows word wordTable words wordClasses same placeIn nameClass tok decimalAfter spellingOf valueOf span name misfit nonNegative belowZero comment afterHyphen quoted hexString afterColon afterDot punctuation piece cutFrom cut
+unfolding bytes class-of class-in rows word word-table words word-classes same place-in name-class tok decimal-after spelling-of value-of span name misfit non-negative below-zero comment after-hyphen quoted hex-string after-colon after-dot punctuation piece cut-from cut
 examples = record { P1 = refl; P2 = refl; P3 = refl; P4 = refl }

@@ -14,8 +14,8 @@ use lib.ListN.{length, getD, take, drop, length-drop, length-map, List·getD-app
 use lib.Seq.{length-take-le, drop-cons}
 use borrow.Author.Tests.{ne-eqb}
 use Rattle.terminal.specs.Terminal.{number, negative}
-use Rattle.token.specs.Byte.{classOf}
-use Rattle.token.specs.Token.{Tok, tok, isName, spellingOf, valueOf, decimal}
+use Rattle.token.specs.Byte.{class-of}
+use Rattle.token.specs.Token.{Tok, tok, is-name, spelling-of, value-of, decimal}
 use Rattle.token.specs.Cut.{Piece, gap, token, refusal, piece, Ending, whole, refused, Cut, cut}
 use Rattle.token.specs.Table.{between, entry, entries, table, overlaid}
 use Rattle.token.specs.Law.{Sound, Rising}
@@ -51,20 +51,20 @@ module _
     pub cut-induction : (at : ℕ) → P at (left t at)
     cut-induction at = bounded (length t) at (omega arith)
 
-spelling-length : (c : ℕ) (bs : List ℕ) → T (isName c) → length (spellingOf c bs) ≡ length bs
-unfolding spellingOf
-spelling-length c bs h = go (isName c) h
+spelling-length : (c : ℕ) (bs : List ℕ) → T (is-name c) → length (spelling-of c bs) ≡ length bs
+unfolding spelling-of
+spelling-length c bs h = go (is-name c) h
   where
     go : (b : Bool) → T b → length (cond b bs []) ≡ length bs
     go true q = refl
     go false q = absurd q
 
-number-value : (c : ℕ) (bs : List ℕ) → c ≡ number → valueOf c bs ≡ pos (decimal bs)
-unfolding valueOf
+number-value : (c : ℕ) (bs : List ℕ) → c ≡ number → value-of c bs ≡ pos (decimal bs)
+unfolding value-of
 number-value c bs e = rw e
 
-negative-value : (c : ℕ) (bs : List ℕ) → c ≡ negative → valueOf c bs ≡ negℤ (pos (decimal (drop 1 bs)))
-unfolding valueOf
+negative-value : (c : ℕ) (bs : List ℕ) → c ≡ negative → value-of c bs ≡ negℤ (pos (decimal (drop 1 bs)))
+unfolding value-of
 negative-value c bs e = rw e
 
 sound-token : (t : List ℕ) (at c m : ℕ) → at < length t → Fits (drop at t) (token c m) → Sound t (tok c at (at + m) (take m (drop at t)))
@@ -78,7 +78,7 @@ sound-token t at c m h f =
       inside = omega (arith, f .1, length-drop at t);
       terminal = f .2;
       name-bytes = λ q. let s = spelling-length c (take m (drop at t)) q in (omega (arith, s, f .0), omega (arith, s, f .3 q));
-      text-quote = λ q. ap classOf (sym (byte-there t at 0 at (omega arith))) ∙ f .6 q;
+      text-quote = λ q. ap class-of (sym (byte-there t at 0 at (omega arith))) ∙ f .6 q;
       number-range = λ q. (decimal (take m (drop at t)), number-value c (take m (drop at t)) q, f .4 q);
       negative-range = λ q. (decimal (drop 1 (take m (drop at t))), negative-value c (take m (drop at t)) q, f .5 q);
     }
@@ -181,12 +181,12 @@ module _ (t : List ℕ) (class start end : ℕ) (sound : Sound t (tok class star
   pub negative-is : class ≡ negative → (tok class start end (between t start end) .value ≡ negℤ (pos (decimal (between t (start + 1) end)))) × (decimal (between t (start + 1) end) ≤ 2147483648)
   unfolding tok
   negative-is e =
-      let v : valueOf class (between t start end) ≡ negℤ (pos (decimal (between t (start + 1) end))) =
+      let v : value-of class (between t start end) ≡ negℤ (pos (decimal (between t (start + 1) end))) =
       negative-value class (between t start end) e ∙ ap (λ (bs : List ℕ). negℤ (pos (decimal bs))) after-hyphen in
       let r = sound .negative-range e in
       let same : decimal (between t (start + 1) end) ≡ r .0 = magnitude (decimal (between t (start + 1) end)) (r .0) (sym v ∙ r .1) in
       (v, omega (arith, r .2))
 
   pub other-is : (class ≡ number → ⊥) → (class ≡ negative → ⊥) → tok class start end (between t start end) .value ≡ pos 0
-  unfolding tok valueOf
+  unfolding tok value-of
   other-is p q = simp (ne-eqb class number p, ne-eqb class negative q)

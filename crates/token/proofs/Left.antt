@@ -8,41 +8,41 @@ use native.Mathlib.Omega.{arith}
 use lib.ListN.{length, getD, take, drop, length-drop, drop-of-length-le}
 use lib.Seq.{drop-cons, drop-nil, drop-drop}
 use Rattle.token.specs.Token.{Tok, tok}
-use Rattle.token.specs.Cut.{Piece, gap, token, refusal, piece, Ending, whole, refused, Cut, size, startingWith, cutFrom, cut}
+use Rattle.token.specs.Cut.{Piece, gap, token, refusal, piece, Ending, whole, refused, Cut, size, starting-with, cut-from, cut}
 use Rattle.token.proofs.Pieces.{Fit, piece-fits}
 
 -- the cut of what is left of t at the place `at`
 abbrev pub left : List ℕ → ℕ → Cut
-left t at = cutFrom at 0 (drop at t)
+left t at = cut-from at 0 (drop at t)
 
 pub left-whole : (t : List ℕ) → left t 0 ≡ cut t
 unfolding cut
 left-whole t = refl
 
 -- bytes that belong to a piece before are passed
-pass : (s : List ℕ) (at n : ℕ) → cutFrom at n s ≡ cutFrom (at + n) 0 (drop n s)
-unfolding cutFrom
+pass : (s : List ℕ) (at n : ℕ) → cut-from at n s ≡ cut-from (at + n) 0 (drop n s)
+unfolding cut-from
 pass [] at n = rw (drop-nil n)
 pass (b ∷ bs) at zero = rw (add-zero at)
 pass (b ∷ bs) at (suc n) =
     let e : suc at + n ≡ at + suc n = omega arith in
-    pass bs (suc at) n ∙ ap (λ (k : ℕ). cutFrom k 0 (drop n bs)) e
+    pass bs (suc at) n ∙ ap (λ (k : ℕ). cut-from k 0 (drop n bs)) e
 
-step : (t : List ℕ) (at : ℕ) (p : Piece) → at < length t → piece (drop at t) ≡ p → left t at ≡ startingWith at (drop at t) p (cutFrom (suc at) (pred (size p)) (drop (suc at) t))
-unfolding cutFrom
+step : (t : List ℕ) (at : ℕ) (p : Piece) → at < length t → piece (drop at t) ≡ p → left t at ≡ starting-with at (drop at t) p (cut-from (suc at) (pred (size p)) (drop (suc at) t))
+unfolding cut-from
 step t at p h e = go (drop at t) (drop-cons t at 0 h) e
   where
-    go : (s : List ℕ) → s ≡ getD t at 0 ∷ drop (suc at) t → piece s ≡ p → cutFrom at 0 s ≡ startingWith at s p (cutFrom (suc at) (pred (size p)) (drop (suc at) t))
+    go : (s : List ℕ) → s ≡ getD t at 0 ∷ drop (suc at) t → piece s ≡ p → cut-from at 0 s ≡ starting-with at s p (cut-from (suc at) (pred (size p)) (drop (suc at) t))
     go s q r =
         let r′ : piece (getD t at 0 ∷ drop (suc at) t) ≡ p = ap piece (sym q) ∙ r in
-        rw q (ap (λ (x : Piece). startingWith at (getD t at 0 ∷ drop (suc at) t) x (cutFrom (suc at) (pred (size x)) (drop (suc at) t))) r′)
+        rw q (ap (λ (x : Piece). starting-with at (getD t at 0 ∷ drop (suc at) t) x (cut-from (suc at) (pred (size x)) (drop (suc at) t))) r′)
 
 -- what comes after a piece of m bytes is what is left after it
-after : (t : List ℕ) (at m : ℕ) → 1 ≤ m → cutFrom (suc at) (pred m) (drop (suc at) t) ≡ left t (at + m)
+after : (t : List ℕ) (at m : ℕ) → 1 ≤ m → cut-from (suc at) (pred m) (drop (suc at) t) ≡ left t (at + m)
 after t at m h =
     let e : suc at + pred m ≡ at + m = omega arith in
     pass (drop (suc at) t) (suc at) (pred m)
-    ∙ ap (λ (s : List ℕ). cutFrom (suc at + pred m) 0 s) (drop-drop (pred m) (suc at) t)
+    ∙ ap (λ (s : List ℕ). cut-from (suc at + pred m) 0 s) (drop-drop (pred m) (suc at) t)
     ∙ ap (λ (k : ℕ). left t k) e
 
 pub step-gap : (t : List ℕ) (at m : ℕ) → at < length t → piece (drop at t) ≡ gap m → 1 ≤ m → left t at ≡ left t (at + m)
@@ -50,13 +50,13 @@ step-gap t at m h e p = step t at (gap m) h e ∙ after t at m p
 
 pub step-token : (t : List ℕ) (at c m : ℕ) → at < length t → piece (drop at t) ≡ token c m → 1 ≤ m → left t at ≡ record { tokens = tok c at (at + m) (take m (drop at t)) ∷ left t (at + m) .tokens; ending = left t (at + m) .ending }
 step-token t at c m h e p =
-    step t at (token c m) h e ∙ ap (λ (rest : Cut). startingWith at (drop at t) (token c m) rest) (after t at m p)
+    step t at (token c m) h e ∙ ap (λ (rest : Cut). starting-with at (drop at t) (token c m) rest) (after t at m p)
 
 pub step-refusal : (t : List ℕ) (at r d : ℕ) → at < length t → piece (drop at t) ≡ refusal r d → left t at ≡ record { tokens = []; ending = refused r (at + d) }
 step-refusal t at r d h e = step t at (refusal r d) h e
 
 pub step-end : (t : List ℕ) (at : ℕ) → length t ≤ at → left t at ≡ record { tokens = []; ending = whole }
-unfolding cutFrom
+unfolding cut-from
 step-end t at h = rw (drop-of-length-le t h)
 
 -- the piece at a place of a text

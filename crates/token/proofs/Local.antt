@@ -11,28 +11,28 @@ use lib.ListN.{length, getD, take, drop, length-drop}
 use lib.Seq.{getD-drop}
 use borrow.Author.Tests.{leb-true, leb-false, lt-leb, eqb-true, ne-eqb}
 use Rattle.terminal.specs.Terminal.{text}
-use Rattle.token.specs.Byte.{classOf, quote, newline, hyphen, apostrophe, digit, classed, digitByte, hexByte, textByte, nameByte, commentByte, blankByte, twoHyphens, alphanumeric}
-use Rattle.token.specs.Word.{nameClass}
+use Rattle.token.specs.Byte.{class-of, quote, newline, hyphen, apostrophe, digit, classed, digit-byte, hex-byte, text-byte, name-byte, comment-byte, blank-byte, two-hyphens, alphanumeric}
+use Rattle.token.specs.Word.{name-class}
 use Rattle.token.specs.Token.{decimal}
-use Rattle.token.specs.Cut.{Piece, gap, token, refusal, span, name, misfit, nonNegative, belowZero, closing, comment, afterHyphen, quoted, hexString, afterColon, afterDot, punctuation, piece, size}
+use Rattle.token.specs.Cut.{Piece, gap, token, refusal, span, name, misfit, non-negative, below-zero, closing, comment, after-hyphen, quoted, hex-string, after-colon, after-dot, punctuation, piece, size}
 
 -- two lists of equal length agree at the places up to m, and at the next unless a quote stands at m
 pub record Near (a b : List ℕ) (m : ℕ) : Type 0 where
   pub long : length a ≡ length b
   pub near : (j : ℕ) → j ≤ m → getD a j 0 ≡ getD b j 0
-  pub after : (classOf (getD a m 0) ≡ quote → ⊥) → getD a (suc m) 0 ≡ getD b (suc m) 0
+  pub after : (class-of (getD a m 0) ≡ quote → ⊥) → getD a (suc m) 0 ≡ getD b (suc m) 0
 
 -- a test of a byte and the next that doesn't look past a quote
 abbrev pub QuoteBlind : (ℕ → ℕ → Bool) → Type 0
-QuoteBlind p = (b x y : ℕ) → classOf b ≡ quote → p b x ≡ p b y
+QuoteBlind p = (b x y : ℕ) → class-of b ≡ quote → p b x ≡ p b y
 
-name-blind : QuoteBlind nameByte
+name-blind : QuoteBlind name-byte
 name-blind b x y e = rw e
 
-comment-blind : QuoteBlind commentByte
+comment-blind : QuoteBlind comment-byte
 comment-blind b x y e = rw e
 
-hyphens-blind : QuoteBlind twoHyphens
+hyphens-blind : QuoteBlind two-hyphens
 hyphens-blind b x y e = rw e
 
 class-blind : (low high : ℕ) → QuoteBlind (classed low high)
@@ -40,16 +40,16 @@ class-blind low high b x y e = refl
 
 -- such a test has the same answer in both lists at every place up to m
 pair-local : (p : ℕ → ℕ → Bool) → QuoteBlind p → (a b : List ℕ) (m : ℕ) → Near a b m → (j : ℕ) → j ≤ m → p (getD a j 0) (getD a (suc j) 0) ≡ p (getD b j 0) (getD b (suc j) 0)
-pair-local p blind a b m n j h = go (ℕ-discrete j m) (ℕ-discrete (classOf (getD a j 0)) quote)
+pair-local p blind a b m n j h = go (ℕ-discrete j m) (ℕ-discrete (class-of (getD a j 0)) quote)
   where
     here : getD a j 0 ≡ getD b j 0
     here = n .near j h
 
-    go : Dec (j ≡ m) → Dec (classOf (getD a j 0) ≡ quote) → p (getD a j 0) (getD a (suc j) 0) ≡ p (getD b j 0) (getD b (suc j) 0)
+    go : Dec (j ≡ m) → Dec (class-of (getD a j 0) ≡ quote) → p (getD a j 0) (getD a (suc j) 0) ≡ p (getD b j 0) (getD b (suc j) 0)
     go d (yes q) = blind (getD a j 0) (getD a (suc j) 0) (getD b (suc j) 0) q ∙ ap (λ (x : ℕ). p x (getD b (suc j) 0)) here
     go (yes e) (no q) =
         let next : getD a (suc j) 0 ≡ getD b (suc j) 0 =
-        subst (λ (k : ℕ). getD a (suc k) 0 ≡ getD b (suc k) 0) (sym e) (n .after (λ r. q (subst (λ (k : ℕ). classOf (getD a k 0) ≡ quote) (sym e) r))) in
+        subst (λ (k : ℕ). getD a (suc k) 0 ≡ getD b (suc k) 0) (sym e) (n .after (λ r. q (subst (λ (k : ℕ). class-of (getD a k 0) ≡ quote) (sym e) r))) in
         λ i. p (here i) (next i)
     go (no e) (no q) = let next = n .near (suc j) (omega arith) in λ i. p (here i) (next i)
 
@@ -93,12 +93,12 @@ near-drop a b n m r =
       after = λ q. go q;
     }
   where
-    go : (classOf (getD (drop n a) m 0) ≡ quote → ⊥) → getD (drop n a) (suc m) 0 ≡ getD (drop n b) (suc m) 0
+    go : (class-of (getD (drop n a) m 0) ≡ quote → ⊥) → getD (drop n a) (suc m) 0 ≡ getD (drop n b) (suc m) 0
     go q =
         let e : n + suc m ≡ suc (n + m) = omega arith in
         getD-drop n a (suc m) 0
         ∙ ap (λ (k : ℕ). getD a k 0) e
-        ∙ r .after (λ s. q (ap classOf (getD-drop n a m 0) ∙ s))
+        ∙ r .after (λ s. q (ap class-of (getD-drop n a m 0) ∙ s))
         ∙ ap (λ (k : ℕ). getD b k 0) (sym e)
         ∙ sym (getD-drop n b (suc m) 0)
 
@@ -117,27 +117,27 @@ Plain (refusal r d) = ⊥
 
 name-local : (a b : List ℕ) → Plain (name a) → Near a b (size (name a)) → name b ≡ name a
 unfolding name
-name-local a b r n = go (leb (span nameByte a) 64) refl r n
+name-local a b r n = go (leb (span name-byte a) 64) refl r n
   where
     reading : ℕ → List ℕ → Piece
-    reading k bs = cond (leb k 64) (token (nameClass bs) k) (refusal 5 0)
+    reading k bs = cond (leb k 64) (token (name-class bs) k) (refusal 5 0)
 
-    same : Near a b (span nameByte a) → name b ≡ name a
+    same : Near a b (span name-byte a) → name b ≡ name a
     same near =
-        let k = span-local nameByte name-blind a b near in
-        let bs = take-local a b (span nameByte a) (near .long) (λ j h. near .near j (omega arith)) in
-        ap (λ (j : ℕ). reading j (take j b)) k ∙ ap (reading (span nameByte a)) bs
+        let k = span-local name-byte name-blind a b near in
+        let bs = take-local a b (span name-byte a) (near .long) (λ j h. near .near j (omega arith)) in
+        ap (λ (j : ℕ). reading j (take j b)) k ∙ ap (reading (span name-byte a)) bs
 
-    go : (t : Bool) → leb (span nameByte a) 64 ≡ t → Plain (cond t (token (nameClass (take (span nameByte a) a)) (span nameByte a)) (refusal 5 0)) → Near a b (size (cond t (token (nameClass (take (span nameByte a) a)) (span nameByte a)) (refusal 5 0))) → name b ≡ name a
+    go : (t : Bool) → leb (span name-byte a) 64 ≡ t → Plain (cond t (token (name-class (take (span name-byte a) a)) (span name-byte a)) (refusal 5 0)) → Near a b (size (cond t (token (name-class (take (span name-byte a) a)) (span name-byte a)) (refusal 5 0))) → name b ≡ name a
     go true e r near = same near
     go false e r near = absurd r
 
-misfit-local : (a b : List ℕ) → Near a b (span digitByte a) → misfit b ≡ misfit a
+misfit-local : (a b : List ℕ) → Near a b (span digit-byte a) → misfit b ≡ misfit a
 unfolding misfit
 misfit-local a b near =
-    let k : span digitByte b ≡ span digitByte a = span-local digitByte (class-blind 62 62) a b near in
+    let k : span digit-byte b ≡ span digit-byte a = span-local digit-byte (class-blind 62 62) a b near in
     let first : getD b 0 0 ≡ getD a 0 0 = sym (near .near 0 (omega arith)) in
-    let next : getD b (span digitByte a) 0 ≡ getD a (span digitByte a) 0 = sym (near .near (span digitByte a) (omega arith)) in
+    let next : getD b (span digit-byte a) 0 ≡ getD a (span digit-byte a) 0 = sym (near .near (span digit-byte a) (omega arith)) in
     rw (k, first, next)
 
 -- a number that is not negative, and one that is: they differ in what is none of a number, the limit, the class and the length
@@ -146,90 +146,90 @@ module _ (bad : List ℕ → Bool) (limit class : ℕ) (long : ℕ → ℕ) wher
   reading none k bs = cond none (refusal 3 0) (cond (leb (decimal bs) limit) (token class (long k)) (refusal 6 0))
 
   abbrev read : List ℕ → Piece
-  read s = reading (bad s) (span digitByte s) (take (span digitByte s) s)
+  read s = reading (bad s) (span digit-byte s) (take (span digit-byte s) s)
 
-  digits-local : (a b : List ℕ) → (Near a b (span digitByte a) → bad b ≡ bad a) → (Agree : ℕ → Type 0) → (Agree (long (span digitByte a)) → Near a b (span digitByte a)) → Plain (read a) → Agree (size (read a)) → read b ≡ read a
-  digits-local a b none Agree near r n = go (bad a) (leb (decimal (take (span digitByte a) a)) limit) r n
+  digits-local : (a b : List ℕ) → (Near a b (span digit-byte a) → bad b ≡ bad a) → (Agree : ℕ → Type 0) → (Agree (long (span digit-byte a)) → Near a b (span digit-byte a)) → Plain (read a) → Agree (size (read a)) → read b ≡ read a
+  digits-local a b none Agree near r n = go (bad a) (leb (decimal (take (span digit-byte a) a)) limit) r n
     where
-      same : Near a b (span digitByte a) → read b ≡ read a
+      same : Near a b (span digit-byte a) → read b ≡ read a
       same l =
-          let k = span-local digitByte (class-blind 62 62) a b l in
-          let bs = take-local a b (span digitByte a) (l .long) (λ j h. l .near j (omega arith)) in
-          ap (λ (x : Bool). reading x (span digitByte b) (take (span digitByte b) b)) (none l)
+          let k = span-local digit-byte (class-blind 62 62) a b l in
+          let bs = take-local a b (span digit-byte a) (l .long) (λ j h. l .near j (omega arith)) in
+          ap (λ (x : Bool). reading x (span digit-byte b) (take (span digit-byte b) b)) (none l)
           ∙ ap (λ (j : ℕ). reading (bad a) j (take j b)) k
-          ∙ ap (reading (bad a) (span digitByte a)) bs
+          ∙ ap (reading (bad a) (span digit-byte a)) bs
 
-      go : (x y : Bool) → Plain (cond x (refusal 3 0) (cond y (token class (long (span digitByte a))) (refusal 6 0))) → Agree (size (cond x (refusal 3 0) (cond y (token class (long (span digitByte a))) (refusal 6 0)))) → read b ≡ read a
+      go : (x y : Bool) → Plain (cond x (refusal 3 0) (cond y (token class (long (span digit-byte a))) (refusal 6 0))) → Agree (size (cond x (refusal 3 0) (cond y (token class (long (span digit-byte a))) (refusal 6 0)))) → read b ≡ read a
       go true y r n = absurd r
       go false true r n = same (near n)
       go false false r n = absurd r
 
-number-local : (a b : List ℕ) → Plain (nonNegative a) → Near a b (size (nonNegative a)) → nonNegative b ≡ nonNegative a
-unfolding nonNegative
+number-local : (a b : List ℕ) → Plain (non-negative a) → Near a b (size (non-negative a)) → non-negative b ≡ non-negative a
+unfolding non-negative
 number-local a b r n = digits-local misfit 4294967295 45 (λ k. k) a b (misfit-local a b) (Near a b) (λ l. l) r n
 
-negative-local : (x y : ℕ) (a b : List ℕ) → Plain (belowZero a) → Near (x ∷ a) (y ∷ b) (size (belowZero a)) → belowZero b ≡ belowZero a
-unfolding belowZero
+negative-local : (x y : ℕ) (a b : List ℕ) → Plain (below-zero a) → Near (x ∷ a) (y ∷ b) (size (below-zero a)) → below-zero b ≡ below-zero a
+unfolding below-zero
 negative-local x y a b r n =
     digits-local (λ (s : List ℕ). eqb (getD s 0 0) 48 || misfit s) 2147483648 46 suc a b
     (λ l. λ i. eqb (sym (l .near 0 (omega arith)) i) 48 || misfit-local a b l i)
     (Near (x ∷ a) (y ∷ b))
-    (near-tail x y a b (span digitByte a))
+    (near-tail x y a b (span digit-byte a))
     r
     n
 
 comment-local : (x y z w : ℕ) (a b : List ℕ) → Near (x ∷ y ∷ a) (z ∷ w ∷ b) (size (comment a)) → comment b ≡ comment a
 unfolding comment
 comment-local x y z w a b n =
-    let k = span commentByte a in
+    let k = span comment-byte a in
     let m : 2 + k + closing (drop k a) ≡ suc (suc (k + closing (drop k a))) = omega arith in
     let near : Near a b k =
     near-least a b (k + closing (drop k a)) k (omega arith)
     (near-tail y w a b (k + closing (drop k a)) (near-tail x z (y ∷ a) (w ∷ b) (suc (k + closing (drop k a))) (subst (λ (j : ℕ). Near (x ∷ y ∷ a) (z ∷ w ∷ b) j) m n))) in
-    let e : span commentByte b ≡ k = span-local commentByte comment-blind a b near in
-    let two : twoHyphens (getD b k 0) (getD b (suc k) 0) ≡ twoHyphens (getD a k 0) (getD a (suc k) 0) =
-    sym (pair-local twoHyphens hyphens-blind a b k near k (omega arith)) in
+    let e : span comment-byte b ≡ k = span-local comment-byte comment-blind a b near in
+    let two : two-hyphens (getD b k 0) (getD b (suc k) 0) ≡ two-hyphens (getD a k 0) (getD a (suc k) 0) =
+    sym (pair-local two-hyphens hyphens-blind a b k near k (omega arith)) in
     ap (λ (j : ℕ). gap (2 + j + closing (drop j b))) e
     ∙ ap (λ (t : Bool). gap (2 + k + cond t 2 0)) (ends b k ∙ two ∙ sym (ends a k))
   where
-    ends : (s : List ℕ) (k : ℕ) → twoHyphens (getD (drop k s) 0 0) (getD (drop k s) 1 0) ≡ twoHyphens (getD s k 0) (getD s (suc k) 0)
+    ends : (s : List ℕ) (k : ℕ) → two-hyphens (getD (drop k s) 0 0) (getD (drop k s) 1 0) ≡ two-hyphens (getD s k 0) (getD s (suc k) 0)
     ends s k =
         let p : getD (drop k s) 0 0 ≡ getD s k 0 = getD-drop k s 0 0 ∙ ap (λ (j : ℕ). getD s j 0) (omega arith) in
         let q : getD (drop k s) 1 0 ≡ getD s (suc k) 0 = getD-drop k s 1 0 ∙ ap (λ (j : ℕ). getD s j 0) (omega arith) in
-        λ i. twoHyphens (p i) (q i)
+        λ i. two-hyphens (p i) (q i)
 
-hyphen-local : (x y : ℕ) (a b : List ℕ) → Plain (afterHyphen a) → Near (x ∷ a) (y ∷ b) (size (afterHyphen a)) → 1 ≤ size (afterHyphen a) → afterHyphen b ≡ afterHyphen a
-unfolding afterHyphen
+hyphen-local : (x y : ℕ) (a b : List ℕ) → Plain (after-hyphen a) → Near (x ∷ a) (y ∷ b) (size (after-hyphen a)) → 1 ≤ size (after-hyphen a) → after-hyphen b ≡ after-hyphen a
+unfolding after-hyphen
 hyphen-local x y [] [] r n h = refl
 hyphen-local x y [] (w ∷ b) r n h = absurd (omega (arith, n .long))
 hyphen-local x y (z ∷ a) [] r n h = absurd (omega (arith, n .long))
 hyphen-local x y (z ∷ a) (w ∷ b) r n h =
-    rw (sym (n .near 1 h)) (go (eqb (classOf z) hyphen) (eqb (classOf z) digit) r n (sym (n .near 1 h)))
+    rw (sym (n .near 1 h)) (go (eqb (class-of z) hyphen) (eqb (class-of z) digit) r n (sym (n .near 1 h)))
   where
-    go : (p q : Bool) → Plain (cond p (comment a) (cond q (belowZero (z ∷ a)) (refusal 3 0))) → Near (x ∷ z ∷ a) (y ∷ w ∷ b) (size (cond p (comment a) (cond q (belowZero (z ∷ a)) (refusal 3 0)))) → w ≡ z → cond p (comment b) (cond q (belowZero (z ∷ b)) (refusal 3 0)) ≡ cond p (comment a) (cond q (belowZero (z ∷ a)) (refusal 3 0))
+    go : (p q : Bool) → Plain (cond p (comment a) (cond q (below-zero (z ∷ a)) (refusal 3 0))) → Near (x ∷ z ∷ a) (y ∷ w ∷ b) (size (cond p (comment a) (cond q (below-zero (z ∷ a)) (refusal 3 0)))) → w ≡ z → cond p (comment b) (cond q (below-zero (z ∷ b)) (refusal 3 0)) ≡ cond p (comment a) (cond q (below-zero (z ∷ a)) (refusal 3 0))
     go true q r n e = comment-local x z y w a b n
-    go false true r n e = ap (λ (j : ℕ). belowZero (j ∷ b)) (sym e) ∙ negative-local x y (z ∷ a) (w ∷ b) r n
+    go false true r n e = ap (λ (j : ℕ). below-zero (j ∷ b)) (sym e) ∙ negative-local x y (z ∷ a) (w ∷ b) r n
     go false false r n e = absurd r
 
-hex-local : (x y : ℕ) (a b : List ℕ) → Plain (hexString a) → Near (x ∷ a) (y ∷ b) (size (hexString a)) → hexString b ≡ hexString a
-unfolding hexString
-hex-local x y a b r n = go (eqb (classOf (getD a (span hexByte a) 0)) apostrophe && eqb (getD a (span hexByte a + 1) 0) 72) refl r n
+hex-local : (x y : ℕ) (a b : List ℕ) → Plain (hex-string a) → Near (x ∷ a) (y ∷ b) (size (hex-string a)) → hex-string b ≡ hex-string a
+unfolding hex-string
+hex-local x y a b r n = go (eqb (class-of (getD a (span hex-byte a) 0)) apostrophe && eqb (getD a (span hex-byte a + 1) 0) 72) refl r n
   where
     k : ℕ
-    k = span hexByte a
+    k = span hex-byte a
 
-    go : (t : Bool) → (eqb (classOf (getD a (span hexByte a) 0)) apostrophe && eqb (getD a (span hexByte a + 1) 0) 72) ≡ t → Plain (cond t (token 48 (span hexByte a + 3)) (refusal 3 0)) → Near (x ∷ a) (y ∷ b) (size (cond t (token 48 (span hexByte a + 3)) (refusal 3 0))) → cond (eqb (classOf (getD b (span hexByte b) 0)) apostrophe && eqb (getD b (span hexByte b + 1) 0) 72) (token 48 (span hexByte b + 3)) (refusal 3 0) ≡ cond (eqb (classOf (getD a (span hexByte a) 0)) apostrophe && eqb (getD a (span hexByte a + 1) 0) 72) (token 48 (span hexByte a + 3)) (refusal 3 0)
+    go : (t : Bool) → (eqb (class-of (getD a (span hex-byte a) 0)) apostrophe && eqb (getD a (span hex-byte a + 1) 0) 72) ≡ t → Plain (cond t (token 48 (span hex-byte a + 3)) (refusal 3 0)) → Near (x ∷ a) (y ∷ b) (size (cond t (token 48 (span hex-byte a + 3)) (refusal 3 0))) → cond (eqb (class-of (getD b (span hex-byte b) 0)) apostrophe && eqb (getD b (span hex-byte b + 1) 0) 72) (token 48 (span hex-byte b + 3)) (refusal 3 0) ≡ cond (eqb (class-of (getD a (span hex-byte a) 0)) apostrophe && eqb (getD a (span hex-byte a + 1) 0) 72) (token 48 (span hex-byte a + 3)) (refusal 3 0)
     go true e r n =
         let m : k + 3 ≡ suc (k + 2) = omega arith in
         let tail : Near a b (k + 2) = near-tail x y a b (k + 2) (subst (λ (j : ℕ). Near (x ∷ a) (y ∷ b) j) m n) in
-        let same : span hexByte b ≡ k = span-local hexByte (class-blind 61 63) a b (near-least a b (k + 2) k (omega arith) tail) in
+        let same : span hex-byte b ≡ k = span-local hex-byte (class-blind 61 63) a b (near-least a b (k + 2) k (omega arith) tail) in
         let here : getD b k 0 ≡ getD a k 0 = sym (tail .near k (omega arith)) in
         let next : getD b (k + 1) 0 ≡ getD a (k + 1) 0 = sym (tail .near (k + 1) (omega arith)) in
         rw (same, here, next)
     go false e r n = absurd r
 
-colon-local : (x y : ℕ) (a b : List ℕ) → Plain (afterColon a) → Near (x ∷ a) (y ∷ b) (size (afterColon a)) → afterColon b ≡ afterColon a
-unfolding afterColon
+colon-local : (x y : ℕ) (a b : List ℕ) → Plain (after-colon a) → Near (x ∷ a) (y ∷ b) (size (after-colon a)) → after-colon b ≡ after-colon a
+unfolding after-colon
 colon-local x y a b r n = go (eqb (getD a 0 0) 58 && eqb (getD a 1 0) 61) refl r n
   where
     go : (t : Bool) → (eqb (getD a 0 0) 58 && eqb (getD a 1 0) 61) ≡ t → Plain (cond t (token 49 3) (refusal 3 0)) → Near (x ∷ a) (y ∷ b) (size (cond t (token 49 3) (refusal 3 0))) → cond (eqb (getD b 0 0) 58 && eqb (getD b 1 0) 61) (token 49 3) (refusal 3 0) ≡ cond (eqb (getD a 0 0) 58 && eqb (getD a 1 0) 61) (token 49 3) (refusal 3 0)
@@ -239,8 +239,8 @@ colon-local x y a b r n = go (eqb (getD a 0 0) 58 && eqb (getD a 1 0) 61) refl r
         rw (first, second)
     go false e r n = absurd r
 
-dot-local : (x y : ℕ) (a b : List ℕ) → Plain (afterDot a) → Near (x ∷ a) (y ∷ b) (size (afterDot a)) → afterDot b ≡ afterDot a
-unfolding afterDot
+dot-local : (x y : ℕ) (a b : List ℕ) → Plain (after-dot a) → Near (x ∷ a) (y ∷ b) (size (after-dot a)) → after-dot b ≡ after-dot a
+unfolding after-dot
 dot-local x y a b r n = go (eqb (getD a 0 0) 46) r n
   where
     go : (t : Bool) → Plain (cond t (token 50 2) (refusal 3 0)) → Near (x ∷ a) (y ∷ b) (size (cond t (token 50 2) (refusal 3 0))) → cond (eqb (getD b 0 0) 46) (token 50 2) (refusal 3 0) ≡ cond (eqb (getD a 0 0) 46) (token 50 2) (refusal 3 0)
@@ -250,9 +250,9 @@ dot-local x y a b r n = go (eqb (getD a 0 0) 46) r n
 -- a text is no plain piece
 quoted-plain : (a : List ℕ) → Plain (quoted a) → ⊥
 unfolding quoted
-quoted-plain a r = go (leb (length a) (span textByte a)) (eqb (classOf (getD a (span textByte a) 0)) quote) r
+quoted-plain a r = go (leb (length a) (span text-byte a)) (eqb (class-of (getD a (span text-byte a) 0)) quote) r
   where
-    go : (p q : Bool) → Plain (cond p (refusal 3 0) (cond q (token 47 (span textByte a + 2)) (refusal 4 (span textByte a + 1)))) → ⊥
+    go : (p q : Bool) → Plain (cond p (refusal 3 0) (cond q (token 47 (span text-byte a + 2)) (refusal 4 (span text-byte a + 1)))) → ⊥
     go true q r = r
     go false true r = r refl
     go false false r = r
@@ -263,7 +263,7 @@ punctuation-local c x y a b r n h = go (leb 51 c) (eqb c 6) (eqb c 1) (eqb c 8) 
   where
     choice : Bool → Bool → Bool → Bool → Bool → Bool → List ℕ → Piece
     choice p q t u v w s =
-        cond p (token c 1) (cond q (afterHyphen s) (cond t (quoted s) (cond u (afterColon s) (cond v (afterDot s) (cond w (hexString s) (refusal 3 0))))))
+        cond p (token c 1) (cond q (after-hyphen s) (cond t (quoted s) (cond u (after-colon s) (cond v (after-dot s) (cond w (hex-string s) (refusal 3 0))))))
 
     go : (p q t u v w : Bool) → Plain (choice p q t u v w a) → Near (x ∷ a) (y ∷ b) (size (choice p q t u v w a)) → 1 ≤ size (choice p q t u v w a) → choice p q t u v w b ≡ choice p q t u v w a
     go true q t u v w r n h = refl
@@ -278,21 +278,21 @@ punctuation-local c x y a b r n h = go (leb 51 c) (eqb c 6) (eqb c 1) (eqb c 8) 
 pub piece-local : (x y : ℕ) (a b : List ℕ) → Plain (piece (x ∷ a)) → Near (x ∷ a) (y ∷ b) (size (piece (x ∷ a))) → 1 ≤ size (piece (x ∷ a)) → piece (y ∷ b) ≡ piece (x ∷ a)
 unfolding piece
 piece-local x y a b r n h =
-    same ∙ go (leb 60 (classOf x)) (eqb (classOf x) 62) (leb 2 (classOf x) && leb (classOf x) 4) r n h
+    same ∙ go (leb 60 (class-of x)) (eqb (class-of x) 62) (leb 2 (class-of x) && leb (class-of x) 4) r n h
   where
     first : y ≡ x
     first = sym (n .near 0 (omega arith))
 
     choice : Bool → Bool → Bool → ℕ → List ℕ → Piece
     choice p q t z s =
-        cond p (cond q (nonNegative (z ∷ s)) (name (z ∷ s))) (cond t (gap (span blankByte (z ∷ s))) (punctuation (classOf z) s))
+        cond p (cond q (non-negative (z ∷ s)) (name (z ∷ s))) (cond t (gap (span blank-byte (z ∷ s))) (punctuation (class-of z) s))
 
-    same : choice (leb 60 (classOf y)) (eqb (classOf y) 62) (leb 2 (classOf y) && leb (classOf y) 4) y b ≡ choice (leb 60 (classOf x)) (eqb (classOf x) 62) (leb 2 (classOf x) && leb (classOf x) 4) y b
-    same = ap (λ (z : ℕ). choice (leb 60 (classOf z)) (eqb (classOf z) 62) (leb 2 (classOf z) && leb (classOf z) 4) y b) first
+    same : choice (leb 60 (class-of y)) (eqb (class-of y) 62) (leb 2 (class-of y) && leb (class-of y) 4) y b ≡ choice (leb 60 (class-of x)) (eqb (class-of x) 62) (leb 2 (class-of x) && leb (class-of x) 4) y b
+    same = ap (λ (z : ℕ). choice (leb 60 (class-of z)) (eqb (class-of z) 62) (leb 2 (class-of z) && leb (class-of z) 4) y b) first
 
     go : (p q t : Bool) → Plain (choice p q t x a) → Near (x ∷ a) (y ∷ b) (size (choice p q t x a)) → 1 ≤ size (choice p q t x a) → choice p q t y b ≡ choice p q t x a
     go true true t r n h = number-local (x ∷ a) (y ∷ b) r n
     go true false t r n h = name-local (x ∷ a) (y ∷ b) r n
-    go false q true r n h = ap gap (span-local blankByte (class-blind 2 4) (x ∷ a) (y ∷ b) n)
+    go false q true r n h = ap gap (span-local blank-byte (class-blind 2 4) (x ∷ a) (y ∷ b) n)
     go false q false r n h =
-        ap (λ (z : ℕ). punctuation (classOf z) b) first ∙ punctuation-local (classOf x) x y a b r n h
+        ap (λ (z : ℕ). punctuation (class-of z) b) first ∙ punctuation-local (class-of x) x y a b r n h

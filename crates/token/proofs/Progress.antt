@@ -9,8 +9,8 @@ use native.Mathlib.Omega.{arith}
 use lib.ListN.{length, getD, take, drop, set, length-set, length-map, length-drop}
 use lib.Seq.{sets, sets-eq}
 use Rattle.token.specs.Token.{Tok, tok}
-use Rattle.token.specs.Cut.{Piece, gap, token, refusal, piece, Ending, whole, refused, Cut, cutFrom, cut}
-use Rattle.token.specs.Table.{overlaid, answerTo, Held, foundAt, refusalOf}
+use Rattle.token.specs.Cut.{Piece, gap, token, refusal, piece, Ending, whole, refused, Cut, cut-from, cut}
+use Rattle.token.specs.Table.{overlaid, answer-to, Held, found-at, refusal-of}
 use Rattle.token.specs.declared.Answer.{Answer}
 use Rattle.token.specs.declared.Place.{Place}
 use Rattle.token.specs.declared.piece.Found.{Found}
@@ -22,23 +22,23 @@ use Rattle.token.proofs.Left.{left, left-whole, step-gap, step-token, s
 abbrev stored : (Tok → ℕ) → List ℕ → ℕ → Cut → List ℕ
 stored field array n rest = sets array n (map field (rest .tokens))
 
-abbrev classField : Tok → ℕ
-classField t = t .class
+abbrev class-field : Tok → ℕ
+class-field t = t .class
 
-abbrev startField : Tok → ℕ
-startField t = t .start
+abbrev start-field : Tok → ℕ
+start-field t = t .start
 
-abbrev endField : Tok → ℕ
-endField t = t .end
+abbrev end-field : Tok → ℕ
+end-field t = t .end
 
 pub record Progress (t classes₀ starts₀ ends₀ classes starts ends : List ℕ) (at n : ℕ) : Type 0 where
   pub inside : at ≤ length t
   pub few : n ≤ at
   pub count : n + length (left t at .tokens) ≡ length (cut t .tokens)
   pub ending : left t at .ending ≡ cut t .ending
-  pub classes-on : stored classField classes n (left t at) ≡ stored classField classes₀ 0 (cut t)
-  pub starts-on : stored startField starts n (left t at) ≡ stored startField starts₀ 0 (cut t)
-  pub ends-on : stored endField ends n (left t at) ≡ stored endField ends₀ 0 (cut t)
+  pub classes-on : stored class-field classes n (left t at) ≡ stored class-field classes₀ 0 (cut t)
+  pub starts-on : stored start-field starts n (left t at) ≡ stored start-field starts₀ 0 (cut t)
+  pub ends-on : stored end-field ends n (left t at) ≡ stored end-field ends₀ 0 (cut t)
   pub classes-length : length classes ≡ length classes₀
   pub starts-length : length starts ≡ length starts₀
   pub ends-length : length ends ≡ length ends₀
@@ -85,9 +85,9 @@ module _ (t classes₀ starts₀ ends₀ classes starts ends : List ℕ) (at n :
         few = omega (arith, p .few, f .0);
         count = omega (arith, p .count, ap (λ (x : Cut). length (x .tokens)) q);
         ending = sym (ap (λ (x : Cut). x .ending) q) ∙ p .ending;
-        classes-on = rw (add-one n) (sym (ap (λ (x : Cut). stored classField classes n x) q) ∙ p .classes-on);
-        starts-on = rw (add-one n) (sym (ap (λ (x : Cut). stored startField starts n x) q) ∙ p .starts-on);
-        ends-on = rw (add-one n) (sym (ap (λ (x : Cut). stored endField ends n x) q) ∙ p .ends-on);
+        classes-on = rw (add-one n) (sym (ap (λ (x : Cut). stored class-field classes n x) q) ∙ p .classes-on);
+        starts-on = rw (add-one n) (sym (ap (λ (x : Cut). stored start-field starts n x) q) ∙ p .starts-on);
+        ends-on = rw (add-one n) (sym (ap (λ (x : Cut). stored end-field ends n x) q) ∙ p .ends-on);
         classes-length = length-set classes n c ∙ p .classes-length;
         starts-length = length-set starts n at ∙ p .starts-length;
         ends-length = length-set ends n (at + m) ∙ p .ends-length;
@@ -106,14 +106,14 @@ module _ (t classes₀ starts₀ ends₀ classes starts ends : List ℕ) (at n :
         ∙ sets-eq (map field (cut t .tokens)) array₀ 0 room
         ∙ ap (λ (k : ℕ). map field (cut t .tokens) ++ drop k array₀) (zero-add (length (map field (cut t .tokens))))
 
-    pub progress-done : (answer : Answer) → answer ≡ answerTo n ending → length classes₀ ≡ 65536 → length starts₀ ≡ 65536 → length ends₀ ≡ 65536 → Held t answer classes₀ starts₀ ends₀ classes starts ends
+    pub progress-done : (answer : Answer) → answer ≡ answer-to n ending → length classes₀ ≡ 65536 → length starts₀ ≡ 65536 → length ends₀ ≡ 65536 → Held t answer classes₀ starts₀ ends₀ classes starts ends
     progress-done answer e lc ls le =
         let end : ending ≡ cut t .ending = sym (ap (λ (x : Cut). x .ending) q) ∙ p .ending in
-        let cs = overlay classField classes classes₀ lc (p .classes-on) in
-        let ss = overlay startField starts starts₀ ls (p .starts-on) in
-        let es = overlay endField ends ends₀ le (p .ends-on) in
+        let cs = overlay class-field classes classes₀ lc (p .classes-on) in
+        let ss = overlay start-field starts starts₀ ls (p .starts-on) in
+        let es = overlay end-field ends ends₀ le (p .ends-on) in
         record {
-          answered = e ∙ ap (λ (k : ℕ). answerTo k ending) all ∙ ap (λ (x : Ending). answerTo (length (cut t .tokens)) x) end;
+          answered = e ∙ ap (λ (k : ℕ). answer-to k ending) all ∙ ap (λ (x : Ending). answer-to (length (cut t .tokens)) x) end;
           classes-held = cs;
           starts-held = ss;
           ends-held = es;
@@ -122,28 +122,28 @@ module _ (t classes₀ starts₀ ends₀ classes starts ends : List ℕ) (at n :
 
 -- what the code found at a place says of the piece there
 module _ (t classes₀ starts₀ ends₀ classes starts ends : List ℕ) (at n : ℕ) (p : Progress t classes₀ starts₀ ends₀ classes starts ends at n) (h : at < length t) where
-  pub read-forward : (c e : ℕ) → Found.Piece c e ≡ foundAt at (piece (drop at t)) → (at < e) × (e ≤ length t)
+  pub read-forward : (c e : ℕ) → Found.Piece c e ≡ found-at at (piece (drop at t)) → (at < e) × (e ≤ length t)
   read-forward c e found = go (piece (drop at t)) found (fit-at t at h)
     where
-      go : (x : Piece) → Found.Piece c e ≡ foundAt at x → Fit (drop at t) x → (at < e) × (e ≤ length t)
+      go : (x : Piece) → Found.Piece c e ≡ found-at at x → Fit (drop at t) x → (at < e) × (e ≤ length t)
       go (gap m) q f = let w : e ≡ at + m = cc in omega (arith, f .fits .0, f .fits .1, length-drop at t)
       go (token k m) q f = let w : e ≡ at + m = cc in omega (arith, f .fits .0, f .fits .1, length-drop at t)
       go (refusal r d) q f = let z : _≡_ {A = ℕ} 0 1 = cc in omega arith
 
-  pub read-gap : (c e : ℕ) → Found.Piece c e ≡ foundAt at (piece (drop at t)) → c ≡ 58 → Progress t classes₀ starts₀ ends₀ classes starts ends e n
+  pub read-gap : (c e : ℕ) → Found.Piece c e ≡ found-at at (piece (drop at t)) → c ≡ 58 → Progress t classes₀ starts₀ ends₀ classes starts ends e n
   read-gap c e found is = go (piece (drop at t)) refl found (fit-at t at h)
     where
-      go : (x : Piece) → piece (drop at t) ≡ x → Found.Piece c e ≡ foundAt at x → Fit (drop at t) x → Progress t classes₀ starts₀ ends₀ classes starts ends e n
+      go : (x : Piece) → piece (drop at t) ≡ x → Found.Piece c e ≡ found-at at x → Fit (drop at t) x → Progress t classes₀ starts₀ ends₀ classes starts ends e n
       go (gap m) r q f =
           let w : e ≡ at + m = cc in
           rw w (progress-gap t classes₀ starts₀ ends₀ classes starts ends at n p m h r (f .fits))
       go (token k m) r q f = let w : c ≡ k = cc in absurd (omega (arith, f .fits .2))
       go (refusal k d) r q f = let z : _≡_ {A = ℕ} 0 1 = cc in absurd (omega arith)
 
-  pub read-token : (c e : ℕ) → Found.Piece c e ≡ foundAt at (piece (drop at t)) → (c ≡ 58 → ⊥) → Progress t classes₀ starts₀ ends₀ (set classes n c) (set starts n at) (set ends n e) e (n + 1)
+  pub read-token : (c e : ℕ) → Found.Piece c e ≡ found-at at (piece (drop at t)) → (c ≡ 58 → ⊥) → Progress t classes₀ starts₀ ends₀ (set classes n c) (set starts n at) (set ends n e) e (n + 1)
   read-token c e found not = go (piece (drop at t)) refl found (fit-at t at h)
     where
-      go : (x : Piece) → piece (drop at t) ≡ x → Found.Piece c e ≡ foundAt at x → Fit (drop at t) x → Progress t classes₀ starts₀ ends₀ (set classes n c) (set starts n at) (set ends n e) e (n + 1)
+      go : (x : Piece) → piece (drop at t) ≡ x → Found.Piece c e ≡ found-at at x → Fit (drop at t) x → Progress t classes₀ starts₀ ends₀ (set classes n c) (set starts n at) (set ends n e) e (n + 1)
       go (gap m) r q f = let w : c ≡ 58 = cc in absurd (not w)
       go (token k m) r q f =
           let v : c ≡ k = cc in
@@ -152,11 +152,11 @@ module _ (t classes₀ starts₀ ends₀ classes starts ends : List ℕ) (at n :
       go (refusal k d) r q f = let z : _≡_ {A = ℕ} 0 1 = cc in absurd (omega arith)
 
   -- a refusal is the answer, and the cut ends there
-  pub read-refusal : length t ≤ 65536 → length classes₀ ≡ 65536 → length starts₀ ≡ 65536 → length ends₀ ≡ 65536 → (found : Found) (k : ℕ) (place : Place) → found ≡ Found.Refused k place → found ≡ foundAt at (piece (drop at t)) → Held t (refusalOf found) classes₀ starts₀ ends₀ classes starts ends
+  pub read-refusal : length t ≤ 65536 → length classes₀ ≡ 65536 → length starts₀ ≡ 65536 → length ends₀ ≡ 65536 → (found : Found) (k : ℕ) (place : Place) → found ≡ Found.Refused k place → found ≡ found-at at (piece (drop at t)) → Held t (refusal-of found) classes₀ starts₀ ends₀ classes starts ends
   read-refusal short lc ls le found k place is q = go (piece (drop at t)) refl q
     where
-      go : (x : Piece) → piece (drop at t) ≡ x → found ≡ foundAt at x → Held t (refusalOf found) classes₀ starts₀ ends₀ classes starts ends
+      go : (x : Piece) → piece (drop at t) ≡ x → found ≡ found-at at x → Held t (refusal-of found) classes₀ starts₀ ends₀ classes starts ends
       go (gap m) r q = let z : _≡_ {A = ℕ} 0 1 = cc in absurd (omega arith)
       go (token c m) r q = let z : _≡_ {A = ℕ} 0 1 = cc in absurd (omega arith)
       go (refusal j d) r q =
-          progress-done t classes₀ starts₀ ends₀ classes starts ends at n p short (refused j (at + d)) (step-refusal t at j d h r) (refusalOf found) (ap refusalOf q) lc ls le
+          progress-done t classes₀ starts₀ ends₀ classes starts ends at n p short (refused j (at + d)) (step-refusal t at j d h r) (refusal-of found) (ap refusal-of q) lc ls le

@@ -13,8 +13,8 @@ use lib.ListN.{length, getD, take, drop, length-drop, List·getD-eq-default}
 use lib.Seq.{getD-drop, ext-getD}
 use borrow.Author.Tests.{leb-false, lt-leb, eqb-true}
 use Rattle.terminal.specs.Terminal.{text}
-use Rattle.token.specs.Byte.{classOf, quote, classed, textByte}
-use Rattle.token.specs.Token.{Tok, tok, spellingOf, valueOf}
+use Rattle.token.specs.Byte.{class-of, quote, classed, text-byte}
+use Rattle.token.specs.Token.{Tok, tok, spelling-of, value-of}
 use Rattle.token.specs.Cut.{Piece, gap, token, refusal, span, quoted, punctuation, piece, size, Ending, whole, refused, Cut, cut}
 use Rattle.token.specs.Law.{Sound, Rising, InsideText, QuotedChange}
 use Rattle.token.proofs.Laws.{cut-induction, rising-left}
@@ -44,41 +44,41 @@ span-exact low high (b ∷ bs) (suc n) h f e =
     rw (f 0 (omega arith)) (ap suc (span-exact low high bs n (omega arith) (λ j q. f (suc j) (omega arith)) e))
 
 -- at a quote stands what comes after it as a text
-piece-quoted : (x : ℕ) (a : List ℕ) → classOf x ≡ quote → piece (x ∷ a) ≡ quoted a
+piece-quoted : (x : ℕ) (a : List ℕ) → class-of x ≡ quote → piece (x ∷ a) ≡ quoted a
 unfolding piece punctuation
 piece-quoted x a e = rw e
 
-quoted-is : (a : List ℕ) (c m : ℕ) → quoted a ≡ token c m → (span textByte a < length a) × (classOf (getD a (span textByte a) 0) ≡ quote) × (m ≡ span textByte a + 2) × (c ≡ text)
+quoted-is : (a : List ℕ) (c m : ℕ) → quoted a ≡ token c m → (span text-byte a < length a) × (class-of (getD a (span text-byte a) 0) ≡ quote) × (m ≡ span text-byte a + 2) × (c ≡ text)
 unfolding quoted
-quoted-is a c m e = go (leb (length a) (span textByte a)) refl (eqb (classOf (getD a (span textByte a) 0)) quote) refl e
+quoted-is a c m e = go (leb (length a) (span text-byte a)) refl (eqb (class-of (getD a (span text-byte a) 0)) quote) refl e
   where
-    go : (p : Bool) → leb (length a) (span textByte a) ≡ p → (q : Bool) → eqb (classOf (getD a (span textByte a) 0)) quote ≡ q → cond p (refusal 3 0) (cond q (token 47 (span textByte a + 2)) (refusal 4 (span textByte a + 1))) ≡ token c m → (span textByte a < length a) × (classOf (getD a (span textByte a) 0) ≡ quote) × (m ≡ span textByte a + 2) × (c ≡ text)
+    go : (p : Bool) → leb (length a) (span text-byte a) ≡ p → (q : Bool) → eqb (class-of (getD a (span text-byte a) 0)) quote ≡ q → cond p (refusal 3 0) (cond q (token 47 (span text-byte a + 2)) (refusal 4 (span text-byte a + 1))) ≡ token c m → (span text-byte a < length a) × (class-of (getD a (span text-byte a) 0) ≡ quote) × (m ≡ span text-byte a + 2) × (c ≡ text)
     go true f q g e = let z : _≡_ {A = ℕ} 0 1 = cc in absurd (omega arith)
-    go false f true g e = (leb-false (length a) (span textByte a) f, eqb-true _ _ g, (cc), (cc))
+    go false f true g e = (leb-false (length a) (span text-byte a) f, eqb-true _ _ g, (cc), (cc))
     go false f false g e = let z : _≡_ {A = ℕ} 0 1 = cc in absurd (omega arith)
 
 -- a text token is the same where the bytes inside are allowed and its last quote is there
-quoted-local : (a b : List ℕ) (c m : ℕ) → quoted a ≡ token c m → length a ≡ length b → ((j : ℕ) → j + 2 < m → textByte (getD b j 0) 0 ≡ true) → ((j : ℕ) → j + 2 ≡ m → getD a j 0 ≡ getD b j 0) → quoted b ≡ token c m
+quoted-local : (a b : List ℕ) (c m : ℕ) → quoted a ≡ token c m → length a ≡ length b → ((j : ℕ) → j + 2 < m → text-byte (getD b j 0) 0 ≡ true) → ((j : ℕ) → j + 2 ≡ m → getD a j 0 ≡ getD b j 0) → quoted b ≡ token c m
 unfolding quoted
 quoted-local a b c m e l inner last =
     let is = quoted-is a c m e in
-    let n = span textByte a in
+    let n = span text-byte a in
     let end : getD a n 0 ≡ getD b n 0 = last n (omega (arith, is .2)) in
-    let closes : classOf (getD b n 0) ≡ quote = ap classOf (sym end) ∙ is .1 in
-    let stops : textByte (getD b n 0) 0 ≡ false = rw closes in
-    let same : span textByte b ≡ n = span-exact 3 64 b n (omega (arith, is .0)) (λ j h. inner j (omega (arith, is .2))) stops in
+    let closes : class-of (getD b n 0) ≡ quote = ap class-of (sym end) ∙ is .1 in
+    let stops : text-byte (getD b n 0) 0 ≡ false = rw closes in
+    let same : span text-byte b ≡ n = span-exact 3 64 b n (omega (arith, is .0)) (λ j h. inner j (omega (arith, is .2))) stops in
     rw (same, lt-leb (length b) n (omega (arith, is .0)), closes) (λ i. token (sym (is .3) i) (sym (is .2) i))
 
 -- the same of the whole token, from its first quote on
-text-near : (a b : List ℕ) (c m : ℕ) → piece a ≡ token c m → 0 < length a → classOf (getD a 0 0) ≡ quote → length a ≡ length b → getD a 0 0 ≡ getD b 0 0 → ((j : ℕ) → 0 < j → j + 1 < m → (getD a j 0 ≡ getD b j 0) ⊎ (textByte (getD b j 0) 0 ≡ true)) → ((j : ℕ) → j + 1 ≡ m → getD a j 0 ≡ getD b j 0) → piece b ≡ token c m
+text-near : (a b : List ℕ) (c m : ℕ) → piece a ≡ token c m → 0 < length a → class-of (getD a 0 0) ≡ quote → length a ≡ length b → getD a 0 0 ≡ getD b 0 0 → ((j : ℕ) → 0 < j → j + 1 < m → (getD a j 0 ≡ getD b j 0) ⊎ (text-byte (getD b j 0) 0 ≡ true)) → ((j : ℕ) → j + 1 ≡ m → getD a j 0 ≡ getD b j 0) → piece b ≡ token c m
 text-near [] b c m e h q l first inner last = absurd (omega arith)
 text-near (x ∷ a) [] c m e h q l first inner last = absurd (omega arith)
 text-near (x ∷ a) (y ∷ b) c m e h q l first inner last =
     let reads : quoted a ≡ token c m = sym (piece-quoted x a q) ∙ e in
     let is = quoted-is a c m reads in
-    piece-quoted y b (ap classOf (sym first) ∙ q)
+    piece-quoted y b (ap class-of (sym first) ∙ q)
     ∙ quoted-local a b c m reads (omega arith)
-    (λ j r. ⊎-elim (λ s. ap (λ (z : ℕ). textByte z 0) (sym s) ∙ span-holds 3 64 a j (omega (arith, is .2))) (λ s. s) (inner (suc j) (omega arith) (omega arith)))
+    (λ j r. ⊎-elim (λ s. ap (λ (z : ℕ). text-byte z 0) (sym s) ∙ span-holds 3 64 a j (omega (arith, is .2))) (λ s. s) (inner (suc j) (omega arith) (omega arith)))
     (λ j r. last (suc j) (omega arith))
 
 -- ---- tokens after a place
@@ -90,11 +90,11 @@ inside-after t from (x ∷ ts) i r (inl n) = omega (arith, r .0, n .1)
 inside-after t from (x ∷ ts) i r (inr n) = omega (arith, r .0, r .1 .nonempty, inside-after t (x .end) ts i (r .2) n)
 
 -- and where it is the next place, a quote stands there
-inside-quote : (t : List ℕ) (from : ℕ) (ts : List Tok) → Rising t from ts → InsideText (suc from) ts → classOf (getD t from 0) ≡ quote
+inside-quote : (t : List ℕ) (from : ℕ) (ts : List Tok) → Rising t from ts → InsideText (suc from) ts → class-of (getD t from 0) ≡ quote
 inside-quote t from [] r n = absurd n
 inside-quote t from (x ∷ ts) r (inl n) =
     let e : x .start ≡ from = omega (arith, r .0, n .1) in
-    subst (λ (k : ℕ). classOf (getD t k 0) ≡ quote) e (r .1 .text-quote (n .0))
+    subst (λ (k : ℕ). class-of (getD t k 0) ≡ quote) e (r .1 .text-quote (n .0))
 inside-quote t from (x ∷ ts) r (inr n) =
     absurd (omega (arith, r .0, r .1 .nonempty, inside-after t (x .end) ts (suc from) (r .2) n))
 
@@ -111,7 +111,7 @@ module _ (a b : List ℕ) (long : length a ≡ length b) where
   -- from the place `at` on, the texts have the same bytes but inside the text tokens ts, where b's bytes are allowed
   abbrev Agree : ℕ → List Tok → Type 0
   Agree at ts =
-      (i : ℕ) → at ≤ i → i < length a → (getD a i 0 ≡ getD b i 0) ⊎ (InsideText i ts × (textByte (getD b i 0) 0 ≡ true))
+      (i : ℕ) → at ≤ i → i < length a → (getD a i 0 ≡ getD b i 0) ⊎ (InsideText i ts × (text-byte (getD b i 0) 0 ≡ true))
 
   -- where no place of a text is inside a token, the bytes are the same; past the end both have none
   same-byte : (at : ℕ) (ts : List Tok) → Agree at ts → (i : ℕ) → at ≤ i → (InsideText i ts → ⊥) → getD a i 0 ≡ getD b i 0
@@ -122,7 +122,7 @@ module _ (a b : List ℕ) (long : length a ≡ length b) where
       go (no l) = List·getD-eq-default a 0 (omega arith) ∙ sym (List·getD-eq-default b 0 (omega arith))
 
   -- the bytes up to the place after a piece, and the next unless a quote stands there, are the same
-  agree-near : (at m : ℕ) (ts : List Tok) → Agree at ts → ((i : ℕ) → i ≤ at + m → InsideText i ts → ⊥) → ((classOf (getD a (at + m) 0) ≡ quote → ⊥) → InsideText (suc (at + m)) ts → ⊥) → Near (drop at a) (drop at b) m
+  agree-near : (at m : ℕ) (ts : List Tok) → Agree at ts → ((i : ℕ) → i ≤ at + m → InsideText i ts → ⊥) → ((class-of (getD a (at + m) 0) ≡ quote → ⊥) → InsideText (suc (at + m)) ts → ⊥) → Near (drop at a) (drop at b) m
   agree-near at m ts agree out next =
       record {
         long = omega (arith, length-drop at a, length-drop at b);
@@ -131,7 +131,7 @@ module _ (a b : List ℕ) (long : length a ≡ length b) where
             let e : at + suc m ≡ suc (at + m) = omega arith in
             getD-drop at a (suc m) 0
             ∙ ap (λ (k : ℕ). getD a k 0) e
-            ∙ same-byte at ts agree (suc (at + m)) (omega arith) (next (λ r. q (ap classOf (getD-drop at a m 0) ∙ r)))
+            ∙ same-byte at ts agree (suc (at + m)) (omega arith) (next (λ r. q (ap class-of (getD-drop at a m 0) ∙ r)))
             ∙ ap (λ (k : ℕ). getD b k 0) (sym e)
             ∙ sym (getD-drop at b (suc m) 0);
       }
@@ -159,7 +159,7 @@ module _ (a b : List ℕ) (long : length a ≡ length b) where
 
   -- a text token is the same whatever stands in it
   text-token : (c at end : ℕ) (bs bs′ : List ℕ) → c ≡ text → tok c at end bs ≡ tok c at end bs′
-  unfolding tok spellingOf valueOf
+  unfolding tok spelling-of value-of
   text-token c at end bs bs′ e = rw e
 
   -- the token at `at` and what comes after it, in both texts
@@ -183,10 +183,10 @@ module _ (a b : List ℕ) (long : length a ≡ length b) where
       here : (j : ℕ) → (InsideText (at + j) all → ⊥) → getD (drop at a) j 0 ≡ getD (drop at b) j 0
       here j out = getD-drop at a j 0 ∙ same-byte at all agree (at + j) (omega arith) out ∙ sym (getD-drop at b j 0)
 
-      inner : (j : ℕ) → 0 < j → j + 1 < m → (getD (drop at a) j 0 ≡ getD (drop at b) j 0) ⊎ (textByte (getD (drop at b) j 0) 0 ≡ true)
+      inner : (j : ℕ) → 0 < j → j + 1 < m → (getD (drop at a) j 0 ≡ getD (drop at b) j 0) ⊎ (text-byte (getD (drop at b) j 0) 0 ≡ true)
       inner j q r =
           ⊎-elim (λ s. inl (getD-drop at a j 0 ∙ s ∙ sym (getD-drop at b j 0)))
-          (λ s. inr (ap (λ (z : ℕ). textByte z 0) (getD-drop at b j 0) ∙ s .1))
+          (λ s. inr (ap (λ (z : ℕ). text-byte z 0) (getD-drop at b j 0) ∙ s .1))
           (agree (at + j) (omega arith) (omega (arith, f .1, length-drop at a)))
 
       rest : left a (at + m) ≡ left b (at + m)

@@ -9,9 +9,9 @@ use lib.Dec.{T}
 use lib.IntN.{pos, negℤ}
 use lib.ListN.{length, getD}
 use Rattle.terminal.specs.Terminal.{terminals, number, negative, text}
-use Rattle.token.specs.Byte.{classOf, quote, textByte}
-use Rattle.token.specs.Token.{Tok, tok, isName}
-use Rattle.token.specs.Cut.{longestName, largestNumber, largestNegative, cut}
+use Rattle.token.specs.Byte.{class-of, quote, text-byte}
+use Rattle.token.specs.Token.{Tok, tok, is-name}
+use Rattle.token.specs.Cut.{longest-name, largest-number, largest-negative, cut}
 use Rattle.token.specs.Table.{between}
 
 pub record Sound (bytes : List ℕ) (t : Tok) : Type 0 where
@@ -23,12 +23,12 @@ pub record Sound (bytes : List ℕ) (t : Tok) : Type 0 where
   -- its class is a terminal
   pub terminal : t .class < terminals
   -- a name has 1 to 64 bytes
-  pub name-bytes : T (isName (t .class)) → (1 ≤ length (t .spelling)) × (length (t .spelling) ≤ longestName)
+  pub name-bytes : T (is-name (t .class)) → (1 ≤ length (t .spelling)) × (length (t .spelling) ≤ longest-name)
   -- a text starts with a quote
-  pub text-quote : t .class ≡ text → classOf (getD bytes (t .start) 0) ≡ quote
+  pub text-quote : t .class ≡ text → class-of (getD bytes (t .start) 0) ≡ quote
   -- a number is in range
-  pub number-range : t .class ≡ number → (n : ℕ) × (t .value ≡ pos n) × (n ≤ largestNumber)
-  pub negative-range : t .class ≡ negative → (n : ℕ) × (t .value ≡ negℤ (pos n)) × (n ≤ largestNegative)
+  pub number-range : t .class ≡ number → (n : ℕ) × (t .value ≡ pos n) × (n ≤ largest-number)
+  pub negative-range : t .class ≡ negative → (n : ℕ) × (t .value ≡ negℤ (pos n)) × (n ≤ largest-negative)
 
 -- tokens of the text, one after the other, none before the place `from`
 abbrev pub Rising : List ℕ → ℕ → List Tok → Type 0
@@ -44,4 +44,4 @@ InsideText i (t ∷ ts) = ((t .class ≡ text) × (t .start < i) × (suc i < t .
 -- that may stand in a text
 pub record QuotedChange (a b : List ℕ) : Type 0 where
   pub same-length : length a ≡ length b
-  pub same-or-quoted : (i : ℕ) → i < length a → (getD a i 0 ≡ getD b i 0) ⊎ (InsideText i (cut a .tokens) × (textByte (getD b i 0) 0 ≡ true))
+  pub same-or-quoted : (i : ℕ) → i < length a → (getD a i 0 ≡ getD b i 0) ⊎ (InsideText i (cut a .tokens) × (text-byte (getD b i 0) 0 ≡ true))

@@ -35,30 +35,30 @@ abbrev pub overlaid : List ℕ → List ℕ → List ℕ
 overlaid new old = new ++ drop (length new) old
 
 -- the answer to a cut: how many tokens the whole text has, or the refusal's number and place
-abbrev pub answerTo : ℕ → Ending → Answer
-answerTo count whole = Tokens count
-answerTo count (refused n p) = Refused n (record { 0 = p })
+abbrev pub answer-to : ℕ → Ending → Answer
+answer-to count whole = Tokens count
+answer-to count (refused n p) = Refused n (record { 0 = p })
 
 -- What the call leaves: its answer, and in each array the tokens up to where the cut ends, before what was there. So the
 -- arrays, read as a list, are the tokens.
 pub record Held (text : List ℕ) (answer : Answer) (classes starts ends classes′ starts′ ends′ : List ℕ) : Type 0 where
-  pub answered : answer ≡ answerTo (length (cut text .tokens)) (cut text .ending)
+  pub answered : answer ≡ answer-to (length (cut text .tokens)) (cut text .ending)
   pub classes-held : classes′ ≡ overlaid (map (λ (t : Tok). t .class) (cut text .tokens)) classes
   pub starts-held : starts′ ≡ overlaid (map (λ (t : Tok). t .start) (cut text .tokens)) starts
   pub ends-held : ends′ ≡ overlaid (map (λ (t : Tok). t .end) (cut text .tokens)) ends
   pub tabled : table text classes′ starts′ ends′ (length (cut text .tokens)) ≡ cut text .tokens
 
 -- the class that the code gives a gap: no terminal's
-abbrev pub gapClass : ℕ
-gapClass = 58
+abbrev pub gap-class : ℕ
+gap-class = 58
 
 -- what the code answers where the text holds this piece at the place `at`: its class and its end, or the refusal
-abbrev pub foundAt : ℕ → Piece → Found
-foundAt at (gap n) = Found.Piece gapClass (at + n)
-foundAt at (token c n) = Found.Piece c (at + n)
-foundAt at (refusal r d) = Found.Refused r (record { 0 = at + d })
+abbrev pub found-at : ℕ → Piece → Found
+found-at at (gap n) = Found.Piece gap-class (at + n)
+found-at at (token c n) = Found.Piece c (at + n)
+found-at at (refusal r d) = Found.Refused r (record { 0 = at + d })
 
 -- the answer to what the code found, where that is a refusal
-abbrev pub refusalOf : Found → Answer
-refusalOf (Found.Piece c e) = Tokens 0
-refusalOf (Found.Refused n p) = Refused n p
+abbrev pub refusal-of : Found → Answer
+refusal-of (Found.Piece c e) = Tokens 0
+refusal-of (Found.Refused n p) = Refused n p

@@ -21,29 +21,29 @@ pub record Tok : Type 0 where
   pub value : ℤ
 
 -- the value of decimal digits, most significant first, that follow digits of the value n
-unfoldable pub decimalAfter : ℕ → List ℕ → ℕ
-decimalAfter n [] = n
-decimalAfter n (d ∷ ds) = decimalAfter (10 * n + (d - 48)) ds
+unfoldable pub decimal-after : ℕ → List ℕ → ℕ
+decimal-after n [] = n
+decimal-after n (d ∷ ds) = decimal-after (10 * n + (d - 48)) ds
 
 -- the value of decimal digits, most significant first
 abbrev pub decimal : List ℕ → ℕ
-decimal ds = decimalAfter 0 ds
+decimal ds = decimal-after 0 ds
 
 -- a token of this class is a name: the words, lower and Upper are
-abbrev pub isName : ℕ → Bool
-isName class = leb class Upper
+abbrev pub is-name : ℕ → Bool
+is-name class = leb class Upper
 
 -- the spelling of a token of this class that has these bytes
-unfoldable pub spellingOf : ℕ → List ℕ → List ℕ
-spellingOf class bytes = cond (isName class) bytes []
+unfoldable pub spelling-of : ℕ → List ℕ → List ℕ
+spelling-of class bytes = cond (is-name class) bytes []
 
 -- the value of a token of this class that has these bytes: a negative number's first byte is the hyphen
-unfoldable pub valueOf : ℕ → List ℕ → ℤ
-valueOf class bytes =
+unfoldable pub value-of : ℕ → List ℕ → ℤ
+value-of class bytes =
     cond (eqb class number) (pos (decimal bytes))
     (cond (eqb class negative) (negℤ (pos (decimal (drop 1 bytes)))) (pos 0))
 
 -- the token of this class, from start to end, that has these bytes
 unfoldable pub tok : ℕ → ℕ → ℕ → List ℕ → Tok
 tok class start end bytes =
-    record { class = class; start = start; end = end; spelling = spellingOf class bytes; value = valueOf class bytes }
+    record { class = class; start = start; end = end; spelling = spelling-of class bytes; value = value-of class bytes }

@@ -2,7 +2,7 @@
 ghost use mathlib.Core.Path.{_≡_};
 ghost use Prim.Native.Nat.{_≤_};
 ghost use lib.ListN.{length};
-ghost use Rattle.token.specs.Table.{Held, refusalOf};
+ghost use Rattle.token.specs.Table.{Held, refusal-of};
 
 mod byte;
 mod piece;
@@ -26,7 +26,7 @@ pub enum Answer {
 
 // The answer to a refusal. To a token or a gap, which is none, it answers no tokens.
 fn refusal(found: Found) -> Answer
-    ensures { λ r. ⌜ r ≡ refusalOf found ⌝ }
+    ensures { λ r. ⌜ r ≡ refusal-of found ⌝ }
 {
     match found {
         Found::Piece(_, _) => Answer::Tokens(0),

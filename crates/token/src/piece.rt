@@ -2,9 +2,9 @@
 ghost use mathlib.Core.Path.{_≡_};
 ghost use Prim.Native.Nat.{_+_, _≤_, _<_};
 ghost use lib.ListN.{length, getD, drop};
-ghost use Rattle.token.specs.Byte.{ClassTable, digitByte, nameByte};
-ghost use Rattle.token.specs.Cut.{span, name, misfit, nonNegative, belowZero, comment, afterHyphen, quoted, hexString, afterColon, afterDot, punctuation, piece};
-ghost use Rattle.token.specs.Table.{foundAt};
+ghost use Rattle.token.specs.Byte.{ClassTable, digit-byte, name-byte};
+ghost use Rattle.token.specs.Cut.{span, name, misfit, non-negative, below-zero, comment, after-hyphen, quoted, hex-string, after-colon, after-dot, punctuation, piece};
+ghost use Rattle.token.specs.Table.{found-at};
 use crate::Place;
 use crate::byte::APOSTROPHE;
 use crate::byte::CAPITAL;
@@ -54,8 +54,8 @@ pub enum Found {
 
 // At a letter: a name.
 fn name_at(table: &[u8; 256], text: &[u8], at: usize) -> Found
-    requires { ⌜ (at < length (now text)) × (1 ≤ span nameByte (drop at (now text))) × ClassTable (now table) ⌝ }
-    ensures { λ r. ⌜ r ≡ foundAt at (name (drop at (now (text .entry)))) ⌝ }
+    requires { ⌜ (at < length (now text)) × (1 ≤ span name-byte (drop at (now text))) × ClassTable (now table) ⌝ }
+    ensures { λ r. ⌜ r ≡ found-at at (name (drop at (now (text .entry)))) ⌝ }
 {
     let end = run_end(table, text, at, Run::Name);
     if LONGEST_NAME < end - at {
@@ -66,7 +66,7 @@ fn name_at(table: &[u8; 256], text: &[u8], at: usize) -> Found
 
 // Whether the run of digits from at to end is none of a number, because it starts with 0 and goes on or a letter follows.
 fn is_misfit(table: &[u8; 256], text: &[u8], at: usize, end: usize) -> bool
-    requires { ⌜ (end ≡ at + span digitByte (drop at (now text))) × ClassTable (now table) ⌝ }
+    requires { ⌜ (end ≡ at + span digit-byte (drop at (now text))) × ClassTable (now table) ⌝ }
     ensures { λ r. ⌜ r ≡ misfit (drop at (now (text .entry))) ⌝ }
 {
     if byte_at(text, at) == b'0' {
@@ -80,7 +80,7 @@ fn is_misfit(table: &[u8; 256], text: &[u8], at: usize, end: usize) -> bool
 // At a digit: a number that is not negative.
 fn number_at(table: &[u8; 256], text: &[u8], at: usize) -> Found
     requires { ⌜ (at < length (now text)) × ClassTable (now table) ⌝ }
-    ensures { λ r. ⌜ r ≡ foundAt at (nonNegative (drop at (now (text .entry)))) ⌝ }
+    ensures { λ r. ⌜ r ≡ found-at at (non-negative (drop at (now (text .entry)))) ⌝ }
 {
     let run = digit_run(table, text, at);
     let end = run.end;
@@ -96,7 +96,7 @@ fn number_at(table: &[u8; 256], text: &[u8], at: usize) -> Found
 // At a hyphen before a digit: a negative number.
 fn negative_at(table: &[u8; 256], text: &[u8], at: usize) -> Found
     requires { ⌜ (at < length (now text)) × ClassTable (now table) ⌝ }
-    ensures { λ r. ⌜ r ≡ foundAt at (belowZero (drop (at + 1) (now (text .entry)))) ⌝ }
+    ensures { λ r. ⌜ r ≡ found-at at (below-zero (drop (at + 1) (now (text .entry)))) ⌝ }
 {
     let run = digit_run(table, text, at + 1);
     let end = run.end;
@@ -115,7 +115,7 @@ fn negative_at(table: &[u8; 256], text: &[u8], at: usize) -> Found
 // At two hyphens: a comment.
 fn comment_at(table: &[u8; 256], text: &[u8], at: usize) -> Found
     requires { ⌜ (at + 2 ≤ length (now text)) × ClassTable (now table) ⌝ }
-    ensures { λ r. ⌜ r ≡ foundAt at (comment (drop (at + 2) (now (text .entry)))) ⌝ }
+    ensures { λ r. ⌜ r ≡ found-at at (comment (drop (at + 2) (now (text .entry)))) ⌝ }
 {
     let end = run_end(table, text, at + 2, Run::Comment);
     if class_at(table, text, end) == HYPHEN {
@@ -129,7 +129,7 @@ fn comment_at(table: &[u8; 256], text: &[u8], at: usize) -> Found
 // At a hyphen: a comment, a negative number, or no token.
 fn hyphen_at(table: &[u8; 256], text: &[u8], at: usize) -> Found
     requires { ⌜ (at < length (now text)) × ClassTable (now table) ⌝ }
-    ensures { λ r. ⌜ r ≡ foundAt at (afterHyphen (drop (at + 1) (now (text .entry)))) ⌝ }
+    ensures { λ r. ⌜ r ≡ found-at at (after-hyphen (drop (at + 1) (now (text .entry)))) ⌝ }
 {
     let class = class_at(table, text, at + 1);
     if class == HYPHEN {
@@ -144,7 +144,7 @@ fn hyphen_at(table: &[u8; 256], text: &[u8], at: usize) -> Found
 // At a quote: a text; a forbidden byte in it is refused there, and a missing end quote at the quote.
 fn text_at(table: &[u8; 256], text: &[u8], at: usize) -> Found
     requires { ⌜ (at < length (now text)) × ClassTable (now table) ⌝ }
-    ensures { λ r. ⌜ r ≡ foundAt at (quoted (drop (at + 1) (now (text .entry)))) ⌝ }
+    ensures { λ r. ⌜ r ≡ found-at at (quoted (drop (at + 1) (now (text .entry)))) ⌝ }
 {
     let end = run_end(table, text, at + 1, Run::Classes(NEWLINE, CAPITAL));
     if text.len() <= end {
@@ -159,7 +159,7 @@ fn text_at(table: &[u8; 256], text: &[u8], at: usize) -> Found
 // At an apostrophe: a hex string, or no token.
 fn hex_at(table: &[u8; 256], text: &[u8], at: usize) -> Found
     requires { ⌜ (at < length (now text)) × ClassTable (now table) ⌝ }
-    ensures { λ r. ⌜ r ≡ foundAt at (hexString (drop (at + 1) (now (text .entry)))) ⌝ }
+    ensures { λ r. ⌜ r ≡ found-at at (hex-string (drop (at + 1) (now (text .entry)))) ⌝ }
 {
     let end = run_end(table, text, at + 1, Run::Classes(SMALL_HEX, CAPITAL_HEX));
     if class_at(table, text, end) == APOSTROPHE {
@@ -173,7 +173,7 @@ fn hex_at(table: &[u8; 256], text: &[u8], at: usize) -> Found
 // At a colon: `::=`, or no token.
 fn colon_at(text: &[u8], at: usize) -> Found
     requires { ⌜ at < length (now text) ⌝ }
-    ensures { λ r. ⌜ r ≡ foundAt at (afterColon (drop (at + 1) (now (text .entry)))) ⌝ }
+    ensures { λ r. ⌜ r ≡ found-at at (after-colon (drop (at + 1) (now (text .entry)))) ⌝ }
 {
     if byte_at(text, at + 1) == b':' {
         if byte_at(text, at + 2) == b'=' {
@@ -186,7 +186,7 @@ fn colon_at(text: &[u8], at: usize) -> Found
 // At a dot: `..`, or no token.
 fn dot_at(text: &[u8], at: usize) -> Found
     requires { ⌜ at < length (now text) ⌝ }
-    ensures { λ r. ⌜ r ≡ foundAt at (afterDot (drop (at + 1) (now (text .entry)))) ⌝ }
+    ensures { λ r. ⌜ r ≡ found-at at (after-dot (drop (at + 1) (now (text .entry)))) ⌝ }
 {
     if byte_at(text, at + 1) == b'.' {
         return Found::Piece(terminal::DOTS, at + 2);
@@ -197,7 +197,7 @@ fn dot_at(text: &[u8], at: usize) -> Found
 // At a byte of this class, which is no blank, no letter and no digit.
 fn punctuation_at(table: &[u8; 256], text: &[u8], at: usize, class: u8) -> Found
     requires { ⌜ (at < length (now text)) × ClassTable (now table) ⌝ }
-    ensures { λ r. ⌜ r ≡ foundAt at (punctuation class (drop (at + 1) (now (text .entry)))) ⌝ }
+    ensures { λ r. ⌜ r ≡ found-at at (punctuation class (drop (at + 1) (now (text .entry)))) ⌝ }
 {
     if terminal::LEFT_BRACE <= class {
         return Found::Piece(class, at + 1);
@@ -223,7 +223,7 @@ fn punctuation_at(table: &[u8; 256], text: &[u8], at: usize, class: u8) -> Found
 // What the text holds at a place before its end.
 pub fn piece_at(table: &[u8; 256], text: &[u8], at: usize) -> Found
     requires { ⌜ (at < length (now text)) × ClassTable (now table) ⌝ }
-    ensures { λ r. ⌜ r ≡ foundAt at (piece (drop at (now (text .entry)))) ⌝ }
+    ensures { λ r. ⌜ r ≡ found-at at (piece (drop at (now (text .entry)))) ⌝ }
 {
     let class = class_of(table, text[at]);
     if SMALL <= class {

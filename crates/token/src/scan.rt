@@ -3,10 +3,10 @@
 ghost use mathlib.Core.Path.{_≡_};
 ghost use Prim.Native.Nat.{_+_, _-_, _*_, _≤_, _<_, min};
 ghost use lib.ListN.{length, getD, take, drop};
-ghost use Rattle.token.specs.Byte.{ClassTable, classOf, classed, digitByte, nameByte, commentByte};
+ghost use Rattle.token.specs.Byte.{ClassTable, class-of, classed, digit-byte, name-byte, comment-byte};
 ghost use Rattle.token.specs.Token.{decimal};
 ghost use Rattle.token.specs.Cut.{span};
-ghost use Rattle.token.specs.Run.{belongsTo};
+ghost use Rattle.token.specs.Run.{belongs-to};
 use crate::byte::DIGIT;
 use crate::byte::HYPHEN;
 use crate::byte::NEWLINE;
@@ -26,7 +26,7 @@ pub fn byte_at(text: &[u8], at: usize) -> u8
 // The class of the byte at a place of the text; at its end that of byte 0, which no token and no gap has.
 pub fn class_at(table: &[u8; 256], text: &[u8], at: usize) -> u8
     requires { ⌜ ClassTable (now table) ⌝ }
-    ensures { λ r. ⌜ r ≡ classOf (getD (now (text .entry)) at 0) ⌝ }
+    ensures { λ r. ⌜ r ≡ class-of (getD (now (text .entry)) at 0) ⌝ }
 {
     class_of(table, byte_at(text, at))
 }
@@ -46,7 +46,7 @@ fn in_classes(table: &[u8; 256], text: &[u8], at: usize, low: u8, high: u8) -> b
 // Whether the byte is a letter, a digit, or a hyphen that a letter or digit follows.
 fn in_name(table: &[u8; 256], text: &[u8], at: usize) -> bool
     requires { ⌜ (at < length (now text)) × ClassTable (now table) ⌝ }
-    ensures { λ r. ⌜ r ≡ nameByte (getD (now (text .entry)) at 0) (getD (now (text .entry)) (at + 1) 0) ⌝ }
+    ensures { λ r. ⌜ r ≡ name-byte (getD (now (text .entry)) at 0) (getD (now (text .entry)) (at + 1) 0) ⌝ }
 {
     let class = class_of(table, text[at]);
     if SMALL <= class {
@@ -61,7 +61,7 @@ fn in_name(table: &[u8; 256], text: &[u8], at: usize) -> bool
 // Whether the byte doesn't end a comment: it is not 10 or 13, and not the first of two hyphens.
 fn in_comment(table: &[u8; 256], text: &[u8], at: usize) -> bool
     requires { ⌜ (at < length (now text)) × ClassTable (now table) ⌝ }
-    ensures { λ r. ⌜ r ≡ commentByte (getD (now (text .entry)) at 0) (getD (now (text .entry)) (at + 1) 0) ⌝ }
+    ensures { λ r. ⌜ r ≡ comment-byte (getD (now (text .entry)) at 0) (getD (now (text .entry)) (at + 1) 0) ⌝ }
 {
     let class = class_of(table, text[at]);
     if class == NEWLINE {
@@ -89,7 +89,7 @@ pub enum Run {
 // Whether the byte belongs to the run.
 fn belongs(table: &[u8; 256], text: &[u8], at: usize, run: Run) -> bool
     requires { ⌜ (at < length (now text)) × ClassTable (now table) ⌝ }
-    ensures { λ r. ⌜ r ≡ belongsTo run (getD (now (text .entry)) at 0) (getD (now (text .entry)) (at + 1) 0) ⌝ }
+    ensures { λ r. ⌜ r ≡ belongs-to run (getD (now (text .entry)) at 0) (getD (now (text .entry)) (at + 1) 0) ⌝ }
 {
     match run {
         Run::Classes(low, high) => in_classes(table, text, at, low, high),
@@ -101,7 +101,7 @@ fn belongs(table: &[u8; 256], text: &[u8], at: usize, run: Run) -> bool
 // The end of the run: the place of the first byte that doesn't belong to it, or the end of the text.
 pub fn run_end(table: &[u8; 256], text: &[u8], at: usize, run: Run) -> usize
     requires { ⌜ (at ≤ length (now text)) × ClassTable (now table) ⌝ }
-    ensures { λ r. ⌜ r ≡ at + span (belongsTo run) (drop at (now (text .entry))) ⌝ }
+    ensures { λ r. ⌜ r ≡ at + span (belongs-to run) (drop at (now (text .entry))) ⌝ }
 {
     let mut i = at;
     while i < text.len() {
@@ -148,7 +148,7 @@ pub fn more(value: u64, byte: u8) -> u64
 // The run of digits.
 pub fn digit_run(table: &[u8; 256], text: &[u8], at: usize) -> Digits
     requires { ⌜ (at ≤ length (now text)) × ClassTable (now table) ⌝ }
-    ensures { λ r. ⌜ (r .end ≡ at + span digitByte (drop at (now (text .entry)))) × (r .value ≡ min (decimal (take (r .end - at) (drop at (now (text .entry))))) 4294967296) ⌝ }
+    ensures { λ r. ⌜ (r .end ≡ at + span digit-byte (drop at (now (text .entry)))) × (r .value ≡ min (decimal (take (r .end - at) (drop at (now (text .entry))))) 4294967296) ⌝ }
 {
     let mut i = at;
     let mut value = 0;

@@ -5,9 +5,9 @@ use Prim.Native.Nat.{ℕ, _+_, _-_, _≤_, _<_}
 use native.Mathlib.Omega.{arith}
 use borrow.Author.Needs.{needs}
 use lib.ListN.{length, drop}
-use Rattle.token.specs.Byte.{classOf, classIn, rows}
+use Rattle.token.specs.Byte.{class-of, class-in, rows}
 use Rattle.token.specs.Cut.{whole, piece}
-use Rattle.token.specs.Table.{foundAt}
+use Rattle.token.specs.Table.{found-at}
 use Rattle.token.specs.declared.piece.Found.{Found}
 use Rattle.token.specs.declared.Answer.the-variants.{Tokens}
 use Rattle.token.proofs.Bytes.{right, class-table}
@@ -26,7 +26,7 @@ loop-holds : tie.Need-loop-holds Inv-loop μ-loop
 loop-holds c = progress-start _ _ _ _
 
 piece-at-requires : tie.Need-piece-at-requires Inv-loop μ-loop
-unfolding right classOf classIn rows
+unfolding right class-of class-in rows
 piece-at-requires c κs = (c .before .loop-test .taken, class-table _ refl tt)
 
 enum-known-found : tie.Need-enum-known-found Inv-loop μ-loop
@@ -48,7 +48,7 @@ returns c =
     (c .before .before .before .piece-at .result) (c .before .enum-told .given .0 .0) (c .before .enum-told .given .0 .1 .0) (c .before .enum-told .given .1) (c .before .before .before .piece-at .ensures))
 
 -- what was read is what the text holds there
-reads : (c : tie.After-known-told Inv-loop μ-loop) → Found.Piece (c .before .found .given .0 .0) (c .before .found .given .0 .1 .0) ≡ foundAt (c .before .before .before .before .before .before .loop .at) (piece (drop (c .before .before .before .before .before .before .loop .at) (c .before .before .before .before .before .before .before .before .args .text .now)))
+reads : (c : tie.After-known-told Inv-loop μ-loop) → Found.Piece (c .before .found .given .0 .0) (c .before .found .given .0 .1 .0) ≡ found-at (c .before .before .before .before .before .before .loop .at) (piece (drop (c .before .before .before .before .before .before .loop .at) (c .before .before .before .before .before .before .before .before .args .text .now)))
 reads c = sym (c .before .found .given .1) ∙ c .before .before .before .piece-at .ensures
 
 -- so there is room for it, and it leads forward in the text

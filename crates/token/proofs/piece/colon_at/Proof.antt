@@ -4,7 +4,7 @@ use mathlib.Core.Path.{_≡_, refl, sym, ap, _∙_}
 use Prim.Native.Nat.{ℕ, _+_, _-_, _≤_, _<_}
 use native.Mathlib.Omega.{arith}
 use native.Mathlib.Nat.{add-zero}
-use Rattle.token.specs.Cut.{afterColon}
+use Rattle.token.specs.Cut.{after-colon}
 use Rattle.token.proofs.Places.{byte-is, byte-not}
 use borrow.Author.Needs.{needs}
 use Rattle.token.proofs.piece.colon_at.Statement.{statement}
@@ -26,7 +26,7 @@ add-t9 : tie.Need-add-t9
 add-t9 c = search needs
 
 returns : tie.Need-returns
-unfolding afterColon
+unfolding after-colon
 returns c =
     let s = c .before .before .before .before .before in
     let t = s .args .text .now in
@@ -34,7 +34,7 @@ returns c =
     simp (byte-is t (at + 1) 0 (at + 1) (omega arith) (c .before .before .before .byte-at .ensures) (c .before .before .if1 .taken), byte-is t (at + 1) 1 (at + 2) (omega arith) (c .before .byte-at2 .ensures) (c .if2 .taken))
 
 returns-2 : tie.Need-returns-2
-unfolding afterColon
+unfolding after-colon
 returns-2 c =
     let s = c .before .before .before .before .before in
     let t = s .args .text .now in
@@ -42,7 +42,7 @@ returns-2 c =
     simp (byte-is t (at + 1) 0 (at + 1) (omega arith) (c .before .before .before .byte-at .ensures) (c .before .before .if1 .taken), byte-not t (at + 1) 1 (at + 2) (omega arith) (c .before .byte-at2 .ensures) (c .if2 .left), add-zero)
 
 returns-3 : tie.Need-returns-3
-unfolding afterColon
+unfolding after-colon
 returns-3 c =
     let s = c .before .before .before in
     let t = s .args .text .now in

@@ -6,7 +6,7 @@ use native.Mathlib.Omega.{arith}
 use lib.ListN.{length, getD, take, drop, length-drop}
 use Rattle.token.specs.Cut.{span, comment}
 use Rattle.token.specs.declared.piece.Found.{Found}
-use Rattle.token.specs.Byte.{classOf, digitByte, nameByte, commentByte, textByte, hexByte, blankByte}
+use Rattle.token.specs.Byte.{class-of, digit-byte, name-byte, comment-byte, text-byte, hex-byte, blank-byte}
 use Rattle.token.proofs.Places.{rest-at, class-is, class-not, inside}
 use Rattle.token.proofs.Span.{span-end-in, span-more}
 use borrow.Author.Needs.{needs}
@@ -46,8 +46,8 @@ returns c =
     let t = s .args .text .now in
     let at = s .args .at in
     let end = c .before .before .before .before .run-end .result in
-    let ends : end ≡ at + 2 + span commentByte (drop (at + 2) t) = c .before .before .before .before .run-end .ensures in
-    simp (rest-at t (at + 2) (span commentByte (drop (at + 2) t)) end (sym ends), class-is t end 0 end (omega arith) (c .before .before .before .class-at .ensures) (c .before .before .if1 .taken), class-is t end 1 (end + 1) refl (c .before .class-at2 .ensures) (c .if2 .taken))
+    let ends : end ≡ at + 2 + span comment-byte (drop (at + 2) t) = c .before .before .before .before .run-end .ensures in
+    simp (rest-at t (at + 2) (span comment-byte (drop (at + 2) t)) end (sym ends), class-is t end 0 end (omega arith) (c .before .before .before .class-at .ensures) (c .before .before .if1 .taken), class-is t end 1 (end + 1) refl (c .before .class-at2 .ensures) (c .if2 .taken))
     (ap (λ (e : ℕ). Found.Piece 58 e) (omega arith))
 
 returns-2 : tie.Need-returns-2
@@ -57,8 +57,8 @@ returns-2 c =
     let t = s .args .text .now in
     let at = s .args .at in
     let end = c .before .before .before .before .run-end .result in
-    let ends : end ≡ at + 2 + span commentByte (drop (at + 2) t) = c .before .before .before .before .run-end .ensures in
-    simp (rest-at t (at + 2) (span commentByte (drop (at + 2) t)) end (sym ends), class-is t end 0 end (omega arith) (c .before .before .before .class-at .ensures) (c .before .before .if1 .taken), class-not t end 1 (end + 1) refl (c .before .class-at2 .ensures) (c .if2 .left))
+    let ends : end ≡ at + 2 + span comment-byte (drop (at + 2) t) = c .before .before .before .before .run-end .ensures in
+    simp (rest-at t (at + 2) (span comment-byte (drop (at + 2) t)) end (sym ends), class-is t end 0 end (omega arith) (c .before .before .before .class-at .ensures) (c .before .before .if1 .taken), class-not t end 1 (end + 1) refl (c .before .class-at2 .ensures) (c .if2 .left))
     (ap (λ (e : ℕ). Found.Piece 58 e) (omega arith))
 
 returns-3 : tie.Need-returns-3
@@ -68,8 +68,8 @@ returns-3 c =
     let t = s .args .text .now in
     let at = s .args .at in
     let end = c .before .before .run-end .result in
-    let ends : end ≡ at + 2 + span commentByte (drop (at + 2) t) = c .before .before .run-end .ensures in
-    simp (rest-at t (at + 2) (span commentByte (drop (at + 2) t)) end (sym ends), class-not t end 0 end (omega arith) (c .before .class-at .ensures) (c .if1 .left))
+    let ends : end ≡ at + 2 + span comment-byte (drop (at + 2) t) = c .before .before .run-end .ensures in
+    simp (rest-at t (at + 2) (span comment-byte (drop (at + 2) t)) end (sym ends), class-not t end 0 end (omega arith) (c .before .class-at .ensures) (c .if1 .left))
     (ap (λ (e : ℕ). Found.Piece 58 e) (omega arith))
 
 pub comment-at-spec : {M : Type 1} → statement M

@@ -4,7 +4,7 @@ use mathlib.Core.Path.{_≡_, refl, sym, ap, _∙_}
 use Prim.Native.Nat.{ℕ, _+_, _-_, _≤_, _<_}
 use native.Mathlib.Omega.{arith}
 use native.Mathlib.Nat.{add-zero}
-use Rattle.token.specs.Cut.{afterDot}
+use Rattle.token.specs.Cut.{after-dot}
 use Rattle.token.proofs.Places.{byte-is, byte-not}
 use borrow.Author.Needs.{needs}
 use Rattle.token.proofs.piece.dot_at.Statement.{statement}
@@ -20,7 +20,7 @@ add-t6 : tie.Need-add-t6
 add-t6 c = search needs
 
 returns : tie.Need-returns
-unfolding afterDot
+unfolding after-dot
 returns c =
     let s = c .before .before .before in
     let t = s .args .text .now in
@@ -28,7 +28,7 @@ returns c =
     simp (byte-is t (at + 1) 0 (at + 1) (omega arith) (c .before .byte-at .ensures) (c .if1 .taken))
 
 returns-2 : tie.Need-returns-2
-unfolding afterDot
+unfolding after-dot
 returns-2 c =
     let s = c .before .before .before in
     let t = s .args .text .now in

@@ -5,9 +5,9 @@ use Prim.Native.Nat.{ℕ, _+_, _-_, _≤_, _<_}
 use native.Mathlib.Omega.{arith}
 use native.Mathlib.Nat.{add-zero}
 use lib.ListN.{length, getD, take, drop, length-drop}
-use Rattle.token.specs.Cut.{span, hexString}
+use Rattle.token.specs.Cut.{span, hex-string}
 use Rattle.token.specs.declared.piece.Found.{Found}
-use Rattle.token.specs.Byte.{classOf, digitByte, nameByte, commentByte, textByte, hexByte, blankByte}
+use Rattle.token.specs.Byte.{class-of, digit-byte, name-byte, comment-byte, text-byte, hex-byte, blank-byte}
 use Rattle.token.proofs.Places.{byte-is, byte-not, class-is, class-not, inside, byte-inside}
 use borrow.Author.Needs.{needs}
 use Rattle.token.proofs.piece.hex_at.Statement.{statement}
@@ -40,35 +40,35 @@ add-t12 c =
     omega (arith, byte-inside t (c .before .before .before .before .run-end .result + 1) 72 (sym (c .before .byte-at .ensures) ∙ c .if2 .taken) (omega arith))
 
 returns : tie.Need-returns
-unfolding hexString
+unfolding hex-string
 returns c =
     let s = c .before .before .before .before .before .before in
     let t = s .args .text .now in
     let at = s .args .at in
     let end = c .before .before .before .before .run-end .result in
-    let ends : end ≡ at + 1 + span hexByte (drop (at + 1) t) = c .before .before .before .before .run-end .ensures in
-    simp (class-is t (at + 1) (span hexByte (drop (at + 1) t)) end (sym ends) (c .before .before .before .class-at .ensures) (c .before .before .if1 .taken), byte-is t (at + 1) (span hexByte (drop (at + 1) t) + 1) (end + 1) (omega arith) (c .before .byte-at .ensures) (c .if2 .taken))
+    let ends : end ≡ at + 1 + span hex-byte (drop (at + 1) t) = c .before .before .before .before .run-end .ensures in
+    simp (class-is t (at + 1) (span hex-byte (drop (at + 1) t)) end (sym ends) (c .before .before .before .class-at .ensures) (c .before .before .if1 .taken), byte-is t (at + 1) (span hex-byte (drop (at + 1) t) + 1) (end + 1) (omega arith) (c .before .byte-at .ensures) (c .if2 .taken))
     (ap (λ (e : ℕ). Found.Piece 48 e) (omega arith))
 
 returns-2 : tie.Need-returns-2
-unfolding hexString
+unfolding hex-string
 returns-2 c =
     let s = c .before .before .before .before .before .before in
     let t = s .args .text .now in
     let at = s .args .at in
     let end = c .before .before .before .before .run-end .result in
-    let ends : end ≡ at + 1 + span hexByte (drop (at + 1) t) = c .before .before .before .before .run-end .ensures in
-    simp (class-is t (at + 1) (span hexByte (drop (at + 1) t)) end (sym ends) (c .before .before .before .class-at .ensures) (c .before .before .if1 .taken), byte-not t (at + 1) (span hexByte (drop (at + 1) t) + 1) (end + 1) (omega arith) (c .before .byte-at .ensures) (c .if2 .left), add-zero)
+    let ends : end ≡ at + 1 + span hex-byte (drop (at + 1) t) = c .before .before .before .before .run-end .ensures in
+    simp (class-is t (at + 1) (span hex-byte (drop (at + 1) t)) end (sym ends) (c .before .before .before .class-at .ensures) (c .before .before .if1 .taken), byte-not t (at + 1) (span hex-byte (drop (at + 1) t) + 1) (end + 1) (omega arith) (c .before .byte-at .ensures) (c .if2 .left), add-zero)
 
 returns-3 : tie.Need-returns-3
-unfolding hexString
+unfolding hex-string
 returns-3 c =
     let s = c .before .before .before .before in
     let t = s .args .text .now in
     let at = s .args .at in
     let end = c .before .before .run-end .result in
-    let ends : end ≡ at + 1 + span hexByte (drop (at + 1) t) = c .before .before .run-end .ensures in
-    simp (class-not t (at + 1) (span hexByte (drop (at + 1) t)) end (sym ends) (c .before .class-at .ensures) (c .if1 .left), add-zero)
+    let ends : end ≡ at + 1 + span hex-byte (drop (at + 1) t) = c .before .before .run-end .ensures in
+    simp (class-not t (at + 1) (span hex-byte (drop (at + 1) t)) end (sym ends) (c .before .class-at .ensures) (c .if1 .left), add-zero)
 
 pub hex-at-spec : {M : Type 1} → statement M
 hex-at-spec =

@@ -5,10 +5,10 @@ use Prim.Native.Nat.{ℕ, _+_, _-_, _≤_, _<_}
 use native.Mathlib.Omega.{arith}
 use native.Mathlib.Nat.{add-zero}
 use lib.ListN.{length, getD, take, drop, length-drop}
-use Rattle.token.specs.Cut.{afterHyphen, comment, belowZero}
+use Rattle.token.specs.Cut.{after-hyphen, comment, below-zero}
 use Rattle.token.specs.declared.piece.Found.{Found}
-use Rattle.token.specs.Table.{foundAt}
-use Rattle.token.specs.Byte.{classOf, digitByte, nameByte, commentByte, textByte, hexByte, blankByte}
+use Rattle.token.specs.Table.{found-at}
+use Rattle.token.specs.Byte.{class-of, digit-byte, name-byte, comment-byte, text-byte, hex-byte, blank-byte}
 use Rattle.token.proofs.Places.{rest-at, class-is, class-not, inside}
 use borrow.Author.Needs.{needs}
 use Rattle.token.proofs.piece.hyphen_at.Statement.{statement}
@@ -28,7 +28,7 @@ comment-at-requires c κs =
     (omega (arith, inside t (at + 1) 6 (sym (c .before .class-at .ensures) ∙ c .if1 .taken) (omega arith)), s .pre .1)
 
 returns : tie.Need-returns
-unfolding afterHyphen
+unfolding after-hyphen
 returns c =
     let s = c .before .before .before .before in
     let t = s .args .text .now in
@@ -40,7 +40,7 @@ negative-at-requires : tie.Need-negative-at-requires
 negative-at-requires c κs = search needs
 
 returns-2 : tie.Need-returns-2
-unfolding afterHyphen
+unfolding after-hyphen
 returns-2 c =
     let s = c .before .before .before .before .before in
     let t = s .args .text .now in
@@ -49,7 +49,7 @@ returns-2 c =
     (c .negative-at .ensures)
 
 returns-3 : tie.Need-returns-3
-unfolding afterHyphen
+unfolding after-hyphen
 returns-3 c =
     let s = c .before .before .before .before in
     let t = s .args .text .now in

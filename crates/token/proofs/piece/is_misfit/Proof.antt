@@ -7,7 +7,7 @@ use native.Mathlib.Omega.{arith}
 use borrow.Author.Tests.{le-leb, lt-leb, lt-ltb, le-ltb, eq-eqb, ne-eqb}
 use lib.ListN.{length, getD, take, drop, length-drop}
 use Rattle.token.specs.Cut.{span, misfit}
-use Rattle.token.specs.Byte.{classOf, digitByte, nameByte, commentByte, textByte, hexByte, blankByte}
+use Rattle.token.specs.Byte.{class-of, digit-byte, name-byte, comment-byte, text-byte, hex-byte, blank-byte}
 use Rattle.token.proofs.Places.{byte-is, byte-not, class-there}
 use borrow.Author.Needs.{needs}
 use Rattle.token.proofs.piece.is_misfit.Statement.{statement}
@@ -25,7 +25,7 @@ returns c =
     let s = c .before .before .before .before in
     let t = s .args .text .now in
     let at = s .args .at in
-    simp (byte-is t at 0 at (omega arith) (c .before .before .byte-at .ensures) (c .before .if1 .taken), lt-ltb 1 (span digitByte (drop at t)) (omega arith))
+    simp (byte-is t at 0 at (omega arith) (c .before .before .byte-at .ensures) (c .before .if1 .taken), lt-ltb 1 (span digit-byte (drop at t)) (omega arith))
 
 class-at-requires : tie.Need-class-at-requires
 class-at-requires c κs = search needs
@@ -36,8 +36,8 @@ returns-2 c =
     let s = c .before .before .before .before in
     let t = s .args .text .now in
     let at = s .args .at in
-    let n = span digitByte (drop at t) in
-    let letter : classOf (getD (drop at t) n 0) ≡ c .class-at .result =
+    let n = span digit-byte (drop at t) in
+    let letter : class-of (getD (drop at t) n 0) ≡ c .class-at .result =
     class-there t at n (s .args .end) (sym (s .pre .0)) (c .class-at .ensures) in
     ⊎-elim
     (λ w. simp (byte-is t at 0 at (omega arith) (c .before .before .byte-at .ensures) (w .0 .taken), le-ltb 1 n (omega (arith, w .1 .left)), letter))

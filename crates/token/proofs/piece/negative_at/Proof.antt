@@ -8,9 +8,9 @@ use native.Mathlib.Nat.{add-zero}
 use borrow.Author.Tests.{le-leb, lt-leb, lt-ltb, le-ltb, eq-eqb, ne-eqb}
 use lib.ListN.{length, getD, take, drop, length-drop}
 use Rattle.token.specs.Token.{decimal}
-use Rattle.token.specs.Cut.{span, misfit, belowZero}
+use Rattle.token.specs.Cut.{span, misfit, below-zero}
 use Rattle.token.specs.declared.piece.Found.{Found}
-use Rattle.token.specs.Byte.{classOf, digitByte, nameByte, commentByte, textByte, hexByte, blankByte}
+use Rattle.token.specs.Byte.{class-of, digit-byte, name-byte, comment-byte, text-byte, hex-byte, blank-byte}
 use Rattle.token.proofs.Places.{byte-is, byte-not}
 use borrow.Author.Needs.{needs}
 use Rattle.token.proofs.piece.negative_at.Statement.{statement}
@@ -29,7 +29,7 @@ byte-at-requires : tie.Need-byte-at-requires
 byte-at-requires c κs = search needs
 
 returns : tie.Need-returns
-unfolding belowZero
+unfolding below-zero
 returns c =
     let s = c .before .before .before .before in
     let t = s .args .text .now in
@@ -43,7 +43,7 @@ is-misfit-requires : tie.Need-is-misfit-requires
 is-misfit-requires c κs = search needs
 
 returns-2 : tie.Need-returns-2
-unfolding belowZero
+unfolding below-zero
 returns-2 c =
     let s = c .before .before .before .before .before .before in
     let t = s .args .text .now in
@@ -53,13 +53,13 @@ returns-2 c =
     simp (nonzero, bad, add-zero)
 
 returns-3 : tie.Need-returns-3
-unfolding belowZero
+unfolding below-zero
 returns-3 c =
     let s = c .before .before .before .before .before .before .before .before in
     let t = s .args .text .now in
     let at = s .args .at in
     let nonzero = byte-not t (at + 1) 0 (at + 1) (omega arith) (c .before .before .before .before .before .byte-at .ensures) (c .before .before .before .before .if1 .left) in
-    let n = span digitByte (drop (at + 1) t) in
+    let n = span digit-byte (drop (at + 1) t) in
     let run = c .before .before .before .before .before .before .digit-run in
     let length-n : run .result .end - ((at + 1)) ≡ n = omega (arith, run .ensures .0) in
     let value : run .result .value ≡ min (decimal (take n (drop ((at + 1)) t))) 4294967296 =
@@ -68,13 +68,13 @@ returns-3 c =
     simp (nonzero, fine, lt-leb (decimal (take n (drop (at + 1) t))) 2147483648 (omega arith), add-zero)
 
 returns-4 : tie.Need-returns-4
-unfolding belowZero
+unfolding below-zero
 returns-4 c =
     let s = c .before .before .before .before .before .before .before .before in
     let t = s .args .text .now in
     let at = s .args .at in
     let nonzero = byte-not t (at + 1) 0 (at + 1) (omega arith) (c .before .before .before .before .before .byte-at .ensures) (c .before .before .before .before .if1 .left) in
-    let n = span digitByte (drop (at + 1) t) in
+    let n = span digit-byte (drop (at + 1) t) in
     let run = c .before .before .before .before .before .before .digit-run in
     let length-n : run .result .end - ((at + 1)) ≡ n = omega (arith, run .ensures .0) in
     let value : run .result .value ≡ min (decimal (take n (drop ((at + 1)) t))) 4294967296 =

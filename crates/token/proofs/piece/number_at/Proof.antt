@@ -8,9 +8,9 @@ use native.Mathlib.Nat.{add-zero}
 use borrow.Author.Tests.{le-leb, lt-leb, lt-ltb, le-ltb, eq-eqb, ne-eqb}
 use lib.ListN.{length, getD, take, drop, length-drop}
 use Rattle.token.specs.Token.{decimal}
-use Rattle.token.specs.Cut.{span, misfit, nonNegative}
+use Rattle.token.specs.Cut.{span, misfit, non-negative}
 use Rattle.token.specs.declared.piece.Found.{Found}
-use Rattle.token.specs.Byte.{classOf, digitByte, nameByte, commentByte, textByte, hexByte, blankByte}
+use Rattle.token.specs.Byte.{class-of, digit-byte, name-byte, comment-byte, text-byte, hex-byte, blank-byte}
 use borrow.Author.Needs.{needs}
 use Rattle.token.proofs.piece.number_at.Statement.{statement}
 use Rattle.token.proofs.piece.number_at.Tie as tie
@@ -22,7 +22,7 @@ is-misfit-requires : tie.Need-is-misfit-requires
 is-misfit-requires c κs = search needs
 
 returns : tie.Need-returns
-unfolding nonNegative
+unfolding non-negative
 returns c =
     let s = c .before .before .before .before in
     let t = s .args .text .now in
@@ -31,12 +31,12 @@ returns c =
     simp (bad, add-zero)
 
 returns-2 : tie.Need-returns-2
-unfolding nonNegative
+unfolding non-negative
 returns-2 c =
     let s = c .before .before .before .before .before .before in
     let t = s .args .text .now in
     let at = s .args .at in
-    let n = span digitByte (drop at t) in
+    let n = span digit-byte (drop at t) in
     let run = c .before .before .before .before .digit-run in
     let length-n : run .result .end - (at) ≡ n = omega (arith, run .ensures .0) in
     let value : run .result .value ≡ min (decimal (take n (drop (at) t))) 4294967296 =
@@ -45,12 +45,12 @@ returns-2 c =
     simp (fine, lt-leb (decimal (take n (drop at t))) 4294967295 (omega arith), add-zero)
 
 returns-3 : tie.Need-returns-3
-unfolding nonNegative
+unfolding non-negative
 returns-3 c =
     let s = c .before .before .before .before .before .before in
     let t = s .args .text .now in
     let at = s .args .at in
-    let n = span digitByte (drop at t) in
+    let n = span digit-byte (drop at t) in
     let run = c .before .before .before .before .digit-run in
     let length-n : run .result .end - (at) ≡ n = omega (arith, run .ensures .0) in
     let value : run .result .value ≡ min (decimal (take n (drop (at) t))) 4294967296 =

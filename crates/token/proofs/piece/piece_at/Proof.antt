@@ -8,7 +8,7 @@ use native.Mathlib.Omega.{arith}
 use borrow.Author.Tests.{le-leb, lt-leb, lt-ltb, le-ltb, eq-eqb, ne-eqb}
 use lib.ListN.{length, getD, take, drop, length-drop}
 use Rattle.token.specs.Cut.{span, piece}
-use Rattle.token.specs.Byte.{classOf, digitByte, nameByte, commentByte, textByte, hexByte, blankByte}
+use Rattle.token.specs.Byte.{class-of, digit-byte, name-byte, comment-byte, text-byte, hex-byte, blank-byte}
 use Rattle.token.specs.declared.piece.Found.{Found}
 use Rattle.token.proofs.Places.{class-there, rest-at}
 use Rattle.token.proofs.Span.{span-end-in, span-more}
@@ -38,9 +38,9 @@ name-at-requires c κs =
     let s = c .before .before .before .before .before in
     let t = s .args .text .now in
     let at = s .args .at in
-    let in-name : nameByte (getD t at 0) (getD t (at + 1) 0) ≡ true =
+    let in-name : name-byte (getD t at 0) (getD t (at + 1) 0) ≡ true =
     rw (← c .before .before .class-of .ensures) (simp (le-leb _ _ (c .before .if1 .taken))) in
-    (s .pre .0, omega (arith, span-more nameByte t at (s .pre .0) in-name), s .pre .1)
+    (s .pre .0, omega (arith, span-more name-byte t at (s .pre .0) in-name), s .pre .1)
 
 returns-2 : tie.Need-returns-2
 unfolding piece

@@ -8,7 +8,7 @@ use borrow.Author.Tests.{le-leb, lt-leb, lt-ltb, le-ltb, eq-eqb, ne-eqb}
 use lib.ListN.{length, getD, take, drop, length-drop}
 use Rattle.token.specs.Cut.{span, quoted}
 use Rattle.token.specs.declared.piece.Found.{Found}
-use Rattle.token.specs.Byte.{classOf, digitByte, nameByte, commentByte, textByte, hexByte, blankByte}
+use Rattle.token.specs.Byte.{class-of, digit-byte, name-byte, comment-byte, text-byte, hex-byte, blank-byte}
 use Rattle.token.proofs.Places.{class-is, class-not}
 use borrow.Author.Needs.{needs}
 use Rattle.token.proofs.piece.text_at.Statement.{statement}
@@ -26,7 +26,7 @@ returns c =
     let s = c .before .before .before in
     let t = s .args .text .now in
     let at = s .args .at in
-    let n = span textByte (drop (at + 1) t) in
+    let n = span text-byte (drop (at + 1) t) in
     simp (le-leb (length (drop (at + 1) t)) n (omega (arith, length-drop (at + 1) t, c .before .run-end .ensures)), add-zero)
 
 shared-slice-read-class-of : tie.Need-shared-slice-read-class-of
@@ -44,7 +44,7 @@ returns-2 c =
     let s = c .before .before .before .before .before .before in
     let t = s .args .text .now in
     let at = s .args .at in
-    let n = span textByte (drop (at + 1) t) in
+    let n = span text-byte (drop (at + 1) t) in
     let end = c .before .before .before .before .run-end in
     simp (lt-leb (length (drop (at + 1) t)) n (omega (arith, length-drop (at + 1) t, end .ensures)), class-is t (at + 1) n (end .result) (sym (end .ensures)) (c .before .class-of .ensures) (c .if2 .taken))
     (ap (λ (e : ℕ). Found.Piece 47 e) (omega (arith, end .ensures)))
@@ -55,7 +55,7 @@ returns-3 c =
     let s = c .before .before .before .before .before .before in
     let t = s .args .text .now in
     let at = s .args .at in
-    let n = span textByte (drop (at + 1) t) in
+    let n = span text-byte (drop (at + 1) t) in
     let end = c .before .before .before .before .run-end in
     simp (lt-leb (length (drop (at + 1) t)) n (omega (arith, length-drop (at + 1) t, end .ensures)), class-not t (at + 1) n (end .result) (sym (end .ensures)) (c .before .class-of .ensures) (c .if2 .left))
     (ap (λ (e : ℕ). Found.Refused 4 (record { 0 = e })) (omega (arith, end .ensures)))

@@ -4,15 +4,15 @@ use mathlib.Core.Path.{_≡_, sym, ap, _∙_}
 use mathlib.Core.Bool.{Bool}
 use Prim.Native.Nat.{ℕ, _+_}
 use lib.ListN.{getD}
-use Rattle.token.specs.Run.{belongsTo}
+use Rattle.token.specs.Run.{belongs-to}
 use Rattle.token.specs.declared.scan.Run.{Run}
 use borrow.Author.Needs.{needs}
 use Rattle.token.proofs.scan.belongs.Statement.{statement}
 use Rattle.token.proofs.scan.belongs.Tie as tie
 
 -- what an arm's answer says of the run that it is
-at-run : {x y : Run} (b next : ℕ) {r : Bool} → x ≡ y → r ≡ belongsTo y b next → r ≡ belongsTo x b next
-at-run b next e q = q ∙ ap (λ (run : Run). belongsTo run b next) (sym e)
+at-run : {x y : Run} (b next : ℕ) {r : Bool} → x ≡ y → r ≡ belongs-to y b next → r ≡ belongs-to x b next
+at-run b next e q = q ∙ ap (λ (run : Run). belongs-to run b next) (sym e)
 
 enum-known-run : tie.Need-enum-known-run
 enum-known-run c = search needs

@@ -1,7 +1,7 @@
 -- `class_at` is right because it is the class of the byte there.
 -- Assumes nothing.
 use mathlib.Core.Path.{ap, _∙_}
-use Rattle.token.specs.Byte.{classOf}
+use Rattle.token.specs.Byte.{class-of}
 use borrow.Author.Needs.{needs}
 use Rattle.token.proofs.scan.class_at.Statement.{statement}
 use Rattle.token.proofs.scan.class_at.Tie as tie
@@ -13,7 +13,7 @@ class-of-requires : tie.Need-class-of-requires
 class-of-requires c κs = search needs
 
 returns : tie.Need-returns
-returns c = c .class-of .ensures ∙ ap classOf (c .before .byte-at .ensures)
+returns c = c .class-of .ensures ∙ ap class-of (c .before .byte-at .ensures)
 
 pub class-at-spec : {M : Type 1} → statement M
 class-at-spec = tie.close (tie.spec byte-at-requires class-of-requires returns)

@@ -6,7 +6,7 @@ use Prim.Native.Nat.{_+_, _-_, min}
 use native.Mathlib.Omega.{arith}
 use borrow.Author.Needs.{needs}
 use lib.ListN.{length, getD, take, drop}
-use Rattle.token.specs.Byte.{digitByte}
+use Rattle.token.specs.Byte.{digit-byte}
 use Rattle.token.specs.Token.{decimal}
 use Rattle.token.proofs.Bytes.{classed-as, classed-not}
 use Rattle.token.proofs.Decimal.{capped-none, capped-more}
@@ -16,7 +16,7 @@ use Rattle.token.proofs.scan.digit_run.Tie as tie
 
 abbrev Inv-loop : tie.InvT-loop
 Inv-loop table text at i₀ value₀ i value =
-    (Reached digitByte text at i) × (value ≡ min (decimal (take (i - at) (drop at text))) 4294967296)
+    (Reached digit-byte text at i) × (value ≡ min (decimal (take (i - at) (drop at text))) 4294967296)
 
 abbrev μ-loop : tie.MeasureT-loop
 μ-loop table text at i₀ value₀ i value = length text - i
@@ -34,7 +34,7 @@ returns : tie.Need-returns Inv-loop μ-loop
 returns c =
     let l = c .before .before .before .before in
     let a = l .before .before in (
-      reached-stop digitByte (a .args .text .now) (a .args .at) (l .loop .i) (l .loop .inv .0) (c .before .before .before .loop-test .taken)
+      reached-stop digit-byte (a .args .text .now) (a .args .at) (l .loop .i) (l .loop .inv .0) (c .before .before .before .loop-test .taken)
           (classed-not 62 (getD (a .args .text .now) (l .loop .i) 0) (getD (a .args .text .now) (l .loop .i + 1) 0)
           (λ e. c .if1 .left (c .before .class-of .ensures ∙ e))),
       l .loop .inv .1,
@@ -53,7 +53,7 @@ loop-again : tie.Need-loop-again Inv-loop μ-loop
 loop-again c =
     let l = c .before .before .before .before .before in
     let a = l .before .before in (
-      reached-more digitByte (a .args .text .now) (a .args .at) (l .loop .i) (l .loop .inv .0) (c .before .before .before .before .loop-test .taken)
+      reached-more digit-byte (a .args .text .now) (a .args .at) (l .loop .i) (l .loop .inv .0) (c .before .before .before .before .loop-test .taken)
           (classed-as 62 (getD (a .args .text .now) (l .loop .i) 0) (getD (a .args .text .now) (l .loop .i + 1) 0)
           (sym (c .before .before .class-of .ensures) ∙ c .before .if1 .taken)),
       capped-more (a .args .text .now) (a .args .at) (l .loop .i) (l .loop .inv .0 .0) (c .before .before .before .before .loop-test .taken) (l .loop .inv .1) (c .more .ensures),
@@ -63,7 +63,7 @@ returns-2 : tie.Need-returns-2 Inv-loop μ-loop
 returns-2 c =
     let l = c .before in
     let a = l .before .before in
-    (reached-end digitByte (a .args .text .now) (a .args .at) (l .loop .i) (l .loop .inv .0) (c .loop-test .left), l .loop .inv .1)
+    (reached-end digit-byte (a .args .text .now) (a .args .at) (l .loop .i) (l .loop .inv .0) (c .loop-test .left), l .loop .inv .1)
 
 pub digit-run-spec : {M : Type 1} → statement M
 digit-run-spec =

@@ -6,13 +6,13 @@ use Prim.Native.Nat.{_-_}
 use native.Mathlib.Omega.{arith}
 use borrow.Author.Needs.{needs}
 use lib.ListN.{length}
-use Rattle.token.specs.Run.{belongsTo}
+use Rattle.token.specs.Run.{belongs-to}
 use Rattle.token.proofs.Span.{Reached, reached-more, reached-stop, reached-end}
 use Rattle.token.proofs.scan.run_end.Statement.{statement}
 use Rattle.token.proofs.scan.run_end.Tie as tie
 
 abbrev Inv-loop : tie.InvT-loop
-Inv-loop table text at run i₀ i = Reached (belongsTo run) text at i
+Inv-loop table text at run i₀ i = Reached (belongs-to run) text at i
 
 abbrev μ-loop : tie.MeasureT-loop
 μ-loop table text at run i₀ i = length text - i
@@ -33,21 +33,21 @@ loop-again : tie.Need-loop-again Inv-loop μ-loop
 loop-again c =
     let l = c .before .before .before in
     let a = l .before .before in
-    reached-more (belongsTo (a .args .run)) (a .args .text .now) (a .args .at) (l .loop .i) (l .loop .inv) (c .before .before .loop-test .taken)
+    reached-more (belongs-to (a .args .run)) (a .args .text .now) (a .args .at) (l .loop .i) (l .loop .inv) (c .before .before .loop-test .taken)
     (sym (c .before .belongs .ensures) ∙ c .if1 .taken)
 
 returns : tie.Need-returns Inv-loop μ-loop
 returns c =
     let l = c .before .before .before in
     let a = l .before .before in
-    reached-stop (belongsTo (a .args .run)) (a .args .text .now) (a .args .at) (l .loop .i) (l .loop .inv) (c .before .before .loop-test .taken)
+    reached-stop (belongs-to (a .args .run)) (a .args .text .now) (a .args .at) (l .loop .i) (l .loop .inv) (c .before .before .loop-test .taken)
     (sym (c .before .belongs .ensures) ∙ c .if1 .left)
 
 returns-2 : tie.Need-returns-2 Inv-loop μ-loop
 returns-2 c =
     let l = c .before in
     let a = l .before .before in
-    reached-end (belongsTo (a .args .run)) (a .args .text .now) (a .args .at) (l .loop .i) (l .loop .inv) (c .loop-test .left)
+    reached-end (belongs-to (a .args .run)) (a .args .text .now) (a .args .at) (l .loop .i) (l .loop .inv) (c .loop-test .left)
 
 pub run-end-spec : {M : Type 1} → statement M
 run-end-spec =

@@ -1,40 +1,43 @@
 // The class of each of the 256 byte values. specs/Byte.antt has the rule, and the numbers under the same names.
 ghost use mathlib.Core.Path.{_≡_};
-ghost use Rattle.token.specs.Byte.{classOf, ClassTable};
+ghost use Rattle.word.specs.Byte.{class-of, ClassTable};
 
-// No token starts with it, and it is forbidden in a text.
-pub const OTHER: u8 = 0;
+// A mark of one byte has its token's number. Letters and digits are the classes up to CAPITAL, below the marks; hex digits are
+// those from SMALL_HEX to CAPITAL_HEX.
+pub const SMALL: u8 = 0;
 
-pub const QUOTE: u8 = 1;
+pub const SMALL_HEX: u8 = 1;
 
-// The blanks are the classes from FEED to SPACE. FEED is forbidden in a text, and NEWLINE ends a comment.
-pub const FEED: u8 = 2;
+pub const DIGIT: u8 = 2;
 
-pub const NEWLINE: u8 = 3;
+pub const CAPITAL_HEX: u8 = 3;
 
-pub const SPACE: u8 = 4;
+pub const CAPITAL: u8 = 4;
+
+// The other bytes come after the marks.
+pub const COLON: u8 = terminal::BAR + 1;
+
+pub const DOT: u8 = terminal::BAR + 2;
+
+pub const APOSTROPHE: u8 = terminal::BAR + 3;
+
+pub const HYPHEN: u8 = terminal::BAR + 4;
 
 // No token starts with it, and it may stand in a text.
-pub const PLAIN: u8 = 5;
+pub const PLAIN: u8 = terminal::BAR + 5;
 
-pub const HYPHEN: u8 = 6;
+// The blanks are the classes from NEWLINE to FEED. NEWLINE ends a comment, and FEED is forbidden in a text.
+pub const NEWLINE: u8 = terminal::BAR + 6;
 
-pub const APOSTROPHE: u8 = 7;
+// What may stand in a text are the classes up to SPACE.
+pub const SPACE: u8 = terminal::BAR + 7;
 
-pub const COLON: u8 = 8;
+pub const FEED: u8 = terminal::BAR + 8;
 
-pub const DOT: u8 = 9;
+pub const QUOTE: u8 = terminal::BAR + 9;
 
-// Letters and digits are the classes from SMALL to CAPITAL, hex digits those from SMALL_HEX to CAPITAL_HEX.
-pub const SMALL: u8 = 60;
-
-pub const SMALL_HEX: u8 = 61;
-
-pub const DIGIT: u8 = 62;
-
-pub const CAPITAL_HEX: u8 = 63;
-
-pub const CAPITAL: u8 = 64;
+// No token starts with it, and it is forbidden in a text.
+pub const OTHER: u8 = terminal::BAR + 10;
 
 // The class of each byte; a mark of one byte has its token's.
 pub const CLASSES: [u8; 256] = [
@@ -299,7 +302,7 @@ pub const CLASSES: [u8; 256] = [
 // The class of the byte b. The table is lent by the call that has it, since a constant is built where it is used.
 pub fn class_of(table: &[u8; 256], b: u8) -> u8
     requires { ⌜ ClassTable (now table) ⌝ }
-    ensures { λ r. ⌜ r ≡ classOf b ⌝ }
+    ensures { λ r. ⌜ r ≡ class-of b ⌝ }
 {
     table[b as usize]
 }

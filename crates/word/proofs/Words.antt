@@ -1,7 +1,7 @@
 -- The look-up of words: each word's hash leads to its own slot, by one computed test, so a name that is a word is found in its
 -- slot, and a name that is not its slot's word is none.
 -- Assumes nothing.
-use mathlib.Core.Path.{_≡_, refl, sym, ap, subst, _∙_}
+use mathlib.Core.Path.{_≡_, refl, sym, ap, _∙_}
 use mathlib.Core.Bool.{Bool, true, false, cond, _&&_}
 use mathlib.Core.List.{List, [], _∷_, _++_, append-nil}
 use Prim.Native.Nat.{ℕ, zero, suc, _+_, _-_, _*_, _%_, _≤_, _<_}
@@ -9,12 +9,14 @@ use native.Mathlib.Decide.{decLt}
 use native.Mathlib.Numerals.{add-one}
 use native.Mathlib.Omega.{arith}
 use lib.Dec.{T, eqb, eqb→eq, ltb, ltb→lt}
-use lib.ListN.{length, getD, take, drop, length-append, length-take, length-drop}
+use lib.ListN.{length, getD, take, drop, length-append, length-drop}
 use lib.Seq.{drop-cons, take-append-seam, drop-append-seam, drop-append-add, getD-take, length-take-le}
 use borrow.Author.Tests.{eq-eqb, ne-eqb, eqb-true}
-use Rattle.token.specs.Word.{words, wordTable, wordClasses, word, bytes, same, placeIn, joined, startOf, slotOf, SlotWord}
-use Rattle.token.proofs.Places.{byte-there}
-use Rattle.token.proofs.Tables.{passes, tested}
+use Rattle.terminal.specs.Terminal.{terminals, first-word, word-count}
+use Rattle.word.specs.Word.{words, word-table, word-classes, word, bytes, same, place-in, joined, start-of, slot-of, slot-count, SlotWord, SlotTable, StartTable}
+use Rattle.word.proofs.Places.{byte-there}
+use Rattle.index.proofs.Tested.{passes, tested}
+use Rattle.index.proofs.Search.{true-false}
 
 -- two spellings that are the same are equal
 pub same-equal : (xs ys : List ℕ) → same xs ys ≡ true → xs ≡ ys
@@ -33,90 +35,92 @@ unfolding same
 same-refl [] = refl
 same-refl (x ∷ xs) = simp (eq-eqb x x refl, same-refl xs)
 
-in-words : (k : ℕ) → k < 43 → k < length words
-unfolding words wordTable word bytes
+in-words : (k : ℕ) → k < word-count → k < length words
+unfolding words word-table word bytes
 in-words k h = h
 
--- an entry of the slots is a word or 43, and the slot of the word at k holds k
-unfoldable pub some-word : ℕ → ℕ → Bool
-some-word i k = ltb k 44
+-- an entry of the slots is a class, and the slot of the word at k holds its class
+unfoldable pub some-class : ℕ → ℕ → Bool
+some-class i class = ltb class terminals
 
 unfoldable pub own-slot : List ℕ → ℕ → List ℕ → Bool
-own-slot slots k w = eqb (getD slots (slotOf w) 0) k
+own-slot slots k w = eqb (getD slots (slot-of w) 0) (first-word + k)
 
 -- slots that pass both tests hold every word where its hash leads
-pub slot-word : (slots : List ℕ) → length slots ≡ 128 → T (passes some-word 0 slots) → T (passes (own-slot slots) 0 words) → (slot : ℕ) {place : ℕ} → slot < 128 → place ≡ getD slots slot 0 → SlotWord slot place
-unfolding some-word own-slot
-slot-word slots long few own slot h is =
+pub slot-table : (slots : List ℕ) → length slots ≡ slot-count → T (passes some-class 0 slots) → T (passes (own-slot slots) 0 words) → SlotTable slots
+unfolding some-class own-slot
+slot-table slots long few own =
     record {
-      few = omega (arith, is, ltb→lt (getD slots slot 0) 44 (tested some-word 0 slots few slot (omega arith)));
-      own = λ k l e.
-          is ∙ ap (λ (i : ℕ). getD slots i 0) (sym e) ∙ eqb→eq (getD slots (slotOf (getD words k [])) 0) k (tested (own-slot slots) [] words own k (in-words k l));
+      gives = λ slot h. record {
+        few = ltb→lt (getD slots slot 0) terminals (tested some-class 0 slots few slot (omega arith));
+        own = λ k l e.
+            ap (λ (i : ℕ). getD slots i 0) (sym e) ∙ eqb→eq (getD slots (slot-of (getD words k [])) 0) (first-word + k) (tested (own-slot slots) [] words own k (in-words k l));
+      };
     }
 
--- the words stand in the order of the terminals: the word at k has the class k
+-- the words stand in the order of the terminals: the word at k has the class k after the first
 own-class : ℕ → ℕ → Bool
-own-class k class = eqb class k
+own-class k class = eqb class (first-word + k)
 
-pub word-class : (k : ℕ) → k < 43 → getD wordClasses k 0 ≡ k
-unfolding own-class wordClasses wordTable word
-word-class k h = eqb→eq (getD wordClasses k 0) k (tested own-class 0 wordClasses tt k h)
+pub word-class : (k : ℕ) → k < word-count → getD word-classes k 0 ≡ first-word + k
+unfolding own-class word-classes word-table word
+word-class k h = eqb→eq (getD word-classes k 0) (first-word + k) (tested own-class 0 word-classes tt k h)
 
 -- a spelling's place is that of a word that is the same, or the list's length
-place-same : (s : List ℕ) (ws : List (List ℕ)) → placeIn s ws < length ws → same s (getD ws (placeIn s ws) []) ≡ true
-unfolding placeIn
+place-same : (s : List ℕ) (ws : List (List ℕ)) → place-in s ws < length ws → same s (getD ws (place-in s ws) []) ≡ true
+unfolding place-in
 place-same s [] h = absurd (omega arith)
 place-same s (w ∷ ws) h = go (same s w) refl (place-same s ws) h
   where
-    go : (b : Bool) → same s w ≡ b → (placeIn s ws < length ws → same s (getD ws (placeIn s ws) []) ≡ true) → cond b 0 (suc (placeIn s ws)) < suc (length ws) → same s (getD (w ∷ ws) (cond b 0 (suc (placeIn s ws))) []) ≡ true
+    go : (b : Bool) → same s w ≡ b → (place-in s ws < length ws → same s (getD ws (place-in s ws) []) ≡ true) → cond b 0 (suc (place-in s ws)) < suc (length ws) → same s (getD (w ∷ ws) (cond b 0 (suc (place-in s ws))) []) ≡ true
     go true e r q = e
     go false e r q = r (omega arith)
 
-place-bound : (s : List ℕ) (ws : List (List ℕ)) → placeIn s ws ≤ length ws
-unfolding placeIn
+place-bound : (s : List ℕ) (ws : List (List ℕ)) → place-in s ws ≤ length ws
+unfolding place-in
 place-bound s [] = omega arith
 place-bound s (w ∷ ws) = go (same s w) (place-bound s ws)
   where
-    go : (b : Bool) → placeIn s ws ≤ length ws → cond b 0 (suc (placeIn s ws)) ≤ suc (length ws)
+    go : (b : Bool) → place-in s ws ≤ length ws → cond b 0 (suc (place-in s ws)) ≤ suc (length ws)
     go true q = omega arith
     go false q = omega arith
 
-place-first : (s : List ℕ) (ws : List (List ℕ)) (k : ℕ) → k < length ws → same s (getD ws k []) ≡ true → placeIn s ws ≤ k
-unfolding placeIn
+place-first : (s : List ℕ) (ws : List (List ℕ)) (k : ℕ) → k < length ws → same s (getD ws k []) ≡ true → place-in s ws ≤ k
+unfolding place-in
 place-first s [] k h e = absurd (omega arith)
 place-first s (w ∷ ws) zero h e = simp e (omega arith)
 place-first s (w ∷ ws) (suc k) h e = go (same s w) (place-first s ws k (omega arith) e)
   where
-    go : (b : Bool) → placeIn s ws ≤ k → cond b 0 (suc (placeIn s ws)) ≤ suc k
+    go : (b : Bool) → place-in s ws ≤ k → cond b 0 (suc (place-in s ws)) ≤ suc k
     go true q = omega arith
     go false q = omega arith
 
 -- a word is found in its slot
-module _ (s : List ℕ) (k : ℕ) (held : SlotWord (slotOf s) k) where
-  in-slot : placeIn s words < 43 → k ≡ placeIn s words
+module _ (s : List ℕ) (class : ℕ) (held : SlotWord (slot-of s) class) where
+  in-slot : place-in s words < word-count → class ≡ first-word + place-in s words
   in-slot h =
-      let e : s ≡ getD words (placeIn s words) [] =
-      same-equal s (getD words (placeIn s words) []) (place-same s words (in-words (placeIn s words) h)) in
-      held .own (placeIn s words) h (ap slotOf (sym e))
+      let e : s ≡ getD words (place-in s words) [] =
+      same-equal s (getD words (place-in s words) []) (place-same s words (in-words (place-in s words) h)) in
+      held .own (place-in s words) h (ap slot-of (sym e))
 
-  pub found : k < 43 → same s (getD words k []) ≡ true → k ≡ placeIn s words
-  found h q = let first : placeIn s words ≤ k = place-first s words k (in-words k h) q in in-slot (omega arith)
+  pub found : (k : ℕ) → class ≡ first-word + k → k < word-count → same s (getD words k []) ≡ true → k ≡ place-in s words
+  found k is h q =
+      let first : place-in s words ≤ k = place-first s words k (in-words k h) q in
+      omega (arith, is, in-slot (omega arith))
 
-  pub not-found : (k < 43 → same s (getD words k []) ≡ false) → 43 ≡ placeIn s words
-  unfolding words wordTable word bytes
-  not-found h = go (decLt (placeIn s words) 43)
+  pub not-found : ((k : ℕ) → class ≡ first-word + k → same s (getD words k []) ≡ false) → word-count ≡ place-in s words
+  unfolding words word-table word bytes
+  not-found h = go (decLt (place-in s words) word-count)
     where
-      go : Dec (placeIn s words < 43) → 43 ≡ placeIn s words
+      go : Dec (place-in s words < word-count) → word-count ≡ place-in s words
       go (no q) = omega (arith, place-bound s words)
       go (yes q) =
-          let at-k : placeIn s words ≡ k = sym (in-slot q) in
-          let f : same s (getD words k []) ≡ false = h (omega arith) in
-          let t : same s (getD words k []) ≡ true = rw (← at-k) (place-same s words q) in
-          let z : _≡_ {A = ℕ} 0 1 = cc in
-          absurd (omega arith)
+          let f : same s (getD words (place-in s words) []) ≡ false = h (place-in s words) (in-slot q) in
+          let t : same s (getD words (place-in s words) []) ≡ true = place-same s words q in
+          absurd (true-false t f)
 
 -- among the joined spellings, a word's own stands where it starts
-pub word-part : (ws : List (List ℕ)) (k : ℕ) → k < length ws → drop (startOf ws k) (joined ws) ≡ getD ws k [] ++ drop (startOf ws (suc k)) (joined ws)
+pub word-part : (ws : List (List ℕ)) (k : ℕ) → k < length ws → drop (start-of ws k) (joined ws) ≡ getD ws k [] ++ drop (start-of ws (suc k)) (joined ws)
 unfolding joined
 word-part [] k h = absurd (omega arith)
 word-part (w ∷ ws) zero h =
@@ -126,13 +130,13 @@ word-part (w ∷ ws) (suc k) h =
     simp (length-append, drop-append-add) (word-part ws k (omega arith))
 
 -- and the next one starts where it ends
-pub word-next : (ws : List (List ℕ)) (k : ℕ) → k < length ws → startOf ws (suc k) ≡ startOf ws k + length (getD ws k [])
+pub word-next : (ws : List (List ℕ)) (k : ℕ) → k < length ws → start-of ws (suc k) ≡ start-of ws k + length (getD ws k [])
 unfolding joined
 word-next [] k h = absurd (omega arith)
 word-next (w ∷ ws) zero h = rw append-nil (omega arith)
 word-next (w ∷ ws) (suc k) h = simp length-append (omega (arith, word-next ws k (omega arith)))
 
-pub start-inside : (ws : List (List ℕ)) (k : ℕ) → startOf ws k ≤ length (joined ws)
+pub start-inside : (ws : List (List ℕ)) (k : ℕ) → start-of ws k ≤ length (joined ws)
 unfolding joined
 start-inside [] zero = omega arith
 start-inside [] (suc k) = omega arith
@@ -168,35 +172,30 @@ module _ (a b : List ℕ) (i j n k : ℕ) (ha : i + n ≤ length a) (hb : j + n 
   unfolding same
   same-ends h = let z : n - k ≡ 0 = omega arith in rw z
 
-all-length : length (joined words) ≡ 384
-unfolding words wordTable word bytes joined
-all-length = refl
-
 -- where the words stand among them
-pub word-ends : (k : ℕ) → k < 43 → startOf words (k + 1) ≡ startOf words k + length (getD words k [])
+pub word-ends : (k : ℕ) → k < word-count → start-of words (k + 1) ≡ start-of words k + length (getD words k [])
 word-ends k h = rw (add-one k) (word-next words k (in-words k h))
-
-pub start-fits : (k : ℕ) → startOf words k ≤ 384
-start-fits k = omega (arith, start-inside words k, all-length)
 
 -- an entry of the starts is where the word at k starts
 unfoldable pub starts-there : ℕ → ℕ → Bool
-starts-there k start = eqb start (startOf words k)
+starts-there k start = eqb start (start-of words k)
 
-pub start-entry : (starts : List ℕ) → length starts ≡ 44 → T (passes starts-there 0 starts) → (k : ℕ) {start : ℕ} → k ≤ 43 → start ≡ getD starts k 0 → start ≡ startOf words k
+-- starts that pass it say where each word's spelling starts
+pub start-table : (starts : List ℕ) → length starts ≡ suc word-count → T (passes starts-there 0 starts) → StartTable starts
 unfolding starts-there
-start-entry starts long t k h is = is ∙ eqb→eq (getD starts k 0) (startOf words k) (tested starts-there 0 starts t k (omega arith))
+start-table starts long t =
+    record { gives = λ k h. eqb→eq (getD starts k 0) (start-of words k) (tested starts-there 0 starts t k (omega arith)) }
 
 -- what a comparison with the joined spellings says of the word at k
-pub compared : (spellings : List ℕ) → spellings ≡ joined words → (name : List ℕ) (k from n : ℕ) {r : Bool} → k < 43 → from ≡ startOf words k → n ≡ startOf words (k + 1) - from → r ≡ same name (take n (drop from spellings)) → r ≡ same name (getD words k [])
+pub compared : (spellings : List ℕ) → spellings ≡ joined words → (name : List ℕ) (k from n : ℕ) {r : Bool} → k < word-count → from ≡ start-of words k → n ≡ start-of words (k + 1) - from → r ≡ same name (take n (drop from spellings)) → r ≡ same name (getD words k [])
 compared spellings all name k from n h f e q =
     let m : n ≡ length (getD words k []) = omega (arith, word-ends k h) in
     let part : take n (drop from spellings) ≡ getD words k [] =
-    rw (m, f, all, word-part words k (in-words k h)) (take-append-seam (getD words k []) (drop (startOf words (suc k)) (joined words))) in
+    rw (m, f, all, word-part words k (in-words k h)) (take-append-seam (getD words k []) (drop (start-of words (suc k)) (joined words))) in
     q ∙ ap (same name) part
 
 -- the slot of the name from start to end of a text
-pub slot-part : (t : List ℕ) (start end : ℕ) → start < end → end ≤ length t → slotOf (take (end - start) (drop start t)) ≡ (3 * getD t start 0 + 24 * getD t (end - 1) 0 + 7 * (end - start)) % 128
+pub slot-part : (t : List ℕ) (start end : ℕ) → start < end → end ≤ length t → slot-of (take (end - start) (drop start t)) ≡ (3 * getD t start 0 + 24 * getD t (end - 1) 0 + 7 * (end - start)) % slot-count
 slot-part t start end h q =
     let n : length (take (end - start) (drop start t)) ≡ end - start =
     length-take-le (end - start) (drop start t) (omega (arith, length-drop start t)) in

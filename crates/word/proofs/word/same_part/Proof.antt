@@ -1,14 +1,14 @@
 -- `same_part` is right because the bytes passed are equal, so that what is left decides.
 -- Assumes nothing.
-use mathlib.Core.Path.{_≡_, refl, sym, _∙_}
+use mathlib.Core.Path.{_≡_, sym, _∙_}
 use Prim.Native.Nat.{_+_, _-_, _≤_}
 use native.Mathlib.Nat.{add-zero, sub-zero}
 use native.Mathlib.Omega.{arith}
 use lib.ListN.{take, drop}
-use Rattle.token.specs.Word.{same}
-use Rattle.token.proofs.Words.{same-more, same-stops, same-ends}
-use Rattle.token.proofs.word.same_part.Statement.{statement}
-use Rattle.token.proofs.word.same_part.Tie as tie
+use Rattle.word.specs.Word.{same}
+use Rattle.word.proofs.Words.{same-more, same-stops, same-ends}
+use Rattle.word.proofs.word.same_part.Statement.{statement}
+use Rattle.word.proofs.word.same_part.Tie as tie
 
 abbrev Inv-loop : tie.InvT-loop
 Inv-loop a i b j n k₀ k =

@@ -1,16 +1,16 @@
 -- What stands at a place of the text, said of what is left of the text there.
 -- Assumes nothing.
-use mathlib.Core.Path.{_≡_, refl, sym, ap, _∙_}
-use mathlib.Core.Bool.{Bool, true, false}
-use mathlib.Core.List.{List, [], _∷_}
-use Prim.Native.Nat.{ℕ, suc, _+_, _≤_, _<_}
+use mathlib.Core.Path.{_≡_, sym, ap, _∙_}
+use mathlib.Core.Bool.{true, false}
+use mathlib.Core.List.{List}
+use Prim.Native.Nat.{ℕ, _+_, _≤_, _<_}
 use native.Mathlib.Decide.{decLt}
 use native.Mathlib.Omega.{arith}
 use lib.Dec.{eqb}
 use lib.ListN.{length, getD, drop, List·getD-eq-default}
 use lib.Seq.{getD-drop, drop-drop}
 use borrow.Author.Tests.{eq-eqb, ne-eqb}
-use Rattle.token.specs.Byte.{classOf, classIn, rows}
+use Rattle.word.specs.Byte.{other, class-of, class-in, rows}
 
 -- what is left n bytes on is what is left at the place k
 pub rest-at : (t : List ℕ) (at n k : ℕ) → at + n ≡ k → drop n (drop at t) ≡ drop k t
@@ -26,19 +26,19 @@ byte-is t at n k e q h = eq-eqb _ _ (byte-there t at n k e ∙ sym q ∙ h)
 pub byte-not : (t : List ℕ) (at n k : ℕ) {r v : ℕ} → at + n ≡ k → r ≡ getD t k 0 → (r ≡ v → ⊥) → eqb (getD (drop at t) n 0) v ≡ false
 byte-not t at n k e q h = ne-eqb _ _ (λ p. h (q ∙ sym (byte-there t at n k e) ∙ p))
 
-pub class-there : (t : List ℕ) (at n k : ℕ) {r : ℕ} → at + n ≡ k → r ≡ classOf (getD t k 0) → classOf (getD (drop at t) n 0) ≡ r
-class-there t at n k e q = ap classOf (byte-there t at n k e) ∙ sym q
+pub class-there : (t : List ℕ) (at n k : ℕ) {r : ℕ} → at + n ≡ k → r ≡ class-of (getD t k 0) → class-of (getD (drop at t) n 0) ≡ r
+class-there t at n k e q = ap class-of (byte-there t at n k e) ∙ sym q
 
-pub class-is : (t : List ℕ) (at n k : ℕ) {r v : ℕ} → at + n ≡ k → r ≡ classOf (getD t k 0) → r ≡ v → eqb (classOf (getD (drop at t) n 0)) v ≡ true
+pub class-is : (t : List ℕ) (at n k : ℕ) {r v : ℕ} → at + n ≡ k → r ≡ class-of (getD t k 0) → r ≡ v → eqb (class-of (getD (drop at t) n 0)) v ≡ true
 class-is t at n k e q h = eq-eqb _ _ (class-there t at n k e q ∙ h)
 
-pub class-not : (t : List ℕ) (at n k : ℕ) {r v : ℕ} → at + n ≡ k → r ≡ classOf (getD t k 0) → (r ≡ v → ⊥) → eqb (classOf (getD (drop at t) n 0)) v ≡ false
+pub class-not : (t : List ℕ) (at n k : ℕ) {r v : ℕ} → at + n ≡ k → r ≡ class-of (getD t k 0) → (r ≡ v → ⊥) → eqb (class-of (getD (drop at t) n 0)) v ≡ false
 class-not t at n k e q h = ne-eqb _ _ (λ p. h (sym (class-there t at n k e q) ∙ p))
 
--- past the text's end there is byte 0, of the class 0
-no-class : (t : List ℕ) (k : ℕ) → length t ≤ k → classOf (getD t k 0) ≡ 0
-unfolding classOf classIn rows
-no-class t k h = ap classOf (List·getD-eq-default t 0 h)
+-- past the text's end there is byte 0, of the class that no token and no gap starts with
+no-class : (t : List ℕ) (k : ℕ) → length t ≤ k → class-of (getD t k 0) ≡ other
+unfolding class-of class-in rows
+no-class t k h = ap class-of (List·getD-eq-default t 0 h)
 
 -- a byte that is not 0 is in the text
 pub byte-inside : (t : List ℕ) (k v : ℕ) → getD t k 0 ≡ v → 0 < v → k < length t
@@ -52,12 +52,12 @@ byte-inside t k v e p = go (decLt k (length t))
         omega arith
 
 -- a byte of any other class is in the text
-pub inside : (t : List ℕ) (k v : ℕ) → classOf (getD t k 0) ≡ v → 0 < v → k < length t
+pub inside : (t : List ℕ) (k v : ℕ) → class-of (getD t k 0) ≡ v → v < other → k < length t
 inside t k v e p = go (decLt k (length t))
   where
     go : Dec (k < length t) → k < length t
     go (yes h) = h
     go (no h) =
         let out : length t ≤ k = omega arith in
-        let z : v ≡ 0 = sym e ∙ no-class t k out in
+        let z : v ≡ other = sym e ∙ no-class t k out in
         omega arith
