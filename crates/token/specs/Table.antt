@@ -48,16 +48,6 @@ pub record Held (text : List ℕ) (answer : Answer) (classes starts ends classes
   pub ends-held : ends′ ≡ overlaid (map (λ (t : Tok). t .end) (cut text .tokens)) ends
   pub tabled : table text classes′ starts′ ends′ (length (cut text .tokens)) ≡ cut text .tokens
 
--- the class that the code gives a gap: no terminal's
-abbrev pub gap-class : ℕ
-gap-class = 58
-
--- what the code answers where the text holds this piece at the place `at`: its class and its end, or the refusal
-abbrev pub found-at : ℕ → Piece → Found
-found-at at (gap n) = Found.Piece gap-class (at + n)
-found-at at (token c n) = Found.Piece c (at + n)
-found-at at (refusal r d) = Found.Refused r (record { 0 = at + d })
-
 -- the answer to what the code found, where that is a refusal
 abbrev pub refusal-of : Found → Answer
 refusal-of (Found.Piece c e) = Tokens 0

@@ -20,19 +20,6 @@ pub record Tok : Type 0 where
   -- a number's value; 0 for any other token
   pub value : ℤ
 
--- the value of decimal digits, most significant first, that follow digits of the value n
-unfoldable pub decimal-after : ℕ → List ℕ → ℕ
-decimal-after n [] = n
-decimal-after n (d ∷ ds) = decimal-after (10 * n + (d - 48)) ds
-
--- the value of decimal digits, most significant first
-abbrev pub decimal : List ℕ → ℕ
-decimal ds = decimal-after 0 ds
-
--- a token of this class is a name: the words, lower and Upper are
-abbrev pub is-name : ℕ → Bool
-is-name class = leb class Upper
-
 -- the spelling of a token of this class that has these bytes
 unfoldable pub spelling-of : ℕ → List ℕ → List ℕ
 spelling-of class bytes = cond (is-name class) bytes []

@@ -128,6 +128,10 @@ slot-count = 128
 abbrev pub slot-of : List ℕ → ℕ
 slot-of s = (3 * getD s 0 0 + 24 * getD s (length s - 1) 0 + 7 * length s) % slot-count
 
+-- a token of this class is a name: lower, Upper and the words are
+abbrev pub is-name : ℕ → Bool
+is-name class = leb lower class
+
 -- the class of a name: a word's own; else Upper where the first letter is upper-case, and lower where it is lower-case
 unfoldable pub name-class : List ℕ → ℕ
 name-class s =

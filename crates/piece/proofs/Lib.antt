@@ -1,0 +1,4 @@
+pub mod Span
+pub mod Decimal
+pub mod Pieces
+pub mod Local

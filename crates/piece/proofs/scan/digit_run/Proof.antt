@@ -1,0 +1,82 @@
+-- `digit_run` is right because the bytes passed are digits, and the value is cut off at each of them as the definition cuts it
+-- off at the end.
+-- Assumes nothing.
+use mathlib.Core.Path.{_≡_, sym, _∙_}
+use Prim.Native.Nat.{_+_, _-_}
+use native.Mathlib.Omega.{arith}
+use borrow.Author.Needs.{needs}
+use lib.ListN.{length, getD, take, drop}
+use Rattle.word.specs.Byte.{digit, digit-byte}
+use Rattle.piece.specs.Decimal.{capped, decimal}
+use Rattle.word.proofs.Bytes.{classed-as, classed-not}
+use Rattle.piece.proofs.Decimal.{capped-none, capped-more}
+use Rattle.piece.proofs.Span.{Reached, reached-more, reached-stop, reached-end}
+use Rattle.piece.proofs.scan.digit_run.Statement.{statement}
+use Rattle.piece.proofs.scan.digit_run.Tie as tie
+
+abbrev Inv-loop : tie.InvT-loop
+Inv-loop table text at i₀ value₀ i value =
+    (Reached digit-byte text at i) × (value ≡ capped (decimal (take (i - at) (drop at text))))
+
+abbrev μ-loop : tie.MeasureT-loop
+μ-loop table text at i₀ value₀ i value = length text - i
+
+loop-holds : tie.Need-loop-holds Inv-loop μ-loop
+loop-holds c = (omega arith, capped-none (c .before .args .text .now) (c .before .args .at))
+
+shared-slice-read-byte : tie.Need-shared-slice-read-byte Inv-loop μ-loop
+shared-slice-read-byte c = omega arith
+
+class-of-requires : tie.Need-class-of-requires Inv-loop μ-loop
+class-of-requires c κs = search needs
+
+returns : tie.Need-returns Inv-loop μ-loop
+returns c =
+    let l = c .before .before .before .before in
+    let a = l .before .before in (
+      reached-stop digit-byte (a .args .text .now) (a .args .at) (l .loop .i) (l .loop .inv .0) (c .before .before .before .loop-test .taken)
+          (classed-not digit (getD (a .args .text .now) (l .loop .i) 0) (getD (a .args .text .now) (l .loop .i + 1) 0)
+          (λ e. c .if1 .left (c .before .class-of .ensures ∙ e))),
+      l .loop .inv .1,
+    )
+
+more-requires : tie.Need-more-requires Inv-loop μ-loop
+more-requires c κs = omega arith
+
+add-i : tie.Need-add-i Inv-loop μ-loop
+add-i c = omega arith
+
+loop-less : tie.Need-loop-less Inv-loop μ-loop
+loop-less c = omega arith
+
+loop-again : tie.Need-loop-again Inv-loop μ-loop
+loop-again c =
+    let l = c .before .before .before .before .before in
+    let a = l .before .before in (
+      reached-more digit-byte (a .args .text .now) (a .args .at) (l .loop .i) (l .loop .inv .0) (c .before .before .before .before .loop-test .taken)
+          (classed-as digit (getD (a .args .text .now) (l .loop .i) 0) (getD (a .args .text .now) (l .loop .i + 1) 0)
+          (sym (c .before .before .class-of .ensures) ∙ c .before .if1 .taken)),
+      capped-more (a .args .text .now) (a .args .at) (l .loop .i) (l .loop .inv .0 .0) (c .before .before .before .before .loop-test .taken) (l .loop .inv .1) (c .more .ensures),
+    )
+
+returns-2 : tie.Need-returns-2 Inv-loop μ-loop
+returns-2 c =
+    let l = c .before in
+    let a = l .before .before in
+    (reached-end digit-byte (a .args .text .now) (a .args .at) (l .loop .i) (l .loop .inv .0) (c .loop-test .left), l .loop .inv .1)
+
+pub digit-run-spec : {M : Type 1} → statement M
+digit-run-spec =
+    tie.close
+    (tie.spec
+    Inv-loop
+    μ-loop
+    loop-holds
+    shared-slice-read-byte
+    class-of-requires
+    more-requires
+    add-i
+    loop-less
+    loop-again
+    returns
+    returns-2)

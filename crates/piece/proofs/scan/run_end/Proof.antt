@@ -1,0 +1,53 @@
+-- `run_end` is right because the bytes passed are bytes of the run, and the first that is not, or the text's end, ends the span.
+-- Assumes nothing.
+use mathlib.Core.Path.{sym, _∙_}
+use Prim.Native.Nat.{_-_}
+use native.Mathlib.Omega.{arith}
+use lib.ListN.{length}
+use Rattle.piece.specs.Run.{belongs-to}
+use Rattle.piece.proofs.Span.{Reached, reached-more, reached-stop, reached-end}
+use Rattle.piece.proofs.scan.run_end.Statement.{statement}
+use Rattle.piece.proofs.scan.run_end.Tie as tie
+
+abbrev Inv-loop : tie.InvT-loop
+Inv-loop table text at run i₀ i = Reached (belongs-to run) text at i
+
+abbrev μ-loop : tie.MeasureT-loop
+μ-loop table text at run i₀ i = length text - i
+
+loop-holds : tie.Need-loop-holds Inv-loop μ-loop
+loop-holds c = omega arith
+
+belongs-requires : tie.Need-belongs-requires Inv-loop μ-loop
+belongs-requires c κs = (omega arith, c .before .before .before .pre .1)
+
+add-i : tie.Need-add-i Inv-loop μ-loop
+add-i c = omega arith
+
+loop-less : tie.Need-loop-less Inv-loop μ-loop
+loop-less c = omega arith
+
+loop-again : tie.Need-loop-again Inv-loop μ-loop
+loop-again c =
+    let l = c .before .before .before in
+    let a = l .before .before in
+    reached-more (belongs-to (a .args .run)) (a .args .text .now) (a .args .at) (l .loop .i) (l .loop .inv) (c .before .before .loop-test .taken)
+    (sym (c .before .belongs .ensures) ∙ c .if1 .taken)
+
+returns : tie.Need-returns Inv-loop μ-loop
+returns c =
+    let l = c .before .before .before in
+    let a = l .before .before in
+    reached-stop (belongs-to (a .args .run)) (a .args .text .now) (a .args .at) (l .loop .i) (l .loop .inv) (c .before .before .loop-test .taken)
+    (sym (c .before .belongs .ensures) ∙ c .if1 .left)
+
+returns-2 : tie.Need-returns-2 Inv-loop μ-loop
+returns-2 c =
+    let l = c .before in
+    let a = l .before .before in
+    reached-end (belongs-to (a .args .run)) (a .args .text .now) (a .args .at) (l .loop .i) (l .loop .inv) (c .loop-test .left)
+
+pub run-end-spec : {M : Type 1} → statement M
+run-end-spec =
+    tie.close
+    (tie.spec Inv-loop μ-loop loop-holds belongs-requires add-i loop-less loop-again returns returns-2)

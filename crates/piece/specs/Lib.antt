@@ -1,0 +1,4 @@
+pub mod Decimal
+pub mod Piece
+pub mod Run
+pub mod Found
