@@ -13,7 +13,7 @@ use lib.ListN.{length, getD, take, drop, length-append, length-drop}
 use lib.Seq.{drop-cons, take-append-seam, drop-append-seam, drop-append-add, getD-take, length-take-le}
 use borrow.Author.Tests.{eq-eqb, ne-eqb, eqb-true}
 use Rattle.terminal.specs.Terminal.{terminals, first-word, word-count}
-use Rattle.word.specs.Word.{words, word-table, word-classes, word, bytes, same, place-in, joined, start-of, slot-of, slot-count, SlotWord, SlotTable, StartTable}
+use Rattle.word.specs.Word.{words, word-table, word-classes, word, bytes, same, place-in, joined, start-of, between, Within, slot-of, slot-count, SlotWord, SlotTable, StartTable}
 use Rattle.word.proofs.Places.{byte-there}
 use Rattle.index.proofs.Tested.{passes, tested}
 use Rattle.index.proofs.Search.{true-false}
@@ -186,13 +186,25 @@ unfolding starts-there
 start-table starts long t =
     record { gives = λ k h. eqb→eq (getD starts k 0) (start-of words k) (tested starts-there 0 starts t k (omega arith)) }
 
--- what a comparison with the joined spellings says of the word at k
-pub compared : (spellings : List ℕ) → spellings ≡ joined words → (name : List ℕ) (k from n : ℕ) {r : Bool} → k < word-count → from ≡ start-of words k → n ≡ start-of words (k + 1) - from → r ≡ same name (take n (drop from spellings)) → r ≡ same name (getD words k [])
-compared spellings all name k from n h f e q =
-    let m : n ≡ length (getD words k []) = omega (arith, word-ends k h) in
-    let part : take n (drop from spellings) ≡ getD words k [] =
-    rw (m, f, all, word-part words k (in-words k h)) (take-append-seam (getD words k []) (drop (start-of words (suc k)) (joined words))) in
-    q ∙ ap (same name) part
+-- the joined spellings, from where the word at k starts to where it ends
+module _ (spellings : List ℕ) (all : spellings ≡ joined words) (k from to : ℕ) (h : k < word-count) (starts : from ≡ start-of words k) (ends : to ≡ start-of words (k + 1)) where
+  pub word-within : Within spellings from to
+  word-within =
+      rw all (record { ordered = omega (arith, word-ends k h); inside = omega (arith, start-inside words (k + 1)) })
+
+  -- they are the word's own
+  word-between : between spellings from to ≡ getD words k []
+  word-between =
+      let n : to - from ≡ length (getD words k []) = omega (arith, word-ends k h) in
+      rw (n, starts, all, word-part words k (in-words k h))
+      (take-append-seam (getD words k []) (drop (start-of words (suc k)) (joined words)))
+
+  pub word-compared : (name : List ℕ) {r : Bool} → r ≡ same name (between spellings from to) → r ≡ same name (getD words k [])
+  word-compared name q = q ∙ ap (same name) word-between
+
+-- a part of a text has as many bytes as its ends lie apart
+pub between-length : (t : List ℕ) (start end : ℕ) → Within t start end → length (between t start end) ≡ end - start
+between-length t start end w = length-take-le (end - start) (drop start t) (omega (arith, length-drop start t, w .inside))
 
 -- the slot of the name from start to end of a text
 pub slot-part : (t : List ℕ) (start end : ℕ) → start < end → end ≤ length t → slot-of (take (end - start) (drop start t)) ≡ (3 * getD t start 0 + 24 * getD t (end - 1) 0 + 7 * (end - start)) % slot-count

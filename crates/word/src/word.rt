@@ -39,7 +39,7 @@ fn spelling_start(starts: &[u16; WORDS + 1], k: usize) -> usize
 }
 
 // Whether n bytes of a, from its place i on, are those of b from its place j on.
-pub fn same_part(a: &[u8], i: usize, b: &[u8], j: usize, n: usize) -> bool
+fn same_part(a: &[u8], i: usize, b: &[u8], j: usize, n: usize) -> bool
     requires in_a { ⌜ i + n ≤ length (now a) ⌝ }
     requires in_b { ⌜ j + n ≤ length (now b) ⌝ }
     ensures { λ r. ⌜ r ≡ same (take n (drop i (now (a .entry)))) (take n (drop j (now (b .entry)))) ⌝ }
@@ -55,6 +55,19 @@ pub fn same_part(a: &[u8], i: usize, b: &[u8], j: usize, n: usize) -> bool
     true
 }
 
+// Whether the bytes of a from its place `from` up to `to` are those of b from `start` up to `end`: names are compared here alone.
+pub fn same_spelling(a: &[u8], from: usize, to: usize, b: &[u8], start: usize, end: usize) -> bool
+    requires in_a { ⌜ Within (now a) from to ⌝ }
+    requires in_b { ⌜ Within (now b) start end ⌝ }
+    ensures { λ r. ⌜ r ≡ same (between (now (a .entry)) from to) (between (now (b .entry)) start end) ⌝ }
+{
+    let n = to - from;
+    if n != end - start {
+        return false;
+    }
+    same_part(a, from, b, start, n)
+}
+
 // Whether the name from start to end of the text is the word k.
 fn is_word(text: &[u8], start: usize, end: usize, k: usize) -> bool
     requires part { ⌜ Within (now text) start end ⌝ }
@@ -62,11 +75,8 @@ fn is_word(text: &[u8], start: usize, end: usize, k: usize) -> bool
     ensures { λ r. ⌜ r ≡ same (between (now (text .entry)) start end) (getD words k []) ⌝ }
 {
     let from = spelling_start(&STARTS, k);
-    let n = spelling_start(&STARTS, k + 1) - from;
-    if n != end - start {
-        return false;
-    }
-    same_part(text, start, &SPELLINGS, from, n)
+    let to = spelling_start(&STARTS, k + 1);
+    same_spelling(text, start, end, &SPELLINGS, from, to)
 }
 
 // The class of the word in a slot of the hash, or one that is no word's.

@@ -1,13 +1,8 @@
--- `is_word` is right because the word stands among the joined spellings where it starts, and spellings of different lengths are not the same.
+-- `is_word` is right because the word stands among the joined spellings where it starts, up to where the next one does.
 -- Assumes nothing.
-use mathlib.Core.List.{[]}
-use mathlib.Core.Path.{_≡_, refl, sym, ap, _∙_}
-use Prim.Native.Nat.{ℕ, _+_, _-_}
-use native.Mathlib.Omega.{arith}
-use lib.ListN.{length, getD, take, drop, length-drop}
-use lib.Seq.{length-take-le}
-use Rattle.word.specs.Word.{words, word-table, word, bytes, joined, same, between}
-use Rattle.word.proofs.Words.{word-ends, start-inside, start-table, starts-there, compared, same-length}
+use mathlib.Core.Path.{refl}
+use Rattle.word.specs.Word.{words, word-table, word, bytes, joined}
+use Rattle.word.proofs.Words.{start-table, starts-there, word-within, word-compared}
 use borrow.Author.Needs.{needs}
 use Rattle.word.proofs.word.is_word.Statement.{statement}
 use Rattle.word.proofs.word.is_word.Tie as tie
@@ -23,44 +18,21 @@ spelling-start-requires-2 : tie.Need-spelling-start-requires-2
 unfolding starts-there words word-table word bytes joined
 spelling-start-requires-2 c κs = (search needs, start-table _ refl tt)
 
-sub-n : tie.Need-sub-n
-sub-n c =
-    let s = c .before .before .before .before .before in
-    omega (arith, word-ends (s .args .k) (s .pre .1), c .before .before .spelling-start .ensures, c .spelling-start2 .ensures)
+slice-aggregate-same-spelling : tie.Need-slice-aggregate-same-spelling
+slice-aggregate-same-spelling c = search needs
 
-sub-if1 : tie.Need-sub-if1
-sub-if1 c = search needs
+same-spelling-requires : tie.Need-same-spelling-requires
+unfolding words word-table word bytes joined
+same-spelling-requires c κs =
+    let s = c .before .before .before .before .before .before in
+    (s .pre .0, word-within _ refl (s .args .k) _ _ (s .pre .1) (c .before .before .before .spelling-start .ensures) (c .before .spelling-start2 .ensures))
 
 returns : tie.Need-returns
+unfolding words word-table word bytes joined
 returns c =
-    let s = c .before .before .before .before .before .before in
-    let a = s .args in
-    let n : length (between (a .text .now) (a .start) (a .end)) ≡ a .end - a .start =
-    length-take-le (a .end - a .start) (drop (a .start) (a .text .now)) (omega (arith, length-drop (a .start) (a .text .now))) in
-    sym (same-length (between (a .text .now) (a .start) (a .end)) (getD words (a .k) [])
-    (λ e. c .if1 .taken (omega (arith, word-ends (a .k) (s .pre .1), c .before .before .before .spelling-start .ensures, c .before .spelling-start2 .ensures))))
-
-slice-aggregate-same-part : tie.Need-slice-aggregate-same-part
-slice-aggregate-same-part c = search needs
-
-same-part-requires : tie.Need-same-part-requires
-unfolding words word-table word bytes joined
-same-part-requires c κs =
     let s = c .before .before .before .before .before .before .before in
-    let k = s .args .k in
-    omega (arith, word-ends k (s .pre .1), start-inside words (k + 1), c .before .before .before .before .spelling-start .ensures, c .before .before .spelling-start2 .ensures)
-
-returns-2 : tie.Need-returns-2
-unfolding words word-table word bytes joined
-returns-2 c =
-    let s = c .before .before .before .before .before .before .before .before in
-    let a = s .args in
-    let from = c .before .before .before .before .before .spelling-start in
-    let to = c .before .before .before .spelling-start2 in
-    let n : to .result - from .result ≡ a .end - a .start = c .before .before .if1 .left in
-    compared _ refl (take (to .result - from .result) (drop (a .start) (a .text .now))) (a .k) (from .result) (to .result - from .result)
-    (s .pre .1) (from .ensures) (ap (λ (m : ℕ). m - from .result) (to .ensures)) (c .same-part .ensures)
-    ∙ ap (λ (m : ℕ). same (take m (drop (a .start) (a .text .now))) (getD words (a .k) [])) n
+    word-compared _ refl (s .args .k) _ _ (s .pre .1) (c .before .before .before .before .spelling-start .ensures) (c .before .before .spelling-start2 .ensures)
+    _ (c .same-spelling .ensures)
 
 pub is-word-spec : {M : Type 1} → statement M
 is-word-spec =
@@ -69,9 +41,6 @@ is-word-spec =
     spelling-start-requires
     add-spelling-start
     spelling-start-requires-2
-    sub-n
-    sub-if1
-    returns
-    slice-aggregate-same-part
-    same-part-requires
-    returns-2)
+    slice-aggregate-same-spelling
+    same-spelling-requires
+    returns)
