@@ -39,7 +39,7 @@ pub data Steps (S L : Type 0) : Type 0 where
   last : L → Steps S L
   step : S → Steps S L → Steps S L
 
--- A derivation: each choice made, each number of repeats, each token. Two that agree in these are equal.
+-- A derivation less its tokens: each choice made, each number of repeats. Two that agree in these are equal.
 abbrev pub Tree : Rule → Type 0
 Tree never = ⊥
 Tree empty = Unit {0}
@@ -49,7 +49,7 @@ Tree (r or s) = Tree r ⊎ Tree s
 Tree (repeated r s) = Steps (Tree r) (Tree s)
 
 -- what the steps of a repeated part yield, one after the other
-abbrev pub in-order : {S L : Type 0} → (S → List ℕ) → (L → List ℕ) → Steps S L → List ℕ
+abbrev pub in-order : {S L X : Type 0} → (S → List X) → (L → List X) → Steps S L → List X
 in-order f g (last t) = g t
 in-order f g (step s more) = f s ++ in-order f g more
 
