@@ -89,7 +89,7 @@ blank-silent (r or s) =
 blank-silent (repeated r s) = blank-silent s
 
 -- the first token of two lists, one after the other, is the second's where the first is empty, and else the first's
-pub first-token : (l m : List ℕ) (c : ℕ) (more : List ℕ) → l ++ m ≡ c ∷ more
+first-token : (l m : List ℕ) (c : ℕ) (more : List ℕ) → l ++ m ≡ c ∷ more
     → ((l ≡ []) × (m ≡ c ∷ more)) ⊎ ((rest : List ℕ) × (l ≡ c ∷ rest))
 first-token [] m c more e = inl (refl, e)
 first-token (x ∷ rest) m c more e = inr (rest, ap (λ y. y ∷ rest) (head-eq-of-cons-eq e))

@@ -18,7 +18,7 @@ pub grammar-theorem : (ts : List ℕ) → Answers smi-module ts (run module-auto
 grammar-theorem ts = run-answers module-passes ts
 
 -- no tokens: the run refuses at the end, which is token 0
-no-tokens : run module-automaton [] ≡ refused 0
+pub no-tokens : run module-automaton [] ≡ refused 0
 unfolding run-from module-automaton
 no-tokens = refl
 

@@ -7,7 +7,7 @@ use mathlib.Core.Logic.{_↔_}
 use mathlib.Core.List.{List, _++_}
 use Prim.Native.Nat.{ℕ, _+_, _≤_, _<_}
 use lib.ListN.{length, take}
-use Rattle.grammar.specs.Rule.{Rule, Tree, yield}
+use Rattle.grammar.specs.Rule.{Rule, yield}
 
 -- derived, or the index of the token at fault: the number of tokens where the end is at fault
 pub data Verdict : Type 0 where
