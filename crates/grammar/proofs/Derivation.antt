@@ -1,5 +1,5 @@
--- From classes to tokens: the derivations of a token sequence are one to one the trees of its class sequence, so what is right of
--- the one is right of the other. By induction on the rule.
+-- From classes to tokens: the derivations of a token sequence are one to one the trees of its class sequence, so that the right
+-- verdict on the one is right on the other. By induction on the rule.
 -- Assumes nothing.
 use mathlib.Core.Path.{_≡_, refl, sym, _∙_, ap, ap₂, subst}
 use mathlib.Core.List.{List, [], _∷_, _++_, map, map-append, append-assoc, cons-ne-nil, head-eq-of-cons-eq, tail-eq-of-cons-eq}
@@ -45,11 +45,14 @@ module _ {A : Type 0} (class : A → ℕ) where
   abbrev Classed : Rule → Type 0
   Classed r = (d : Derivation class r) → yield r (tree-of r d) ≡ classes (tokens-of class r d)
 
+  -- one part after the other
+  classed-both : {l m : List ℕ} (xs ys : List A) → l ≡ classes xs → m ≡ classes ys → l ++ m ≡ classes (xs ++ ys)
+  classed-both xs ys p q = ap₂ (λ l m. l ++ m) p q ∙ sym (map-append class xs ys)
+
   classed-steps : (r s : Rule) → Classed r → Classed s → Classed (repeated r s)
   classed-steps r s f g (last d) = g d
   classed-steps r s f g (step d more) =
-      ap₂ (λ l m. l ++ m) (f d) (classed-steps r s f g more)
-      ∙ sym (map-append class (tokens-of class r d) (tokens-of class (repeated r s) more))
+      classed-both (tokens-of class r d) (tokens-of class (repeated r s) more) (f d) (classed-steps r s f g more)
 
   pub tree-yield : (r : Rule) → Classed r
   tree-yield never = λ d. absurd d
@@ -58,7 +61,7 @@ module _ {A : Type 0} (class : A → ℕ) where
   tree-yield (r ⨾ s) =
       let f = tree-yield r in
       let g = tree-yield s in
-      λ d. ap₂ (λ l m. l ++ m) (f (d .0)) (g (d .1)) ∙ sym (map-append class (tokens-of class r (d .0)) (tokens-of class s (d .1)))
+      λ d. classed-both (tokens-of class r (d .0)) (tokens-of class s (d .1)) (f (d .0)) (g (d .1))
   tree-yield (r or s) =
       let f = tree-yield r in
       let g = tree-yield s in
@@ -218,7 +221,8 @@ module _ {A : Type 0} (class : A → ℕ) where
   tree-once r d e p q = determined r d e p [] [] (ap (λ l. l ++ []) q) .0
 
   -- the tree of a derivation of ts yields the classes of ts
-  yields-classes : (r : Rule) (ts : List A) (d : Derivation class r) → tokens-of class r d ≡ ts → yield r (tree-of r d) ≡ classes ts
+  yields-classes : (r : Rule) (ts : List A) (d : Derivation class r) → tokens-of class r d ≡ ts
+      → yield r (tree-of r d) ≡ classes ts
   yields-classes r ts d e = tree-yield r d ∙ ap classes e
 
   -- tokens are derived exactly where their classes are
@@ -230,8 +234,7 @@ module _ {A : Type 0} (class : A → ℕ) where
 
   -- tokens have two derivations only where their classes have
   pub one-reading-tokens : (r : Rule) (ts : List A)
-      → Unique r (map class ts)
-      → (d e : Derivation class r) → tokens-of class r d ≡ ts → tokens-of class r e ≡ ts → d ≡ e
+      → Unique r (map class ts) → (d e : Derivation class r) → tokens-of class r d ≡ ts → tokens-of class r e ≡ ts → d ≡ e
   one-reading-tokens r ts unique d e p q =
       tree-once r d e (unique (tree-of r d) (tree-of r e) (yields-classes r ts d p) (yields-classes r ts e q)) (p ∙ sym q)
 
@@ -286,8 +289,8 @@ module-below = tt
 
 module _ {A : Type 0} (class : A → ℕ) where
   -- no other verdict on a token sequence is right
-  pub one-token-verdict : (ts : List A) (v w : Verdict) → AnswersTokens class smi-module ts v → AnswersTokens class smi-module ts w
-      → v ≡ w
+  pub one-token-verdict : (ts : List A) (v w : Verdict)
+      → AnswersTokens class smi-module ts v → AnswersTokens class smi-module ts w → v ≡ w
   one-token-verdict = one-verdict (tokens-of class smi-module)
 
   -- where each terminal has a token

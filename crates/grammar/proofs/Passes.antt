@@ -92,8 +92,11 @@ yields-below n (r or s) h =
     let g = yields-below n s (and-right (below n r) (below n s) h) in
     λ t. elim t [ inl x ↦ f x | inr y ↦ g y ]
 yields-below n (repeated r s) h =
-    in-steps n r s (yields-below n r (and-left (below n r) (below n s) h)) (yields-below n s (and-right (below n r) (below n s) h))
+    let f = yields-below n r (and-left (below n r) (below n s) h) in
+    let g = yields-below n s (and-right (below n r) (below n s) h) in
+    in-steps n r s f g
 
+-- the first class of a yield is below n
 pub first-below : (n : ℕ) (r : Rule) → T (below n r) → (t : Tree r) (c : ℕ) (more : List ℕ) → yield r t ≡ c ∷ more → c < n
 first-below n r h t c more e = subst (All-below n) e (yields-below n r h t) .0
 
