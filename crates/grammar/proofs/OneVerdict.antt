@@ -8,16 +8,16 @@ use native.Mathlib.Decide.{decLt}
 use native.Mathlib.Omega.{arith}
 use lib.ListN.{length, take, drop, take-append-drop}
 use lib.Seq.{take-take, take-length}
-use Rattle.grammar.specs.Answer.{Verdict, derived, refused, Viable-prefix, Right-verdict}
+use Rattle.grammar.specs.Answer.{Verdict, derived, refused, ViablePrefix, RightVerdict}
 
 module _ {D X : Type 0} (spelt : D → List X) (ts : List X) where
   -- some derived sequence begins with the first i
   abbrev Viable : ℕ → Type 0
-  Viable i = Viable-prefix spelt (take i ts)
+  Viable i = ViablePrefix spelt (take i ts)
 
   -- v is right
   abbrev Right : Verdict → Type 0
-  Right v = Right-verdict spelt ts v
+  Right v = RightVerdict spelt ts v
 
   -- what begins some derived sequence, cut shorter, begins it too
   viable-shorter : (k j : ℕ) → k ≤ j → Viable j → Viable k
@@ -35,7 +35,7 @@ module _ {D X : Type 0} (spelt : D → List X) (ts : List X) where
       go (yes l) = a .spoiled j refl l .0
       go (no n) =
           let e : length ts ≡ j = omega (arith, a .within j refl) in
-          subst Viable e (subst (Viable-prefix spelt) (sym (take-length ts)) (a .cut-short (ap refused (sym e)) .0))
+          subst Viable e (subst (ViablePrefix spelt) (sym (take-length ts)) (a .cut-short (ap refused (sym e)) .0))
 
   -- no right refusal is earlier than another
   none-earlier : (i j : ℕ) → Right (refused i) → Right (refused j) → i < j → ⊥

@@ -25,17 +25,17 @@ module _ {D X : Type 0} (spelt : D → List X) where
   Derivable ts = (d : D) × (spelt d ≡ ts)
 
   -- some derived sequence, of whatever length, begins with ts
-  abbrev pub Viable-prefix : List X → Type 0
-  Viable-prefix ts = (more : List X) × Derivable (ts ++ more)
+  abbrev pub ViablePrefix : List X → Type 0
+  ViablePrefix ts = (more : List X) × Derivable (ts ++ more)
 
   -- v is the right verdict on ts
-  pub record Right-verdict (ts : List X) (v : Verdict) : Type 0 where
+  pub record RightVerdict (ts : List X) (v : Verdict) : Type 0 where
     -- derived exactly where a derivation exists
     pub accepts : (v ≡ derived) ↔ Derivable ts
     -- refused at a token: some derived sequence begins with the tokens before it, none begins with these and it
-    pub spoiled : (i : ℕ) → v ≡ refused i → i < length ts → Viable-prefix (take i ts) × (Viable-prefix (take (i + 1) ts) → ⊥)
+    pub spoiled : (i : ℕ) → v ≡ refused i → i < length ts → ViablePrefix (take i ts) × (ViablePrefix (take (i + 1) ts) → ⊥)
     -- refused at the end: some derived sequence begins with all the tokens, and none is these
-    pub cut-short : v ≡ refused (length ts) → Viable-prefix ts × (Derivable ts → ⊥)
+    pub cut-short : v ≡ refused (length ts) → ViablePrefix ts × (Derivable ts → ⊥)
     -- refused nowhere else
     pub within : (i : ℕ) → v ≡ refused i → i ≤ length ts
     -- two derivations of ts are equal
@@ -47,8 +47,8 @@ Derives r ts = Derivable (yield r) ts
 
 -- some class sequence that the rule derives begins with ts
 abbrev pub Begins : Rule → List ℕ → Type 0
-Begins r ts = Viable-prefix (yield r) ts
+Begins r ts = ViablePrefix (yield r) ts
 
 -- v is the right verdict on the class sequence ts
 abbrev pub Answers : Rule → List ℕ → Verdict → Type 0
-Answers r ts v = Right-verdict (yield r) ts v
+Answers r ts v = RightVerdict (yield r) ts v

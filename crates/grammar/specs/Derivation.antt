@@ -7,7 +7,7 @@ use mathlib.Core.List.{List, [], _∷_, _++_}
 use mathlib.Core.Logic.{_⊎_, inl, inr}
 use Prim.Native.Nat.{ℕ, _<_}
 use lib.Dec.{T, eqb}
-use Rattle.grammar.specs.Answer.{Verdict, Derivable, Viable-prefix, Right-verdict}
+use Rattle.grammar.specs.Answer.{Verdict, Derivable, ViablePrefix, RightVerdict}
 use Rattle.grammar.specs.Rule.{Rule, never, empty, token, _⨾_, _or_, repeated, Steps, in-order}
 
 module _ {A : Type 0} (class : A → ℕ) where
@@ -36,11 +36,11 @@ module _ {A : Type 0} (class : A → ℕ) where
 
   -- some token sequence that the rule derives, of whatever length, begins with ts
   abbrev pub BeginsTokens : Rule → List A → Type 0
-  BeginsTokens r ts = Viable-prefix (tokens-of r) ts
+  BeginsTokens r ts = ViablePrefix (tokens-of r) ts
 
   -- v is the right verdict on the token sequence ts
   abbrev pub AnswersTokens : Rule → List A → Verdict → Type 0
-  AnswersTokens r ts v = Right-verdict (tokens-of r) ts v
+  AnswersTokens r ts v = RightVerdict (tokens-of r) ts v
 
   -- each number below n is the class of some token
   abbrev pub Inhabited : ℕ → Type 0
