@@ -10,7 +10,7 @@ use Prim.Native.Nat.{ℕ, zero, suc, _+_}
 use lib.Dec.{T, T-prop, eqb, eqb→eq, eqb-refl}
 use lib.ListN.{take, length-map}
 use Rattle.grammar.specs.Answer.{Verdict, refused, Derives, Begins, Answers}
-use Rattle.grammar.specs.Derivation.{Derivation, tokens-of, DerivesTokens, BeginsTokens, AnswersTokens, Inhabited}
+use Rattle.grammar.specs.Derivation.{Derivation, tokens-of, DerivesTokens, BeginsTokens, AnswersTokens, Inhabited, EachTerminal}
 use Rattle.grammar.specs.Rule.{Rule, never, empty, token, _⨾_, _or_, repeated, Steps, last, step, Tree, yield}
 use Rattle.grammar.specs.Automaton.{run}
 use Rattle.grammar.specs.Grammar.{smi-module}
@@ -294,7 +294,7 @@ module _ {A : Type 0} (class : A → ℕ) where
   one-token-verdict = one-verdict (tokens-of class smi-module)
 
   -- where each terminal has a token
-  module _ (inhabited : Inhabited class terminals) where
+  module _ (inhabited : EachTerminal class) where
     pub carried : (ts : List A) (v : Verdict) → Answers smi-module (map class ts) v → AnswersTokens class smi-module ts v
     carried = answers-tokens class terminals inhabited smi-module module-below
 

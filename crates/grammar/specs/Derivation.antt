@@ -7,6 +7,7 @@ use mathlib.Core.List.{List, [], _∷_, _++_}
 use mathlib.Core.Logic.{_⊎_, inl, inr}
 use Prim.Native.Nat.{ℕ, _<_}
 use lib.Dec.{T, eqb}
+use Rattle.terminal.specs.Terminal.{terminals}
 use Rattle.grammar.specs.Answer.{Verdict, Derivable, ViablePrefix, RightVerdict}
 use Rattle.grammar.specs.Rule.{Rule, never, empty, token, _⨾_, _or_, repeated, Steps, in-order}
 
@@ -45,3 +46,7 @@ module _ {A : Type 0} (class : A → ℕ) where
   -- each number below n is the class of some token
   abbrev pub Inhabited : ℕ → Type 0
   Inhabited n = (c : ℕ) → c < n → (a : A) × (class a ≡ c)
+
+  -- each terminal is the class of some token
+  abbrev pub EachTerminal : Type 0
+  EachTerminal = Inhabited terminals
