@@ -1,5 +1,5 @@
--- For every rule whose repeats are proper, the trees of the derivative are one to one the rule's trees that yield the token first,
--- less that token, and those of the blank rule are its trees that yield no token. By induction on the rule.
+-- For every rule whose repeats are proper, the trees of the derivative are one to one the rule's trees that yield the token
+-- first, less that token, and those of the blank rule are its trees that yield no token. By induction on the rule.
 -- Assumes nothing.
 use mathlib.Core.Path.{_≡_, refl, sym, _∙_, ap, ap₂}
 use mathlib.Core.Bool.{Bool, true, false, _&&_}
@@ -11,7 +11,8 @@ use lib.Dec.{T, eqb}
 use Rattle.grammar.specs.Rule.{Rule, never, empty, token, _⨾_, _or_, repeated, last, step, Tree, yield}
 use Rattle.grammar.proofs.Derivative.{sequence, blank, matched, derivative, is-never, proper}
 use Rattle.grammar.proofs.Every.{and-left, and-right}
-use Rattle.grammar.proofs.Part.{Same, Blank, After, cases-once, renamed, part-of, either, nothing, both, unchanged, sequence-same, left-alone, choice-same, same-last, same-step, last-no-step}
+use Rattle.grammar.proofs.Part.{Same, Blank, After, cases-once, renamed, part-of, either, nothing, both, unchanged}
+use Rattle.grammar.proofs.Part.{sequence-same, left-alone, choice-same, same-last, same-step, last-no-step}
 
 -- a repeat is its last part, or a step and then the repeat
 unrolled : (r s : Rule) → Same (repeated r s) (s or r ⨾ repeated r s)
@@ -89,7 +90,7 @@ blank-silent (r or s) =
 blank-silent (repeated r s) = blank-silent s
 
 -- the first token of two lists, one after the other, is the second's where the first is empty, and else the first's
-pub first-token : (l m : List ℕ) (c : ℕ) (more : List ℕ) → l ++ m ≡ c ∷ more
+first-token : (l m : List ℕ) (c : ℕ) (more : List ℕ) → l ++ m ≡ c ∷ more
     → ((l ≡ []) × (m ≡ c ∷ more)) ⊎ ((rest : List ℕ) × (l ≡ c ∷ rest))
 first-token [] m c more e = inl (refl, e)
 first-token (x ∷ rest) m c more e = inr (rest, ap (λ y. y ∷ rest) (head-eq-of-cons-eq e))
@@ -125,7 +126,8 @@ after-sequence {r} {s} {p} {e} {q} c a b mute g =
     }
 
 -- of a sequence whose first rule is never blank, the first token is the first rule's
-after-first : {r p e : Rule} (s : Rule) (c : ℕ) → After (c ∷ []) r p → Blank r e → T (is-never e) → After (c ∷ []) (r ⨾ s) (p ⨾ s)
+after-first : {r p e : Rule} (s : Rule) (c : ℕ) → After (c ∷ []) r p → Blank r e → T (is-never e)
+    → After (c ∷ []) (r ⨾ s) (p ⨾ s)
 after-first {r} {p} {e} s c a b none =
     record {
       back = λ d. (a .back (d .0), d .1);

@@ -8,4 +8,5 @@ pub mod Run
 pub mod States
 pub mod OneVerdict
 pub mod Theorem
+pub mod Derivation
 pub mod Resumed

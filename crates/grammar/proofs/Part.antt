@@ -117,7 +117,13 @@ unchanged r = record { back = λ d. d; yields = λ d. refl; onto = λ t h. (t, r
 
 pub sequence-same : (r s : Rule) → Same (r ⨾ s) (sequence r s)
 sequence-same never s = nothing (never ⨾ s) (λ t h. t .0)
-sequence-same empty s = record { back = λ d. (tt, d); yields = λ d. refl; onto = λ t h. (t .1, refl); once = λ d e p. ap (λ t. t .1) p }
+sequence-same empty s =
+    record {
+      back = λ d. (tt, d);
+      yields = λ d. refl;
+      onto = λ t h. (t .1, refl);
+      once = λ d e p. ap (λ t. t .1) p;
+    }
 sequence-same (token c) s = unchanged (token c ⨾ s)
 sequence-same (r ⨾ q) s =
     let same = sequence-same q s in
@@ -214,6 +220,7 @@ simplified-same never = unchanged never
 simplified-same empty = unchanged empty
 simplified-same (token c) = unchanged (token c)
 simplified-same (r ⨾ s) =
-    renamed (both (λ l m h. ((l, refl), (m, refl))) (simplified-same r) (simplified-same s)) (sequence-same (simplified r) (simplified s))
+    renamed (both (λ l m h. ((l, refl), (m, refl))) (simplified-same r) (simplified-same s))
+    (sequence-same (simplified r) (simplified s))
 simplified-same (r or s) = renamed (either (simplified-same r) (simplified-same s)) (choice-same (simplified r) (simplified s))
 simplified-same (repeated r s) = again (simplified-same r) (simplified-same s)

@@ -3,8 +3,8 @@
 -- Assumes nothing.
 use mathlib.Core.Path.{_≡_, sym, subst}
 use mathlib.Core.Bool.{Bool, true, false, _&&_, _||_}
-use mathlib.Core.Logic.{inl, inr, ⊎-elim}
-use mathlib.Core.List.{List, _∷_, cons-ne-nil, head-eq-of-cons-eq}
+use mathlib.Core.Logic.{inl, inr}
+use mathlib.Core.List.{List, [], _∷_, _++_}
 use Prim.Native.Nat.{ℕ, _+_, _*_, _/_, _%_, _<_}
 use native.Mathlib.Decide.{ℕ-discrete}
 use lib.Arith.{digits-lt, digits-div, digits-mod}
@@ -13,7 +13,6 @@ use lib.ListN.{length, getD}
 use Rattle.grammar.specs.Rule.{Rule, Rule-discrete, never, empty, token, _⨾_, _or_, repeated, last, step, Tree, yield}
 use Rattle.grammar.specs.Automaton.{Automaton, target}
 use Rattle.grammar.proofs.Derivative.{derivative, blank, proper, matched, simplified}
-use Rattle.grammar.proofs.Left.{first-token}
 use Rattle.grammar.proofs.Every.{every, holds-at, and-left, and-right}
 
 abbrev pub decided : {A : Type 0} → Dec A → Bool
@@ -58,33 +57,48 @@ below n (r ⨾ s) = below n r && below n s
 below n (r or s) = below n r && below n s
 below n (repeated r s) = below n r && below n s
 
--- the first token of each yield of r is of a class below n
-abbrev pub First-below : ℕ → Rule → Type 0
-First-below n r = (t : Tree r) (c : ℕ) (more : List ℕ) → yield r t ≡ c ∷ more → c < n
+-- each class of the list is below n
+abbrev pub All-below : ℕ → List ℕ → Type 0
+All-below n [] = Unit {0}
+All-below n (c ∷ l) = (c < n) × All-below n l
 
-in-sequence : (n : ℕ) (r s : Rule) → First-below n r → First-below n s → First-below n (r ⨾ s)
-in-sequence n r s f g t c more e =
-    ⊎-elim (λ v. g (t .1) c more (v .1)) (λ v. f (t .0) c (v .0) (v .1))
-    (first-token (yield r (t .0)) (yield s (t .1)) c more e)
+all-appended : (n : ℕ) (l m : List ℕ) → All-below n l → All-below n m → All-below n (l ++ m)
+all-appended n [] m h k = k
+all-appended n (c ∷ l) m h k = (h .0, all-appended n l m (h .1) k)
 
-in-steps : (n : ℕ) (r s : Rule) → First-below n r → First-below n s → First-below n (repeated r s)
-in-steps n r s f g (last t) c more e = g t c more e
-in-steps n r s f g (step t rest) c more e =
-    ⊎-elim (λ v. in-steps n r s f g rest c more (v .1)) (λ v. f t c (v .0) (v .1))
-    (first-token (yield r t) (yield (repeated r s) rest) c more e)
+pub all-after : (n : ℕ) (l m : List ℕ) → All-below n (l ++ m) → All-below n m
+all-after n [] m h = h
+all-after n (c ∷ l) m h = all-after n l m (h .1)
 
-pub first-below : (n : ℕ) (r : Rule) → T (below n r) → First-below n r
-first-below n never h = λ t c more e. absurd t
-first-below n empty h = λ t c more e. absurd (cons-ne-nil c more (sym e))
-first-below n (token k) h = λ t c more e. subst (λ (x : ℕ). x < n) (head-eq-of-cons-eq e) (ltb→lt k n h)
-first-below n (r ⨾ s) h =
-    in-sequence n r s (first-below n r (and-left (below n r) (below n s) h)) (first-below n s (and-right (below n r) (below n s) h))
-first-below n (r or s) h =
-    let f = first-below n r (and-left (below n r) (below n s) h) in
-    let g = first-below n s (and-right (below n r) (below n s) h) in
-    λ t. elim t [ inl x ↦ λ c more e. f x c more e | inr y ↦ λ c more e. g y c more e ]
-first-below n (repeated r s) h =
-    in-steps n r s (first-below n r (and-left (below n r) (below n s) h)) (first-below n s (and-right (below n r) (below n s) h))
+-- the classes of each yield of r are below n
+abbrev Yields-below : ℕ → Rule → Type 0
+Yields-below n r = (t : Tree r) → All-below n (yield r t)
+
+in-steps : (n : ℕ) (r s : Rule) → Yields-below n r → Yields-below n s → Yields-below n (repeated r s)
+in-steps n r s f g (last t) = g t
+in-steps n r s f g (step t more) =
+    all-appended n (yield r t) (yield (repeated r s) more) (f t) (in-steps n r s f g more)
+
+pub yields-below : (n : ℕ) (r : Rule) → T (below n r) → Yields-below n r
+yields-below n never h = λ t. absurd t
+yields-below n empty h = λ t. tt
+yields-below n (token k) h = λ t. (ltb→lt k n h, tt)
+yields-below n (r ⨾ s) h =
+    let f = yields-below n r (and-left (below n r) (below n s) h) in
+    let g = yields-below n s (and-right (below n r) (below n s) h) in
+    λ t. all-appended n (yield r (t .0)) (yield s (t .1)) (f (t .0)) (g (t .1))
+yields-below n (r or s) h =
+    let f = yields-below n r (and-left (below n r) (below n s) h) in
+    let g = yields-below n s (and-right (below n r) (below n s) h) in
+    λ t. elim t [ inl x ↦ f x | inr y ↦ g y ]
+yields-below n (repeated r s) h =
+    let f = yields-below n r (and-left (below n r) (below n s) h) in
+    let g = yields-below n s (and-right (below n r) (below n s) h) in
+    in-steps n r s f g
+
+-- the first class of a yield is below n
+pub first-below : (n : ℕ) (r : Rule) → T (below n r) → (t : Tree r) (c : ℕ) (more : List ℕ) → yield r t ≡ c ∷ more → c < n
+first-below n r h t c more e = subst (All-below n) e (yields-below n r h t) .0
 
 -- the rule of state s
 abbrev pub rule : List Rule → ℕ → Rule

@@ -13,8 +13,10 @@ use Rattle.grammar.specs.Answer.{Verdict, Answers}
 use Rattle.grammar.specs.Automaton.{Automaton, target, next, at-the-end, unless-dead, one-later, run-from, run}
 use Rattle.grammar.proofs.Left.{blank-part, blank-silent, derivative-part}
 use Rattle.grammar.proofs.Part.{Same, After, simplified-same}
-use Rattle.grammar.proofs.Passes.{Passes, rule, rule-proper, rule-below, rule-blank, rule-solid, entry-state, entry-rule, first-below, solid-tree}
-use Rattle.grammar.proofs.Right.{Unique, Right, right-on, right-same, unique-on, Dead, nothing-left, right-dead, unique-dead, right-end, unique-end, answers}
+use Rattle.grammar.proofs.Passes.{Passes, rule, rule-proper, rule-below, rule-blank, rule-solid}
+use Rattle.grammar.proofs.Passes.{entry-state, entry-rule, first-below, solid-tree}
+use Rattle.grammar.proofs.Right.{Unique, Right, right-on, right-same, right-dead, right-end, answers}
+use Rattle.grammar.proofs.Right.{unique-on, unique-dead, unique-end, Dead, nothing-left}
 
 module _ {a : Automaton} {rules : List Rule} {r : Rule} (p : Passes a rules r) where
   -- a state, and not the dead one

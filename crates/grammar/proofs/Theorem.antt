@@ -7,6 +7,7 @@ use mathlib.Core.List.{List, []}
 use Prim.Native.Nat.{ℕ}
 use Rattle.grammar.specs.Answer.{Verdict, refused, Answers}
 use Rattle.grammar.specs.Automaton.{run, run-from}
+use Rattle.grammar.specs.Rule.{yield}
 use Rattle.grammar.specs.Grammar.{smi-module}
 use Rattle.grammar.specs.Table.{module-automaton}
 use Rattle.grammar.proofs.Run.{run-answers}
@@ -17,10 +18,10 @@ pub grammar-theorem : (ts : List ℕ) → Answers smi-module ts (run module-auto
 grammar-theorem ts = run-answers module-passes ts
 
 -- no tokens: the run refuses at the end, which is token 0
-no-tokens : run module-automaton [] ≡ refused 0
+pub no-tokens : run module-automaton [] ≡ refused 0
 unfolding run-from module-automaton
 no-tokens = refl
 
 -- P5: the one right verdict on the sequence without tokens is that it is refused at token 0
 pub empty-refused : (v : Verdict) → Answers smi-module [] v → v ≡ refused 0
-empty-refused v a = one-verdict smi-module [] v (run module-automaton []) a (grammar-theorem []) ∙ no-tokens
+empty-refused v a = one-verdict (yield smi-module) [] v (run module-automaton []) a (grammar-theorem []) ∙ no-tokens

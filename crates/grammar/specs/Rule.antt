@@ -1,4 +1,5 @@
--- Rules over token classes, their derivations, and the class sequence that a derivation yields. Document 01, "Grammar".
+-- Rules over token classes, their trees, and the class sequence that a tree yields. A tree is a derivation less its tokens.
+-- Document 01, "Grammar".
 -- Assumes nothing.
 use mathlib.Core.List.{List, [], _∷_, _++_}
 use mathlib.Core.Logic.{_⊎_, inl, inr}
@@ -34,12 +35,12 @@ any x = repeated x empty
 abbrev pub parted : Rule → Rule → Rule
 parted separator x = x ⨾ any (separator ⨾ x)
 
--- The derivation of a repeated part: some steps, one after the other, and then the last part.
+-- A repeated part: some steps, one after the other, and then the last part.
 pub data Steps (S L : Type 0) : Type 0 where
   last : L → Steps S L
   step : S → Steps S L → Steps S L
 
--- A derivation: each choice made, each number of repeats, each token. Two that agree in these are equal.
+-- A tree: each choice made and each number of repeats.
 abbrev pub Tree : Rule → Type 0
 Tree never = ⊥
 Tree empty = Unit {0}
@@ -49,11 +50,11 @@ Tree (r or s) = Tree r ⊎ Tree s
 Tree (repeated r s) = Steps (Tree r) (Tree s)
 
 -- what the steps of a repeated part yield, one after the other
-abbrev pub in-order : {S L : Type 0} → (S → List ℕ) → (L → List ℕ) → Steps S L → List ℕ
+abbrev pub in-order : {S L X : Type 0} → (S → List X) → (L → List X) → Steps S L → List X
 in-order f g (last t) = g t
 in-order f g (step s more) = f s ++ in-order f g more
 
--- the classes of a derivation's tokens, from left to right
+-- the classes that a tree names, from left to right
 abbrev pub yield : (r : Rule) → Tree r → List ℕ
 yield never t = absurd t
 yield empty t = []

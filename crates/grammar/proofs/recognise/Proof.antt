@@ -2,7 +2,7 @@
 -- Assumes nothing.
 use mathlib.Core.Path.{_≡_, refl, sym, _∙_, ap, subst}
 use mathlib.Core.List.{List}
-use Prim.Native.Nat.{ℕ, _-_, _≤_, _<_, zero-le}
+use Prim.Native.Nat.{ℕ, _+_, _-_, _≤_, _<_, zero-le}
 use native.Mathlib.Omega.{arith}
 use borrow.Author.Needs.{needs}
 use lib.Dec.{lit<}
@@ -27,25 +27,48 @@ Inv-loop classes n table state₀ i₀ state i =
 abbrev μ-loop : tie.MeasureT-loop
 μ-loop classes n table state₀ i₀ state i = n - i
 
+-- what is ensured of the verdict on a class sequence: it is the run's, and right
+abbrev Ensured : List ℕ → Verdict → Type 0
+Ensured ts v = (v ≡ run module-automaton ts) × Answers smi-module ts v
+
 -- a verdict that is the run's is right
-answered : (ts : List ℕ) (v : Verdict) → run module-automaton ts ≡ v → (v ≡ run module-automaton ts) × Answers smi-module ts v
+answered : (ts : List ℕ) (v : Verdict) → run module-automaton ts ≡ v → Ensured ts v
 answered ts v e = (sym e, subst (Answers smi-module ts) e (grammar-theorem ts))
 
--- an index below n is one of the first n classes, and has the same class there
-module _ (classes : List ℕ) (n i : ℕ) (enough : n ≤ length classes) (l : i < n) where
-  among : i < length (take n classes)
-  among = omega (arith, length-take-le n classes enough)
+-- the run over the first n classes, in state s after i of them
+module _ (classes : List ℕ) (n s i : ℕ) (enough : n ≤ length classes) (h : Resumed module-automaton (take n classes) s i) where
+  -- class i is one of the first n, and leads to state x
+  module _ (l : i < n) (x : ℕ) (e : x ≡ next module-automaton s (getD classes i 0)) where
+    among : i < length (take n classes)
+    among = omega (arith, length-take-le n classes enough)
 
-  same-class : (s x : ℕ) → x ≡ next module-automaton s (getD classes i 0) → next module-automaton s (getD (take n classes) i 0) ≡ x
-  same-class s x e = ap (next module-automaton s) (getD-take n classes i 0 l) ∙ sym e
+    leads : next module-automaton s (getD (take n classes) i 0) ≡ x
+    leads = ap (next module-automaton s) (getD-take n classes i 0 l) ∙ sym e
 
--- at the loop's end all of the first n classes are past
-all-past : (classes : List ℕ) (n i : ℕ) → n ≤ length classes → n ≤ i → length (take n classes) ≤ i
-all-past classes n i enough l = omega (arith, length-take-le n classes enough)
+    dead : x ≡ 0 → Ensured (take n classes) (refused i)
+    dead z = answered (take n classes) (refused i) (resumed-dead module-automaton (take n classes) s i x h among leads z)
+
+    one-further : (x ≡ 0 → ⊥) → Resumed module-automaton (take n classes) x (i + 1)
+    one-further alive = resumed-token module-automaton (take n classes) s i x h among leads alive
+
+  -- all of the first n classes are past
+  module _ (l : n ≤ i) where
+    past : length (take n classes) ≤ i
+    past = omega (arith, length-take-le n classes enough)
+
+    accepted : s ≡ module-automaton .accepting → Ensured (take n classes) derived
+    accepted e = answered (take n classes) derived (resumed-whole module-automaton (take n classes) s i h past e)
+
+    ended : (s ≡ module-automaton .accepting → ⊥) → i ≤ n → Ensured (take n classes) (refused n)
+    ended other within =
+        let e : i ≡ n = omega arith in
+        answered (take n classes) (refused n) (resumed-short module-automaton (take n classes) s i h past other ∙ ap refused e)
 
 loop-holds : tie.Need-loop-holds Inv-loop μ-loop
 unfolding module-automaton transitions
-loop-holds c = (refl, zero-le, lit< tt, resumed-start module-automaton (take (c .before .args .n) (c .before .args .classes .now)))
+loop-holds c =
+    let args = c .before .args in
+    (refl, zero-le, lit< tt, resumed-start module-automaton (take (args .n) (args .classes .now)))
 
 shared-slice-read-step : tie.Need-shared-slice-read-step Inv-loop μ-loop
 shared-slice-read-step c = search needs
@@ -55,17 +78,11 @@ step-requires c κs = search needs
 
 returns : tie.Need-returns Inv-loop μ-loop
 returns c =
-    let at = c .before .before .before .before .before in
+    let test = c .before .before .before .before in
+    let at = test .before in
     let start = at .before .before in
-    let classes = start .args .classes .now in
-    let n = start .args .n in
-    let l = c .before .before .before .before .loop-test .taken in
-    let x = c .before .step .result in
-    answered (take n classes) (refused (at .loop .i))
-    (resumed-dead module-automaton (take n classes) (at .loop .state) (at .loop .i) x (at .loop .inv .3)
-    (among classes n (at .loop .i) (start .pre) l)
-    (same-class classes n (at .loop .i) (start .pre) l (at .loop .state) x (c .before .step .ensures .0))
-    (c .if1 .taken))
+    dead (start .args .classes .now) (start .args .n) (at .loop .state) (at .loop .i) (start .pre) (at .loop .inv .3)
+    (test .loop-test .taken) (c .before .step .result) (c .before .step .ensures .0) (c .if1 .taken)
 
 add-i : tie.Need-add-i Inv-loop μ-loop
 add-i c = search needs
@@ -75,19 +92,14 @@ loop-less c = search needs
 
 loop-again : tie.Need-loop-again Inv-loop μ-loop
 loop-again c =
-    let at = c .before .before .before .before .before in
-    let start = at .before .before in
-    let classes = start .args .classes .now in
-    let n = start .args .n in
-    let l = c .before .before .before .before .loop-test .taken in
-    let x = c .before .step .result in (
+    let test = c .before .before .before .before in
+    let at = test .before in
+    let start = at .before .before in (
       at .loop .inv .0,
       search needs,
       c .before .step .ensures .1,
-      resumed-token module-automaton (take n classes) (at .loop .state) (at .loop .i) x (at .loop .inv .3)
-          (among classes n (at .loop .i) (start .pre) l)
-          (same-class classes n (at .loop .i) (start .pre) l (at .loop .state) x (c .before .step .ensures .0))
-          (c .if1 .left),
+      one-further (start .args .classes .now) (start .args .n) (at .loop .state) (at .loop .i) (start .pre) (at .loop .inv .3)
+          (test .loop-test .taken) (c .before .step .result) (c .before .step .ensures .0) (c .if1 .left),
     )
 
 returns-2 : tie.Need-returns-2 Inv-loop μ-loop
@@ -95,24 +107,16 @@ unfolding module-automaton
 returns-2 c =
     let at = c .before .before in
     let start = at .before .before in
-    let classes = start .args .classes .now in
-    let n = start .args .n in
-    answered (take n classes) derived
-    (resumed-whole module-automaton (take n classes) (at .loop .state) (at .loop .i) (at .loop .inv .3)
-    (all-past classes n (at .loop .i) (start .pre) (c .before .loop-test .left)) (c .if2 .taken))
+    accepted (start .args .classes .now) (start .args .n) (at .loop .state) (at .loop .i) (start .pre) (at .loop .inv .3)
+    (c .before .loop-test .left) (c .if2 .taken)
 
 returns-3 : tie.Need-returns-3 Inv-loop μ-loop
 unfolding module-automaton
 returns-3 c =
     let at = c .before .before in
     let start = at .before .before in
-    let classes = start .args .classes .now in
-    let n = start .args .n in
-    let e : at .loop .i ≡ n = omega arith in
-    answered (take n classes) (refused n)
-    (resumed-short module-automaton (take n classes) (at .loop .state) (at .loop .i) (at .loop .inv .3)
-    (all-past classes n (at .loop .i) (start .pre) (c .before .loop-test .left)) (c .if2 .left)
-    ∙ ap refused e)
+    ended (start .args .classes .now) (start .args .n) (at .loop .state) (at .loop .i) (start .pre) (at .loop .inv .3)
+    (c .before .loop-test .left) (c .if2 .left) (at .loop .inv .1)
 
 pub recognise-spec : {M : Type 1} → statement M
 recognise-spec =
