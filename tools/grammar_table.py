@@ -43,7 +43,8 @@ def terminals():
     """The number of each terminal, by its name."""
     found = {}
     for name, parameters, body in declarations(TERMINAL.read_text()):
-        found[name] = int(body)
+        if body.strip().isdigit():
+            found[name] = int(body)
     return found
 
 
