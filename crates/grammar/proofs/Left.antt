@@ -10,7 +10,7 @@ use borrow.Author.Tests.{eqb-true, eqb-false}
 use lib.Dec.{T, eqb}
 use Rattle.grammar.specs.Rule.{Rule, never, empty, token, _⨾_, _or_, repeated, last, step, Tree, yield}
 use Rattle.grammar.proofs.Derivative.{sequence, blank, matched, derivative, is-never, proper}
-use Rattle.grammar.proofs.Every.{and-left, and-right}
+use Rattle.index.proofs.Tested.{and-left, and-right}
 use Rattle.grammar.proofs.Part.{Same, Blank, After, cases-once, renamed, part-of, either, nothing, both, unchanged}
 use Rattle.grammar.proofs.Part.{sequence-same, left-alone, choice-same, same-last, same-step, last-no-step}
 

@@ -1,4 +1,3 @@
-pub mod Every
 pub mod Derivative
 pub mod Part
 pub mod Left

@@ -13,7 +13,7 @@ use lib.ListN.{length, getD}
 use Rattle.grammar.specs.Rule.{Rule, Rule-discrete, never, empty, token, _⨾_, _or_, repeated, last, step, Tree, yield}
 use Rattle.grammar.specs.Automaton.{Automaton, target}
 use Rattle.grammar.proofs.Derivative.{derivative, blank, proper, matched, simplified}
-use Rattle.grammar.proofs.Every.{every, holds-at, and-left, and-right}
+use Rattle.index.proofs.Tested.{passes, tested, and-left, and-right}
 
 abbrev pub decided : {A : Type 0} → Dec A → Bool
 decided (yes p) = true
@@ -114,14 +114,14 @@ pub record Passes (a : Automaton) (rules : List Rule) (r : Rule) : Type 0 where
   pub all-entries : length (a .table) ≡ a .states * a .width
   -- the dead state has ∅; any other has a rule in which ∅ stands nowhere
   pub dead : rule rules 0 ≡ never
-  pub alive : T (every (λ s q. eqb s 0 || solid q) never 0 rules)
-  pub repeats : T (every (λ s q. proper q) never 0 rules)
-  pub classes : T (every (λ s q. below (a .width) q) never 0 rules)
+  pub alive : T (passes (λ s q. eqb s 0 || solid q) 0 rules)
+  pub repeats : T (passes (λ s q. proper q) 0 rules)
+  pub classes : T (passes (λ s q. below (a .width) q) 0 rules)
   -- the accepting state's rule has one blank tree, any other's none
-  pub ends : T (every (λ s q. same (blank q) (matched (eqb s (a .accepting)))) never 0 rules)
+  pub ends : T (passes (λ s q. same (blank q) (matched (eqb s (a .accepting)))) 0 rules)
   -- each entry of the table is a state, and the right one
-  pub targets : T (every (λ k x. ltb x (a .states)) 0 0 (a .table))
-  pub entries : T (every (leads-to a rules) 0 0 (a .table))
+  pub targets : T (passes (λ k x. ltb x (a .states)) 0 (a .table))
+  pub entries : T (passes (leads-to a rules) 0 (a .table))
   -- it starts with the rule
   pub start-state : T (ltb (a .start) (a .states))
   pub start-alive : T (ltb 0 (a .start))
@@ -136,18 +136,18 @@ module _ {a : Automaton} {rules : List Rule} {r : Rule} (p : Passes a rules r) (
   has-rule = subst (λ (n : ℕ). s < n) (sym (p .all-states)) state
 
   pub rule-proper : T (proper (rule rules s))
-  rule-proper = holds-at (λ s q. proper q) never rules (p .repeats) s has-rule
+  rule-proper = tested (λ s q. proper q) never rules (p .repeats) s has-rule
 
   pub rule-below : T (below (a .width) (rule rules s))
-  rule-below = holds-at (λ s q. below (a .width) q) never rules (p .classes) s has-rule
+  rule-below = tested (λ s q. below (a .width) q) never rules (p .classes) s has-rule
 
   pub rule-blank : blank (rule rules s) ≡ matched (eqb s (a .accepting))
   rule-blank =
-      same-equal _ _ (holds-at (λ s q. same (blank q) (matched (eqb s (a .accepting)))) never rules (p .ends) s has-rule)
+      same-equal _ _ (tested (λ s q. same (blank q) (matched (eqb s (a .accepting)))) never rules (p .ends) s has-rule)
 
   pub rule-solid : (s ≡ 0 → ⊥) → T (solid (rule rules s))
   rule-solid n =
-      or-right (eqb s 0) (solid (rule rules s)) (holds-at (λ s q. eqb s 0 || solid q) never rules (p .alive) s has-rule)
+      or-right (eqb s 0) (solid (rule rules s)) (tested (λ s q. eqb s 0 || solid q) never rules (p .alive) s has-rule)
       (λ t. n (eqb→eq s 0 t))
 
   module _ (c : ℕ) (class : c < a .width) where
@@ -157,11 +157,11 @@ module _ {a : Automaton} {rules : List Rule} {r : Rule} (p : Passes a rules r) (
     pub entry-state : target a s c < a .states
     entry-state =
         ltb→lt (target a s c) (a .states)
-        (holds-at (λ k x. ltb x (a .states)) 0 (a .table) (p .targets) (s * a .width + c) has-entry)
+        (tested (λ k x. ltb x (a .states)) 0 (a .table) (p .targets) (s * a .width + c) has-entry)
 
     pub entry-rule : derivative c (rule rules s) ≡ rule rules (target a s c)
     entry-rule =
         let k = s * a .width + c in
         rw (digits-mod s class, digits-div s class) at
         (same-equal (derivative (k % a .width) (rule rules (k / a .width))) (getD rules (getD (a .table) k 0) never)
-        (holds-at (leads-to a rules) 0 (a .table) (p .entries) k has-entry))
+        (tested (leads-to a rules) 0 (a .table) (p .entries) k has-entry))

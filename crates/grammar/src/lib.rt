@@ -11,15 +11,13 @@ ghost use Rattle.grammar.specs.Table.{module-automaton};
 
 mod table;
 
+use index::TokenIndex;
 use table::ACCEPTING;
 use table::DEAD;
 use table::ENTRIES;
 use table::START;
 use table::TABLE;
 use terminal::TERMINALS;
-
-// The index of a token in the sequence; the number of tokens stands for the end.
-pub struct TokenIndex(pub usize);
 
 // What the grammar says of a sequence.
 pub enum Reading {
@@ -30,7 +28,8 @@ pub enum Reading {
 
 // The state after a token of this class: DEAD where no derived sequence goes on so, as with a class that is no terminal's.
 fn step(table: &[u8; ENTRIES], state: u8, class: u8) -> u8
-    requires { ⌜ (now table ≡ module-automaton .table) × (state < module-automaton .states) ⌝ }
+    requires table { ⌜ now table ≡ module-automaton .table ⌝ }
+    requires state { ⌜ state < module-automaton .states ⌝ }
     ensures leads { λ r. ⌜ r ≡ next module-automaton state class ⌝ }
     ensures state { λ r. ⌜ r < module-automaton .states ⌝ }
 {
