@@ -1,13 +1,14 @@
 -- The examples P1 to P4 of document 01, established from the definitions.
 -- Assumes nothing.
 use mathlib.Core.Path.{_≡_, refl}
-use mathlib.Core.Bool.{Bool}
-use mathlib.Core.List.{List, [], _∷_}
+use mathlib.Core.List.{[], _∷_}
 use Rattle.terminal.specs.Terminal.{lower}
-use Rattle.token.specs.Byte.{class-of, class-in, rows}
-use Rattle.token.specs.Word.{bytes, word, word-table, words, word-classes, same, place-in, name-class}
-use Rattle.token.specs.Token.{tok, decimal-after, spelling-of, value-of}
-use Rattle.token.specs.Cut.{span, name, misfit, non-negative, below-zero, comment, after-hyphen, quoted, hex-string, after-colon, after-dot, punctuation, piece, whole, refused, Cut, cut-from, cut}
+use Rattle.word.specs.Byte.{class-of, class-in, rows}
+use Rattle.word.specs.Word.{bytes, word, word-table, words, word-classes, same, place-in, name-class}
+use Rattle.piece.specs.Decimal.{decimal-after}
+use Rattle.token.specs.Token.{tok, spelling-of, value-of}
+use Rattle.piece.specs.Piece.{span, name, misfit, non-negative, below-zero, comment, after-hyphen, quoted, hex-string, after-colon, after-dot, punctuation, piece}
+use Rattle.token.specs.Cut.{whole, refused, cut-from, cut}
 
 -- P1 `----` no token. P2 `-----` refusal 3 at 4. P3 `a--b` the name a. P4 4294967296 refusal 6.
 pub record Examples : Type 0 where

@@ -3,24 +3,27 @@
 -- Assumes nothing.
 use mathlib.Core.Path.{_≡_, refl, sym, ap, subst, _∙_}
 use mathlib.Core.Bool.{Bool, true, false, cond}
-use mathlib.Core.List.{List, [], _∷_, _++_, map}
+use mathlib.Core.List.{List, [], _∷_, map}
 use Prim.Native.Nat.{ℕ, zero, suc, _+_, _-_, _≤_, _<_}
-use native.Mathlib.Nat.{add-zero, zero-add}
 use native.Mathlib.Decide.{decLt}
 use native.Mathlib.Omega.{arith}
-use lib.Dec.{T, eqb}
-use lib.IntN.{ℤ, pos, negℤ, natAbs, negℤ-negℤ}
+use lib.Dec.{T}
+use lib.IntN.{pos, negℤ, natAbs, negℤ-negℤ}
 use lib.ListN.{length, getD, take, drop, length-drop, length-map, List·getD-append, List·getD-map}
 use lib.Seq.{length-take-le, drop-cons}
 use borrow.Author.Tests.{ne-eqb}
 use Rattle.terminal.specs.Terminal.{number, negative}
-use Rattle.token.specs.Byte.{class-of}
-use Rattle.token.specs.Token.{Tok, tok, is-name, spelling-of, value-of, decimal}
-use Rattle.token.specs.Cut.{Piece, gap, token, refusal, piece, Ending, whole, refused, Cut, cut}
-use Rattle.token.specs.Table.{between, entry, entries, table, overlaid}
+use Rattle.word.specs.Byte.{class-of}
+use Rattle.piece.specs.Decimal.{decimal}
+use Rattle.word.specs.Word.{is-name}
+use Rattle.token.specs.Token.{Tok, tok, meaning, spelling-of, value-of}
+use Rattle.piece.specs.Piece.{Piece, gap, token, refusal, largest-number, largest-negative, piece}
+use Rattle.token.specs.Cut.{whole, refused, Cut, cut}
+use Rattle.word.specs.Word.{between, Within}
+use Rattle.token.specs.Table.{overlaid}
 use Rattle.token.specs.Law.{Sound, Rising}
-use Rattle.token.proofs.Pieces.{Fits, Fit}
-use Rattle.token.proofs.Places.{byte-there}
+use Rattle.piece.proofs.Pieces.{Fits, Fit}
+use Rattle.word.proofs.Places.{byte-there}
 use Rattle.token.proofs.Left.{left, left-whole, step-gap, step-token, step-refusal, step-end, fit-at}
 
 -- what holds at the end and at a refusal, and is kept by a gap and by a token before, holds of the cut of what is left
@@ -40,8 +43,8 @@ module _
             subst (λ (x : Cut). P at x) (sym (step-gap t at m l e (f .fits .0)))
             (at-gap at m l e (f .fits) (ih (at + m) (omega (arith, f .fits .0))))
         next l (token c m) e f ih =
-            subst (λ (x : Cut). P at x) (sym (step-token t at c m l e (f .fits .0)))
-            (at-token at c m l e (f .fits) (ih (at + m) (omega (arith, f .fits .0))))
+            subst (λ (x : Cut). P at x) (sym (step-token t at c m l e (f .fits .some)))
+            (at-token at c m l e (f .fits) (ih (at + m) (omega (arith, f .fits .some))))
         next l (refusal r d) e f ih = subst (λ (x : Cut). P at x) (sym (step-refusal t at r d l e)) (at-refusal at r d l e)
 
         go : Dec (at < length t) → ((j : ℕ) → length t ≤ j + k → P j (left t j)) → P at (left t at)
@@ -68,19 +71,19 @@ unfolding value-of
 negative-value c bs e = rw e
 
 sound-token : (t : List ℕ) (at c m : ℕ) → at < length t → Fits (drop at t) (token c m) → Sound t (tok c at (at + m) (take m (drop at t)))
-unfolding tok
+unfolding tok meaning
 sound-token t at c m h f =
     let n : at + m - at ≡ m = omega arith in
-    let long : length (take m (drop at t)) ≡ m = length-take-le m (drop at t) (f .1) in
+    let long : length (take m (drop at t)) ≡ m = length-take-le m (drop at t) (f .inside) in
     record {
       made = rw n;
-      nonempty = omega (arith, f .0);
-      inside = omega (arith, f .1, length-drop at t);
-      terminal = f .2;
-      name-bytes = λ q. let s = spelling-length c (take m (drop at t)) q in (omega (arith, s, f .0), omega (arith, s, f .3 q));
-      text-quote = λ q. ap class-of (sym (byte-there t at 0 at (omega arith))) ∙ f .6 q;
-      number-range = λ q. (decimal (take m (drop at t)), number-value c (take m (drop at t)) q, f .4 q);
-      negative-range = λ q. (decimal (drop 1 (take m (drop at t))), negative-value c (take m (drop at t)) q, f .5 q);
+      nonempty = omega (arith, f .some);
+      inside = omega (arith, f .inside, length-drop at t);
+      terminal = f .terminal;
+      name-bytes = λ q. let s = spelling-length c (take m (drop at t)) q in (omega (arith, s, f .some), omega (arith, s, f .short-name q));
+      text-quote = λ q. ap class-of (sym (byte-there t at 0 at (omega arith))) ∙ f .text-quote q;
+      number-range = λ q. (decimal (take m (drop at t)), number-value c (take m (drop at t)) q, f .number-range q);
+      negative-range = λ q. (decimal (drop 1 (take m (drop at t))), negative-value c (take m (drop at t)) q, f .negative-range q);
     }
 
 -- tokens that start at a place or later start after any place before it
@@ -90,7 +93,7 @@ later t from to (x ∷ ts) h r = (omega (arith, r .0), r .1, r .2)
 
 -- the tokens of what is left of a text are sound, and rise from there
 pub rising-left : (t : List ℕ) (at : ℕ) → Rising t at (left t at .tokens)
-unfolding tok
+unfolding tok meaning
 rising-left t at =
     cut-induction t (λ (at : ℕ) (x : Cut). Rising t at (x .tokens))
     (λ at h. tt)
@@ -120,10 +123,6 @@ sound-at t from [] r i d h = absurd (omega arith)
 sound-at t from (x ∷ ts) r zero d h = r .1
 sound-at t from (x ∷ ts) r (suc i) d h = sound-at t (x .end) ts (r .2) i d (omega arith)
 
--- any token, where a list has none
-abbrev pub no-token : Tok
-no-token = tok 0 0 0 []
-
 -- an array that holds a field of each token, at the index of one
 pub held-at : (field : Tok → ℕ) (ts : List Tok) (old : List ℕ) (i : ℕ) (d : Tok) → field d ≡ 0 → i < length ts → getD (overlaid (map field ts) old) i 0 ≡ field (getD ts i d)
 held-at field ts old i d z h =
@@ -131,41 +130,22 @@ held-at field ts old i d z h =
     ∙ ap (λ (y : ℕ). getD (map field ts) i y) (sym z)
     ∙ List·getD-map field ts i d
 
-entries-are : (t classes starts ends : List ℕ) (k : ℕ) (ts : List Tok) (d : Tok) → ((i : ℕ) → i < length ts → entry t classes starts ends (k + i) ≡ getD ts i d) → entries t classes starts ends k (length ts) ≡ ts
-unfolding entries
-entries-are t classes starts ends k [] d h = refl
-entries-are t classes starts ends k (x ∷ ts) d h =
-    let first : entry t classes starts ends k ≡ x = rw (add-zero k) at (h 0 (omega arith)) in
-    let rest : entries t classes starts ends (suc k) (length ts) ≡ ts =
-    entries-are t classes starts ends (suc k) ts d
-    (λ i l. ap (λ (j : ℕ). entry t classes starts ends j) (omega arith) ∙ h (suc i) (omega arith)) in
-    λ i. first i ∷ rest i
-
--- arrays that hold the tokens' classes, starts and ends are read as the list of the tokens
-pub tabled : (t old-classes old-starts old-ends : List ℕ) → table t (overlaid (map (λ (x : Tok). x .class) (cut t .tokens)) old-classes) (overlaid (map (λ (x : Tok). x .start) (cut t .tokens)) old-starts) (overlaid (map (λ (x : Tok). x .end) (cut t .tokens)) old-ends) (length (cut t .tokens)) ≡ cut t .tokens
-unfolding table entry tok
-tabled t cs ss es =
-    let ts = cut t .tokens in
-    entries-are t (overlaid (map (λ (x : Tok). x .class) ts) cs) (overlaid (map (λ (x : Tok). x .start) ts) ss) (overlaid (map (λ (x : Tok). x .end) ts) es) 0 ts no-token
-    (λ i h.
-    let j : 0 + i ≡ i = zero-add i in
-    let c = held-at (λ (x : Tok). x .class) ts cs i no-token refl h in
-    let s = held-at (λ (x : Tok). x .start) ts ss i no-token refl h in
-    let e = held-at (λ (x : Tok). x .end) ts es i no-token refl h in
-    rw (j, c, s, e) (sym (sound-at t 0 ts (rising t) i no-token h .made)))
-
 -- numbers below zero of the same value have the same magnitude
 magnitude : (m n : ℕ) → negℤ (pos m) ≡ negℤ (pos n) → m ≡ n
 magnitude m n e = ap natAbs (sym (negℤ-negℤ (pos m)) ∙ ap negℤ e ∙ negℤ-negℤ (pos n))
 
 -- a token that its place in the text makes: its place and its value
 module _ (t : List ℕ) (class start end : ℕ) (sound : Sound t (tok class start end (between t start end))) where
+  pub token-within : Within t start end
+  unfolding tok
+  token-within = record { ordered = omega (arith, sound .nonempty); inside = sound .inside }
+
   pub token-place : (start < end) × (end ≤ length t)
   unfolding tok
   token-place = (sound .nonempty, sound .inside)
 
-  pub number-is : class ≡ number → (tok class start end (between t start end) .value ≡ pos (decimal (between t start end))) × (decimal (between t start end) ≤ 4294967295)
-  unfolding tok
+  pub number-is : class ≡ number → (value-of class (between t start end) ≡ pos (decimal (between t start end))) × (decimal (between t start end) ≤ largest-number)
+  unfolding tok meaning
   number-is e =
       let v = number-value class (between t start end) e in
       let r = sound .number-range e in
@@ -178,8 +158,8 @@ module _ (t : List ℕ) (class start end : ℕ) (sound : Sound t (tok class star
       let b : suc start ≡ start + 1 = omega arith in
       rw (a, drop-cons t start 0 (omega (arith, token-place)), b)
 
-  pub negative-is : class ≡ negative → (tok class start end (between t start end) .value ≡ negℤ (pos (decimal (between t (start + 1) end)))) × (decimal (between t (start + 1) end) ≤ 2147483648)
-  unfolding tok
+  pub negative-is : class ≡ negative → (value-of class (between t start end) ≡ negℤ (pos (decimal (between t (start + 1) end)))) × (decimal (between t (start + 1) end) ≤ largest-negative)
+  unfolding tok meaning
   negative-is e =
       let v : value-of class (between t start end) ≡ negℤ (pos (decimal (between t (start + 1) end))) =
       negative-value class (between t start end) e ∙ ap (λ (bs : List ℕ). negℤ (pos (decimal bs))) after-hyphen in
@@ -187,6 +167,6 @@ module _ (t : List ℕ) (class start end : ℕ) (sound : Sound t (tok class star
       let same : decimal (between t (start + 1) end) ≡ r .0 = magnitude (decimal (between t (start + 1) end)) (r .0) (sym v ∙ r .1) in
       (v, omega (arith, r .2))
 
-  pub other-is : (class ≡ number → ⊥) → (class ≡ negative → ⊥) → tok class start end (between t start end) .value ≡ pos 0
-  unfolding tok value-of
-  other-is p q = simp (ne-eqb class number p, ne-eqb class negative q)
+pub other-value : (class : ℕ) (bs : List ℕ) → (class ≡ number → ⊥) → (class ≡ negative → ⊥) → value-of class bs ≡ pos 0
+unfolding value-of
+other-value class bs p q = simp (ne-eqb class number p, ne-eqb class negative q)

@@ -1,15 +1,16 @@
 -- The cut of what is left of a text at a place, piece by piece.
 -- Assumes nothing.
-use mathlib.Core.Path.{_≡_, refl, sym, ap, subst, _∙_}
+use mathlib.Core.Path.{_≡_, refl, sym, ap, _∙_}
 use mathlib.Core.List.{List, [], _∷_}
 use Prim.Native.Nat.{ℕ, zero, suc, pred, _+_, _-_, _≤_, _<_}
 use native.Mathlib.Nat.{add-zero}
 use native.Mathlib.Omega.{arith}
-use lib.ListN.{length, getD, take, drop, length-drop, drop-of-length-le}
+use lib.ListN.{length, getD, take, drop, drop-of-length-le}
 use lib.Seq.{drop-cons, drop-nil, drop-drop}
-use Rattle.token.specs.Token.{Tok, tok}
-use Rattle.token.specs.Cut.{Piece, gap, token, refusal, piece, Ending, whole, refused, Cut, size, starting-with, cut-from, cut}
-use Rattle.token.proofs.Pieces.{Fit, piece-fits}
+use Rattle.token.specs.Token.{tok}
+use Rattle.piece.specs.Piece.{Piece, gap, token, refusal, piece, size}
+use Rattle.token.specs.Cut.{whole, refused, Cut, starting-with, cut-from, cut}
+use Rattle.piece.proofs.Pieces.{Fit, piece-fits}
 
 -- the cut of what is left of t at the place `at`
 abbrev pub left : List ℕ → ℕ → Cut

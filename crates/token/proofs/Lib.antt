@@ -1,14 +1,6 @@
-pub mod Tables
-pub mod Bytes
-pub mod Span
-pub mod Decimal
-pub mod Places
-pub mod Words
-pub mod Pieces
 pub mod Left
 pub mod Laws
 pub mod Entries
-pub mod Local
 pub mod Quotes
 pub mod Examples
 pub mod Progress

@@ -3,7 +3,7 @@
 -- Assumes nothing.
 use mathlib.Core.Path.{_≡_, refl, sym, ap, subst, _∙_}
 use mathlib.Core.Logic.{_⊎_, inl, inr, ⊎-elim}
-use mathlib.Core.Bool.{Bool, true, false, cond, _&&_}
+use mathlib.Core.Bool.{Bool, true, false, cond}
 use mathlib.Core.List.{List, [], _∷_}
 use Prim.Native.Nat.{ℕ, zero, suc, _+_, _-_, _≤_, _<_}
 use native.Mathlib.Decide.{decLt, ℕ-discrete}
@@ -13,14 +13,15 @@ use lib.ListN.{length, getD, take, drop, length-drop, List·getD-eq-default}
 use lib.Seq.{getD-drop, ext-getD}
 use borrow.Author.Tests.{leb-false, lt-leb, eqb-true}
 use Rattle.terminal.specs.Terminal.{text}
-use Rattle.token.specs.Byte.{class-of, quote, classed, text-byte}
-use Rattle.token.specs.Token.{Tok, tok, spelling-of, value-of}
-use Rattle.token.specs.Cut.{Piece, gap, token, refusal, span, quoted, punctuation, piece, size, Ending, whole, refused, Cut, cut}
-use Rattle.token.specs.Law.{Sound, Rising, InsideText, QuotedChange}
+use Rattle.word.specs.Byte.{class-of, small, space, quote, classed, text-byte}
+use Rattle.token.specs.Token.{Tok, tok, meaning, spelling-of, value-of}
+use Rattle.piece.specs.Piece.{Piece, gap, token, refusal, no-token, forbidden, span, quoted, punctuation, piece, size}
+use Rattle.token.specs.Cut.{whole, refused, Cut, cut}
+use Rattle.token.specs.Law.{Rising, InsideText, QuotedChange}
 use Rattle.token.proofs.Laws.{cut-induction, rising-left}
-use Rattle.token.proofs.Left.{left, left-whole, step-gap, step-token, step-refusal, step-end}
-use Rattle.token.proofs.Local.{Near, Plain, piece-local, take-local}
-use Rattle.token.proofs.Pieces.{Fits}
+use Rattle.token.proofs.Left.{left, step-gap, step-token, step-refusal, step-end}
+use Rattle.piece.proofs.Local.{Near, Plain, piece-local, take-local}
+use Rattle.piece.proofs.Pieces.{Fits}
 
 -- ---- the text token
 
@@ -52,7 +53,7 @@ quoted-is : (a : List ℕ) (c m : ℕ) → quoted a ≡ token c m → (span text
 unfolding quoted
 quoted-is a c m e = go (leb (length a) (span text-byte a)) refl (eqb (class-of (getD a (span text-byte a) 0)) quote) refl e
   where
-    go : (p : Bool) → leb (length a) (span text-byte a) ≡ p → (q : Bool) → eqb (class-of (getD a (span text-byte a) 0)) quote ≡ q → cond p (refusal 3 0) (cond q (token 47 (span text-byte a + 2)) (refusal 4 (span text-byte a + 1))) ≡ token c m → (span text-byte a < length a) × (class-of (getD a (span text-byte a) 0) ≡ quote) × (m ≡ span text-byte a + 2) × (c ≡ text)
+    go : (p : Bool) → leb (length a) (span text-byte a) ≡ p → (q : Bool) → eqb (class-of (getD a (span text-byte a) 0)) quote ≡ q → cond p (refusal no-token 0) (cond q (token text (span text-byte a + 2)) (refusal forbidden (span text-byte a + 1))) ≡ token c m → (span text-byte a < length a) × (class-of (getD a (span text-byte a) 0) ≡ quote) × (m ≡ span text-byte a + 2) × (c ≡ text)
     go true f q g e = let z : _≡_ {A = ℕ} 0 1 = cc in absurd (omega arith)
     go false f true g e = (leb-false (length a) (span text-byte a) f, eqb-true _ _ g, (cc), (cc))
     go false f false g e = let z : _≡_ {A = ℕ} 0 1 = cc in absurd (omega arith)
@@ -66,7 +67,7 @@ quoted-local a b c m e l inner last =
     let end : getD a n 0 ≡ getD b n 0 = last n (omega (arith, is .2)) in
     let closes : class-of (getD b n 0) ≡ quote = ap class-of (sym end) ∙ is .1 in
     let stops : text-byte (getD b n 0) 0 ≡ false = rw closes in
-    let same : span text-byte b ≡ n = span-exact 3 64 b n (omega (arith, is .0)) (λ j h. inner j (omega (arith, is .2))) stops in
+    let same : span text-byte b ≡ n = span-exact small space b n (omega (arith, is .0)) (λ j h. inner j (omega (arith, is .2))) stops in
     rw (same, lt-leb (length b) n (omega (arith, is .0)), closes) (λ i. token (sym (is .3) i) (sym (is .2) i))
 
 -- the same of the whole token, from its first quote on
@@ -78,7 +79,7 @@ text-near (x ∷ a) (y ∷ b) c m e h q l first inner last =
     let is = quoted-is a c m reads in
     piece-quoted y b (ap class-of (sym first) ∙ q)
     ∙ quoted-local a b c m reads (omega arith)
-    (λ j r. ⊎-elim (λ s. ap (λ (z : ℕ). text-byte z 0) (sym s) ∙ span-holds 3 64 a j (omega (arith, is .2))) (λ s. s) (inner (suc j) (omega arith) (omega arith)))
+    (λ j r. ⊎-elim (λ s. ap (λ (z : ℕ). text-byte z 0) (sym s) ∙ span-holds small space a j (omega (arith, is .2))) (λ s. s) (inner (suc j) (omega arith) (omega arith)))
     (λ j r. last (suc j) (omega arith))
 
 -- ---- tokens after a place
@@ -159,7 +160,7 @@ module _ (a b : List ℕ) (long : length a ≡ length b) where
 
   -- a text token is the same whatever stands in it
   text-token : (c at end : ℕ) (bs bs′ : List ℕ) → c ≡ text → tok c at end bs ≡ tok c at end bs′
-  unfolding tok spelling-of value-of
+  unfolding tok meaning spelling-of value-of
   text-token c at end bs bs′ e = rw e
 
   -- the token at `at` and what comes after it, in both texts
@@ -168,7 +169,7 @@ module _ (a b : List ℕ) (long : length a ≡ length b) where
       (λ i. record { tokens = t i ∷ rest i .tokens; ending = rest i .ending }) ∙ sym (step-token b at c m (omega arith) p s)
 
   same-token : (at c m : ℕ) → at < length a → piece (drop at a) ≡ token c m → Fits (drop at a) (token c m) → Same (at + m) (left a (at + m)) → Same at (record { tokens = tok c at (at + m) (take m (drop at a)) ∷ left a (at + m) .tokens; ending = left a (at + m) .ending })
-  unfolding tok
+  unfolding tok meaning
   same-token at c m h e f ih agree = go (ℕ-discrete c text)
     where
       ts : List Tok
@@ -187,7 +188,7 @@ module _ (a b : List ℕ) (long : length a ≡ length b) where
       inner j q r =
           ⊎-elim (λ s. inl (getD-drop at a j 0 ∙ s ∙ sym (getD-drop at b j 0)))
           (λ s. inr (ap (λ (z : ℕ). text-byte z 0) (getD-drop at b j 0) ∙ s .1))
-          (agree (at + j) (omega arith) (omega (arith, f .1, length-drop at a)))
+          (agree (at + j) (omega arith) (omega (arith, f .inside, length-drop at a)))
 
       rest : left a (at + m) ≡ left b (at + m)
       rest = ih (λ i l q. ⊎-elim inl (λ n. ⊎-elim (λ t. absurd (omega (arith, t .2))) (λ t. inr (t, n .1)) (n .0)) (agree i (omega arith) q))
@@ -195,16 +196,16 @@ module _ (a b : List ℕ) (long : length a ≡ length b) where
       go : Dec (c ≡ text) → _≡_ {A = Cut} (record { tokens = tok c at (at + m) (take m (drop at a)) ∷ left a (at + m) .tokens; ending = left a (at + m) .ending }) (left b at)
       go (no n) =
           let near = agree-near at m all agree (λ i l t. ⊎-elim (λ u. n (u .0)) (λ u. absurd (omega (arith, inside-after a (at + m) ts i up u))) t) (λ q t. ⊎-elim (λ u. n (u .0)) (λ u. q (inside-quote a (at + m) ts up u)) t) in
-          let p : piece (drop at b) ≡ token c m = piece-near (drop at a) (drop at b) (token c m) e (omega (arith, length-drop at a)) n (f .0) near in
+          let p : piece (drop at b) ≡ token c m = piece-near (drop at a) (drop at b) (token c m) e (omega (arith, length-drop at a)) n (f .some) near in
           let bs : take m (drop at b) ≡ take m (drop at a) = take-local (drop at a) (drop at b) m (near .long) (λ j q. near .near j (omega arith)) in
-          same-rest at c m h p (f .0) (ap (tok c at (at + m)) (sym bs)) rest
+          same-rest at c m h p (f .some) (ap (tok c at (at + m)) (sym bs)) rest
       go (yes is) =
           let p : piece (drop at b) ≡ token c m =
-          text-near (drop at a) (drop at b) c m e (omega (arith, length-drop at a)) (f .6 is) (omega (arith, length-drop at a, length-drop at b))
+          text-near (drop at a) (drop at b) c m e (omega (arith, length-drop at a)) (f .text-quote is) (omega (arith, length-drop at a, length-drop at b))
           (here 0 (λ t. ⊎-elim (λ u. absurd (omega (arith, u .1))) (λ u. absurd (omega (arith, inside-after a (at + m) ts (at + 0) up u))) t))
           (λ j q r. inner j q r)
           (λ j q. here j (λ t. ⊎-elim (λ u. absurd (omega (arith, u .2))) (λ u. absurd (omega (arith, inside-after a (at + m) ts (at + j) up u))) t)) in
-          same-rest at c m h p (f .0) (text-token c at (at + m) (take m (drop at a)) (take m (drop at b)) is) rest
+          same-rest at c m h p (f .some) (text-token c at (at + m) (take m (drop at a)) (take m (drop at b)) is) rest
 
   pub same-cut : (at : ℕ) → Same at (left a at)
   same-cut at = cut-induction a Same same-end same-refusal same-gap same-token at

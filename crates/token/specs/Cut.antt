@@ -2,9 +2,9 @@
 -- Assumes nothing.
 use mathlib.Core.List.{List, [], _∷_}
 use Prim.Native.Nat.{ℕ, zero, suc, pred, _+_}
-use lib.ListN.{take}
+use lib.ListN.{getD, take}
 use Rattle.piece.specs.Piece.{Piece, gap, token, refusal, size, piece}
-use Rattle.token.specs.Token.{Tok, tok}
+use Rattle.token.specs.Token.{Tok, Meaning, tok, meanings, no-meaning}
 
 -- How the cut ends: at the text's end, or with the refusal of that number at that place.
 pub data Ending : Type 0 where
@@ -34,3 +34,11 @@ cut-from at (suc n) (b ∷ bs) = cut-from (suc at) n bs
 -- the cut of a whole text
 unfoldable pub cut : List ℕ → Cut
 cut bytes = cut-from 0 0 bytes
+
+-- what the tokens of a text say, in order
+abbrev pub meanings-in : List ℕ → List Meaning
+meanings-in text = meanings (cut text .tokens)
+
+-- what token i says, of what the tokens say
+abbrev pub said : List Meaning → ℕ → Meaning
+said ms i = getD ms i no-meaning

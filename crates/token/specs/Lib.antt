@@ -1,7 +1,4 @@
-pub mod Byte
-pub mod Word
 pub mod Token
 pub mod Cut
-pub mod Run
-pub mod Table
 pub mod Law
+pub mod Table

@@ -1,22 +1,14 @@
 // Any bytes cut into the tokens of an SMI module, or refused at the right byte. specs/Cut.antt says what the cut of a text is.
 ghost use mathlib.Core.Path.{_≡_};
-ghost use Prim.Native.Nat.{_≤_};
-ghost use lib.ListN.{length};
-ghost use Rattle.token.specs.Table.{Held, refusal-of};
+ghost use Rattle.token.specs.Table.{Held, Lent, refusal-of};
 
-mod byte;
-mod piece;
-mod scan;
-pub mod value;
-mod word;
+pub mod entry;
 
-use crate::byte::CLASSES;
-use crate::piece::Found;
-use crate::piece::GAP;
-use crate::piece::piece_at;
-
-// A place: a byte offset in the text.
-pub struct Place(pub usize);
+use index::Place;
+use piece::Found;
+use piece::GAP;
+use piece::piece_at;
+use word::byte::CLASSES;
 
 // The answer to a cut: how many tokens the text has, or the refusal's number and place.
 pub enum Answer {
@@ -42,7 +34,7 @@ pub fn cut(
     starts: &mut [u32; 65536],
     ends: &mut [u32; 65536],
 ) -> Answer
-    requires { ⌜ (length (now text) ≤ 65536) × (length (now classes) ≡ 65536) × (length (now starts) ≡ 65536) × (length (now ends) ≡ 65536) ⌝ }
+    requires { ⌜ Lent (now text) (now classes) (now starts) (now ends) ⌝ }
     ensures { λ r. ⌜ Held (now (text .entry)) r (now (classes .entry)) (now (starts .entry)) (now (ends .entry)) (now (classes .exit)) (now (starts .exit)) (now (ends .exit)) ⌝ }
 {
     let table = CLASSES;

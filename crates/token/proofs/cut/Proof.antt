@@ -1,16 +1,18 @@
 -- `cut` is right because each turn takes one piece, and what is stored with what is left stays the cut of the whole text.
 -- Assumes nothing.
-use mathlib.Core.Path.{_≡_, refl, sym, ap, _∙_}
-use Prim.Native.Nat.{ℕ, _+_, _-_, _≤_, _<_}
+use mathlib.Core.Path.{_≡_, refl, sym, _∙_}
+use Prim.Native.Nat.{_-_, _≤_, _<_}
 use native.Mathlib.Omega.{arith}
 use borrow.Author.Needs.{needs}
 use lib.ListN.{length, drop}
-use Rattle.token.specs.Byte.{class-of, class-in, rows}
-use Rattle.token.specs.Cut.{whole, piece}
-use Rattle.token.specs.Table.{found-at}
-use Rattle.token.specs.declared.piece.Found.{Found}
+use Rattle.word.specs.Byte.{class-of, class-in, rows}
+use Rattle.piece.specs.Piece.{piece}
+use Rattle.token.specs.Cut.{whole}
+use Rattle.token.specs.Table.{longest-text}
+use Rattle.piece.specs.Found.{found-at}
+use Rattle.piece.specs.declared.Found.{Found}
 use Rattle.token.specs.declared.Answer.the-variants.{Tokens}
-use Rattle.token.proofs.Bytes.{right, class-table}
+use Rattle.word.proofs.Bytes.{right, class-table}
 use Rattle.token.proofs.Left.{step-end}
 use Rattle.token.proofs.Progress.{Progress, progress-start, progress-done, read-forward, read-gap, read-token, read-refusal}
 use Rattle.token.proofs.cut.Statement.{statement}
@@ -44,7 +46,7 @@ returns c =
     let start = l .before .before in
     let a = start .args in
     rw (c .refusal .ensures)
-    (read-refusal (a .text .now) (a .classes .now) (a .starts .now) (a .ends .now) (l .loop .classes) (l .loop .starts) (l .loop .ends) (l .loop .at) (l .loop .n) (l .loop .inv) (c .before .before .before .before .before .loop-test .taken) (start .pre .0) (start .pre .1) (start .pre .2) (start .pre .3)
+    (read-refusal (a .text .now) (a .classes .now) (a .starts .now) (a .ends .now) (l .loop .classes) (l .loop .starts) (l .loop .ends) (l .loop .at) (l .loop .n) (l .loop .inv) (c .before .before .before .before .before .loop-test .taken) (start .pre)
     (c .before .before .before .piece-at .result) (c .before .enum-told .given .0 .0) (c .before .enum-told .given .0 .1 .0) (c .before .enum-told .given .1) (c .before .before .before .piece-at .ensures))
 
 -- what was read is what the text holds there
@@ -52,7 +54,7 @@ reads : (c : tie.After-known-told Inv-loop μ-loop) → Found.Piece (c .before .
 reads c = sym (c .before .found .given .1) ∙ c .before .before .before .piece-at .ensures
 
 -- so there is room for it, and it leads forward in the text
-room : (c : tie.After-known-told Inv-loop μ-loop) → (c .before .before .before .before .before .before .loop .n < 65536) × (c .before .before .before .before .before .before .loop .at < 65536) × (c .before .before .before .before .before .before .loop .at < c .before .found .given .0 .1 .0) × (c .before .found .given .0 .1 .0 ≤ 65536) × (c .before .found .given .0 .1 .0 ≤ length (c .before .before .before .before .before .before .before .before .args .text .now))
+room : (c : tie.After-known-told Inv-loop μ-loop) → (c .before .before .before .before .before .before .loop .n < longest-text) × (c .before .before .before .before .before .before .loop .at < longest-text) × (c .before .before .before .before .before .before .loop .at < c .before .found .given .0 .1 .0) × (c .before .found .given .0 .1 .0 ≤ longest-text) × (c .before .found .given .0 .1 .0 ≤ length (c .before .before .before .before .before .before .before .before .args .text .now))
 room c =
     let l = c .before .before .before .before .before .before in
     let start = l .before .before in
@@ -62,7 +64,7 @@ room c =
     let forward =
     read-forward (a .text .now) (a .classes .now) (a .starts .now) (a .ends .now) (l .loop .classes) (l .loop .starts)
     (l .loop .ends) (l .loop .at) (l .loop .n) (l .loop .inv) inside (found .0 .0) (found .0 .1 .0) (reads c) in
-    omega (arith, inside, forward, l .loop .inv .few, start .pre .0)
+    omega (arith, inside, forward, l .loop .inv .few, start .pre .short)
 
 element-write-classes : tie.Need-element-write-classes Inv-loop μ-loop
 element-write-classes c = omega (arith, room (c .before))
@@ -117,7 +119,7 @@ returns-2 c =
     let l = c .before in
     let start = l .before .before in
     let a = start .args in
-    progress-done (a .text .now) (a .classes .now) (a .starts .now) (a .ends .now) (l .loop .classes) (l .loop .starts) (l .loop .ends) (l .loop .at) (l .loop .n) (l .loop .inv) (start .pre .0) whole (step-end (a .text .now) (l .loop .at) (c .loop-test .left)) (Tokens (l .loop .n)) refl (start .pre .1) (start .pre .2) (start .pre .3)
+    progress-done (a .text .now) (a .classes .now) (a .starts .now) (a .ends .now) (l .loop .classes) (l .loop .starts) (l .loop .ends) (l .loop .at) (l .loop .n) (l .loop .inv) (start .pre) whole (step-end (a .text .now) (l .loop .at) (c .loop-test .left)) (Tokens (l .loop .n)) refl
 
 pub cut-spec : {M : Type 1} → statement M
 cut-spec =

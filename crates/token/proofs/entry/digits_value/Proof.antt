@@ -1,17 +1,17 @@
 -- `digits_value` is right because the value is cut off at each digit as the definition cuts it off at the end.
 -- Assumes nothing.
 use mathlib.Core.Path.{_≡_, ap, _∙_}
-use Prim.Native.Nat.{ℕ, _-_, _≤_, min}
+use Prim.Native.Nat.{ℕ, _-_, _≤_}
 use native.Mathlib.Omega.{arith}
 use lib.ListN.{take, drop}
-use Rattle.token.specs.Token.{decimal}
-use Rattle.token.proofs.Decimal.{capped-none, capped-more}
-use Rattle.token.proofs.value.digits_value.Statement.{statement}
-use Rattle.token.proofs.value.digits_value.Tie as tie
+use Rattle.piece.specs.Decimal.{decimal, capped}
+use Rattle.piece.proofs.Decimal.{capped-none, capped-more}
+use Rattle.token.proofs.entry.digits_value.Statement.{statement}
+use Rattle.token.proofs.entry.digits_value.Tie as tie
 
 abbrev Inv-loop : tie.InvT-loop
 Inv-loop text start end i₀ value₀ i value =
-    (start ≤ i) × (i ≤ end) × (value ≡ min (decimal (take (i - start) (drop start text))) 4294967296)
+    (start ≤ i) × (i ≤ end) × (value ≡ capped (decimal (take (i - start) (drop start text))))
 
 abbrev μ-loop : tie.MeasureT-loop
 μ-loop text start end i₀ value₀ i value = end - i
@@ -44,7 +44,7 @@ returns c =
     let l = c .before in
     let s = l .before .before in
     let all : l .loop .i ≡ s .args .end = omega arith in
-    l .loop .inv .2 ∙ ap (λ (k : ℕ). min (decimal (take (k - s .args .start) (drop (s .args .start) (s .args .text .now)))) 4294967296) all
+    l .loop .inv .2 ∙ ap (λ (k : ℕ). capped (decimal (take (k - s .args .start) (drop (s .args .start) (s .args .text .now))))) all
 
 pub digits-value-spec : {M : Type 1} → statement M
 digits-value-spec =

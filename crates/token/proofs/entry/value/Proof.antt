@@ -1,23 +1,24 @@
 -- `number_value` is right because a sound number is in range, so that its value is not cut off and fits with either sign.
 -- Assumes nothing.
-use mathlib.Core.Path.{_≡_, refl, sym, ap, subst, _∙_}
-use Prim.Native.Nat.{ℕ, zero, suc, _+_, _≤_, _<_, min, _^_}
+use mathlib.Core.Path.{_≡_, sym, ap, _∙_}
+use Prim.Native.Nat.{ℕ, zero, suc, _+_, _≤_, _<_}
 use native.Mathlib.Omega.{arith}
 use borrow.Author.Needs.{needs}
 use lib.Dec.{lit<}
 use lib.IntN.{ℤ, pos, negℤ, _-ℤ_, +ℤ-idl}
 use mir.Syntax.{w64}
-use mir.Val.{SFits, toZ, ofZ}
+use mir.Val.{SFits, toZ}
 use mir.Facts.{toZ-ofZ}
 use mir.ValLaws.{toZ-pos}
-use Rattle.token.specs.Token.{decimal}
-use Rattle.token.specs.Table.{between}
-use Rattle.token.proofs.Laws.{token-place, number-is, negative-is, other-is}
-use Rattle.token.proofs.value.number_value.Statement.{statement}
-use Rattle.token.proofs.value.number_value.Tie as tie
+use Rattle.piece.specs.Decimal.{decimal, capped}
+use Rattle.word.specs.Word.{between}
+use Rattle.piece.specs.Piece.{largest-number, largest-negative}
+use Rattle.token.proofs.Laws.{token-place, number-is, negative-is, other-value, token-within}
+use Rattle.token.proofs.entry.value.Statement.{statement}
+use Rattle.token.proofs.entry.value.Tie as tie
 
 -- a value that is in range is not cut off, and is a signed number as it stands
-whole-value : (r d : ℕ) → r ≡ min d 4294967296 → d ≤ 4294967295 → toZ w64 r ≡ pos d
+whole-value : (r d : ℕ) → r ≡ capped d → d ≤ largest-number → toZ w64 r ≡ pos d
 whole-value r d e h =
     let same : r ≡ d = omega arith in
     toZ-pos w64 r (omega arith) ∙ ap pos same
@@ -25,14 +26,14 @@ whole-value r d e h =
 negated : (r d : ℕ) → toZ w64 r ≡ pos d → pos 0 -ℤ toZ w64 r ≡ negℤ (pos d)
 negated r d e = ap (λ (z : ℤ). pos 0 -ℤ z) e ∙ +ℤ-idl (negℤ (pos d))
 
-negated-fits : (d : ℕ) → d ≤ 2147483648 → SFits w64 (negℤ (pos d))
+negated-fits : (d : ℕ) → d ≤ largest-negative → SFits w64 (negℤ (pos d))
 negated-fits zero h = record { sfits = lit< tt }
 negated-fits (suc k) h = record { sfits = omega arith }
 
 digits-value-requires : tie.Need-digits-value-requires
 digits-value-requires c κs =
     let s = c .before .before in
-    omega (arith, token-place (s .args .text .now) (s .args .class) (s .args .start) (s .args .end) (s .pre))
+    token-within (s .args .text .now) (s .args .class) (s .args .start) (s .args .end) (s .pre)
 
 cast-result : tie.Need-cast-result
 cast-result c = search needs
@@ -52,7 +53,8 @@ add-digits-value c =
 digits-value-requires-2 : tie.Need-digits-value-requires-2
 digits-value-requires-2 c κs =
     let s = c .before .before .before in
-    omega (arith, token-place (s .args .text .now) (s .args .class) (s .args .start) (s .args .end) (s .pre))
+    let place = token-place (s .args .text .now) (s .args .class) (s .args .start) (s .args .end) (s .pre) in
+    record { ordered = omega (arith, place); inside = place .1 }
 
 cast-result-2 : tie.Need-cast-result-2
 cast-result-2 c = search needs
@@ -76,9 +78,9 @@ returns-2 c =
 returns-3 : tie.Need-returns-3
 returns-3 c =
     let s = c .before .before .before in
-    sym (other-is (s .args .text .now) (s .args .class) (s .args .start) (s .args .end) (s .pre) (c .before .if1 .left) (c .if2 .left))
+    sym (other-value (s .args .class) _ (c .before .if1 .left) (c .if2 .left))
 
-pub number-value-spec : {M : Type 1} → statement M
-number-value-spec =
+pub value-spec : {M : Type 1} → statement M
+value-spec =
     tie.close
     (tie.spec digits-value-requires cast-result returns add-digits-value digits-value-requires-2 cast-result-2 sub-result returns-2 returns-3)
