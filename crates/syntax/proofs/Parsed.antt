@@ -1,35 +1,43 @@
--- The right answer to a text, from what the table and the grammar's verdict say of it; and the third demand, from the right
--- answer. Assumes nothing.
-use Prim.Native.Nat.{ℕ, zero, suc, _+_, _≤_, _<_}
+-- The right answer to a text, from what the table and the grammar's verdict say of it; that it is the only one; and the third
+-- demand, from the right answer. Assumes nothing.
+use Prim.Native.Nat.{ℕ, zero, suc, _≤_}
 use mathlib.Core.Path.{_≡_, refl, sym, _∙_, ap, subst}
-use mathlib.Core.Logic.{_↔_}
 use mathlib.Core.Bool.{Bool, true, false, cond}
-use mathlib.Core.List.{List, [], _∷_, _++_, map}
+use mathlib.Core.List.{List, [], _∷_, map}
 use native.Mathlib.Omega.{arith}
 use lib.Dec.{ltb, leb·suc-suc}
-use lib.ListN.{length, getD, take, drop, List·getD-append, length-map, length-append, length-drop}
+use lib.ListN.{length, getD, take, drop, List·getD-append, length-map}
 use lib.Seq.{take-at, take-all}
 use borrow.Author.Tests.{lt-ltb, le-ltb, ltb-true, ltb-false}
-use Rattle.token.specs.Token.{Tok}
+use Rattle.token.specs.Token.{Tok, class-of-token}
 use Rattle.token.specs.Cut.{Cut, cut, cut-from, Ending, whole, refused}
 use Rattle.token.specs.Law.{QuotedChange}
-use Rattle.token.specs.Table.{Held, overlaid, answer-to as token-answer}
+use Rattle.token.specs.Table.{TokenTable, Lent, Held, overlaid, answer-to as token-answer}
 use Rattle.token.specs.declared.Answer.{Answer as TokenAnswer}
 use Rattle.token.specs.declared.Answer.the-variants.{Tokens, Refused}
-use Rattle.token.specs.declared.Place.{Place}
-use Rattle.token.proofs.Entries.{counted}
-use Rattle.token.proofs.Laws.{few}
+use Rattle.index.specs.declared.Place.{Place}
+use Rattle.token.proofs.Entries.{counted, cut-table}
+use Rattle.token.proofs.Samples.{sample}
 use Rattle.token.proofs.Quotes.{quotes}
 use Rattle.grammar.specs.Grammar.{smi-module}
 use Rattle.grammar.specs.Automaton.{run}
 use Rattle.grammar.specs.Table.{module-automaton}
-use Rattle.grammar.specs.Answer.{Verdict, derived, Answers, Derives, Begins}
+use Rattle.grammar.specs.Answer.{Verdict, derived}
 use Rattle.grammar.specs.Answer.{refused as refused-at}
-use Rattle.grammar.proofs.Theorem.{grammar-theorem, empty-refused}
-use Rattle.syntax.specs.Parsing.{classes, place-of, number, place, count, answer-to, Parses, Fault, ThirdDemand}
+use Rattle.grammar.specs.Derivation.{BeginsTokens, EachTerminal}
+use Rattle.grammar.proofs.Derivation.{token-theorem, one-token-verdict, no-tokens-refused}
+use Rattle.syntax.specs.Parsing.{place-of, count, answer-to, Judges, Parses, Tabled, DerivedText, ThirdDemand}
 use Rattle.syntax.specs.Placing.{placed}
 use Rattle.syntax.specs.declared.Answer.{Answer}
 use Rattle.syntax.specs.declared.Answer.the-variants.{Derived, Underived, Uncut}
+
+-- each terminal is the class of a token: of one that some text is
+each-terminal : EachTerminal class-of-token
+each-terminal c h = let s = sample c h in (s .token, s .classed)
+
+-- the run of the automaton over the classes of tokens is the right verdict on them
+run-judges : (ts : List Tok) → Judges ts (run module-automaton (map class-of-token ts))
+run-judges ts = token-theorem class-of-token each-terminal ts
 
 abbrev starts : List Tok → List ℕ
 starts ts = map (λ (t : Tok). t .start) ts
@@ -41,7 +49,8 @@ place-is (t ∷ ts) size zero = simp (lt-ltb 0 (suc (length ts)) (omega arith))
 place-is (t ∷ ts) size (suc i) = rw (leb·suc-suc (suc i) (length ts)) (place-is ts size i)
 
 -- and by an array that holds it
-array-place : (ts : List Tok) (old : List ℕ) (size i : ℕ) (b : Bool) → ltb i (length ts) ≡ b → cond b (getD (overlaid (starts ts) old) i 0) size ≡ cond b (getD (starts ts) i 0) size
+array-place : (ts : List Tok) (old : List ℕ) (size i : ℕ) (b : Bool) → ltb i (length ts) ≡ b
+    → cond b (getD (overlaid (starts ts) old) i 0) size ≡ cond b (getD (starts ts) i 0) size
 array-place ts old size i true inside =
     List·getD-append (starts ts) (drop (length (starts ts)) old) 0 i (rw length-map (ltb-true i (length ts) inside))
 array-place ts old size i false outside = refl
@@ -53,46 +62,62 @@ placed-is : (ts : List Tok) (old : List ℕ) (size : ℕ) (v : Verdict) → plac
 placed-is ts old size derived = refl
 placed-is ts old size (refused-at i) = ap (λ (p : ℕ). Underived (length ts) (record { 0 = p })) (place-held ts old size i)
 
--- an array keeps its length
-pub held-length : (t held old : List ℕ) → held ≡ overlaid (classes (cut t .tokens)) old → length t ≤ 65536 → length old ≡ 65536 → length held ≡ 65536
-held-length t held old is short long =
-    rw is (simp (length-append, length-drop, length-map) (omega (arith, few t)))
+-- what the cut left of a text that may be lent to it
+module _
+    (t : List ℕ) (a : TokenAnswer) (old-classes old-starts old-ends classes starts′ ends : List ℕ)
+    (lent : Lent t old-classes old-starts old-ends) (held : Held t a old-classes old-starts old-ends classes starts′ ends)
+  where
+    -- how many tokens it has
+    all-counted : (n : ℕ) → a ≡ Tokens n → n ≡ length (cut t .tokens)
+    all-counted n is = counted n (length (cut t .tokens)) (cut t .ending) (sym is ∙ held .answered) .0
 
-module _ (t : List ℕ) (a : TokenAnswer) (answered : a ≡ token-answer (length (cut t .tokens)) (cut t .ending)) where
-  -- how many tokens it has
-  all-counted : (n : ℕ) → a ≡ Tokens n → n ≡ length (cut t .tokens)
-  all-counted n is = counted n (length (cut t .tokens)) (cut t .ending) (sym is ∙ answered) .0
+    table : TokenTable t (cut t .tokens) classes starts′ ends (length (cut t .tokens))
+    table = cut-table t a old-classes old-starts old-ends classes starts′ ends lent held
 
-  pub count-fits : (n : ℕ) → a ≡ Tokens n → n ≤ length t
-  count-fits n is = omega (arith, all-counted n is, few t)
+    pub counted-table : (n : ℕ) → a ≡ Tokens n → TokenTable t (cut t .tokens) classes starts′ ends n
+    counted-table n is = rw (all-counted n is) table
 
-  -- a text that the cut refuses
-  pub uncut-parses : (n : ℕ) (p : Place) → a ≡ Refused n p → Parses t (Uncut n p)
-  uncut-parses n p is = record {
-    uncut = λ m q ending.
-        let same : Refused n p ≡ Refused m (record { 0 = q }) = sym is ∙ answered ∙ ap (token-answer (length (cut t .tokens))) ending in
-        cc;
-    judged = λ ending.
-        let same : Refused n p ≡ Tokens (length (cut t .tokens)) = sym is ∙ answered ∙ ap (token-answer (length (cut t .tokens))) ending in
-        let zero-one : _≡_ {A = ℕ} 0 1 = cc in
-        absurd (omega arith);
-  }
+    -- a text that the cut refuses
+    pub uncut-parses : (n : ℕ) (p : Place) → a ≡ Refused n p → Parses t (Uncut n p) × Tabled t (Uncut n p) classes starts′ ends
+    uncut-parses n p is = (
+      record {
+        uncut = λ m q ending.
+            let same : Refused n p ≡ Refused m (record { 0 = q }) = sym is ∙ held .answered ∙ ap (token-answer (length (cut t .tokens))) ending in
+            cc;
+        judged = λ ending.
+            let same : Refused n p ≡ Tokens (length (cut t .tokens)) = sym is ∙ held .answered ∙ ap (token-answer (length (cut t .tokens))) ending in
+            let zero-one : _≡_ {A = ℕ} 0 1 = cc in
+            absurd (omega arith);
+      },
+      table,
+    )
 
-  -- a text that cuts into tokens
-  pub judged-parses : (n : ℕ) (r : Answer) (held-classes held-starts old-classes old-starts : List ℕ) → a ≡ Tokens n → held-classes ≡ overlaid (classes (cut t .tokens)) old-classes → held-starts ≡ overlaid (starts (cut t .tokens)) old-starts → r ≡ placed n held-starts (length t) (run module-automaton (take n held-classes)) → Parses t r
-  judged-parses n r held-classes held-starts old-classes old-starts is cs ss answer = record {
-    uncut = λ m p ending.
-        let same : Tokens n ≡ Refused m (record { 0 = p }) = sym is ∙ answered ∙ ap (token-answer (length (cut t .tokens))) ending in
-        let zero-one : _≡_ {A = ℕ} 0 1 = cc in
-        absurd (omega arith);
-    judged = λ ending.
-        let all : take (length (cut t .tokens)) (overlaid (classes (cut t .tokens)) old-classes) ≡ classes (cut t .tokens) =
-        take-at (classes (cut t .tokens)) (drop (length (classes (cut t .tokens))) old-classes) (length (cut t .tokens)) (length-map (cut t .tokens) (λ (x : Tok). x .class)) in (
-          run module-automaton (classes (cut t .tokens)),
-          grammar-theorem (classes (cut t .tokens)),
-          answer ∙ rw (all-counted n is, cs, ss, all) (placed-is (cut t .tokens) old-starts (length t) (run module-automaton (classes (cut t .tokens)))),
-        );
-  }
+    tabled : (v : Verdict) → Tabled t (answer-to (cut t .tokens) (length t) v) classes starts′ ends
+    tabled derived = table
+    tabled (refused-at i) = table
+
+    -- a text that cuts into tokens
+    pub judged-parses : (n : ℕ) (r : Answer) → a ≡ Tokens n → r ≡ placed n starts′ (length t) (run module-automaton (take n classes)) → Parses t r × Tabled t r classes starts′ ends
+    judged-parses n r is answer =
+        let ts = cut t .tokens in
+        let verdict = run module-automaton (map class-of-token ts) in
+        let all : take (length ts) (overlaid (map class-of-token ts) old-classes) ≡ map class-of-token ts =
+        take-at (map class-of-token ts) (drop (length (map class-of-token ts)) old-classes) (length ts) (length-map ts class-of-token) in
+        let right : r ≡ answer-to ts (length t) verdict =
+        answer ∙ rw (all-counted n is, held .classes-held, held .starts-held, all) (placed-is ts old-starts (length t) verdict) in (
+          record {
+            uncut = λ m p ending.
+                let same : Tokens n ≡ Refused m (record { 0 = p }) = sym is ∙ held .answered ∙ ap (token-answer (length (cut t .tokens))) ending in
+                let zero-one : _≡_ {A = ℕ} 0 1 = cc in
+                absurd (omega arith);
+            judged = λ ending. (verdict, run-judges ts, right);
+          },
+          subst (λ (x : Answer). Tabled t x classes starts′ ends) (sym right) (tabled verdict),
+        )
+
+-- a refusal is no derivation
+never : (i : ℕ) → refused-at i ≡ derived → ⊥
+never i same = let zero-one : _≡_ {A = ℕ} 0 1 = cc in omega arith
 
 -- the answer counts no more tokens than the text has
 module _ (t : List ℕ) (answer : Answer) (right : Parses t answer) where
@@ -109,18 +134,47 @@ module _ (t : List ℕ) (answer : Answer) (right : Parses t answer) where
   pub count-few : count answer ≤ length (cut t .tokens)
   count-few = count-at (cut t .ending) refl
 
--- a refusal is no derivation
-never : (i : ℕ) → refused-at i ≡ derived → ⊥
-never i same = let zero-one : _≡_ {A = ℕ} 0 1 = cc in omega arith
+-- a text that is answered `Derived n`
+module _ (t : List ℕ) (n : ℕ) (right : Parses t (Derived n)) where
+  derived-of : (v : Verdict) → Judges (cut t .tokens) v → Derived n ≡ answer-to (cut t .tokens) (length t) v → cut t .ending ≡ whole → DerivedText t n
+  derived-of derived judges is ending =
+      let counted : n ≡ length (cut t .tokens) = cc in
+      record { cut-whole = ending; counted = sym counted; derives = judges .accepts .0 refl }
+  derived-of (refused-at i) judges is ending = let zero-one : _≡_ {A = ℕ} 0 1 = cc in absurd (omega arith)
+
+  derived-at : (e : Ending) → cut t .ending ≡ e → DerivedText t n
+  derived-at whole ending = let judged = right .judged ending in derived-of (judged .0) (judged .1) (judged .2) ending
+  derived-at (refused m p) ending =
+      let is : Derived n ≡ Uncut m (record { 0 = p }) = right .uncut m p ending in
+      let zero-one : _≡_ {A = ℕ} 0 1 = cc in
+      absurd (omega arith)
+
+  pub derived-text : DerivedText t n
+  derived-text = derived-at (cut t .ending) refl
+
+-- a text has one right answer
+module _ (t : List ℕ) (x y : Answer) (p : Parses t x) (q : Parses t y) where
+  same-at : (e : Ending) → cut t .ending ≡ e → x ≡ y
+  same-at whole ending =
+      let a = p .judged ending in
+      let b = q .judged ending in
+      a .2
+      ∙ ap (answer-to (cut t .tokens) (length t)) (one-token-verdict class-of-token (cut t .tokens) (a .0) (b .0) (a .1) (b .1))
+      ∙ sym (b .2)
+  same-at (refused m r) ending = p .uncut m r ending ∙ sym (q .uncut m r ending)
+
+  pub one-answer : x ≡ y
+  one-answer = same-at (cut t .ending) refl
 
 module _ (t : List ℕ) where
-  begun : (i : ℕ) → Answers smi-module (classes (cut t .tokens)) (refused-at i) → (b : Bool) → ltb i (length (classes (cut t .tokens))) ≡ b → Begins smi-module (take i (classes (cut t .tokens)))
+  begun : (i : ℕ) → Judges (cut t .tokens) (refused-at i) → (b : Bool) → ltb i (length (cut t .tokens)) ≡ b
+      → BeginsTokens class-of-token smi-module (take i (cut t .tokens))
   begun i right true inside = right .spoiled i refl (ltb-true _ _ inside) .0
   begun i right false outside =
-      let end : i ≡ length (classes (cut t .tokens)) = omega (arith, right .within i refl, ltb-false i (length (classes (cut t .tokens))) outside) in
-      rw (take-all i (classes (cut t .tokens)) (omega arith)) (right .cut-short (ap refused-at end) .0)
+      let end : i ≡ length (cut t .tokens) = omega (arith, right .within i refl, ltb-false i (length (cut t .tokens)) outside) in
+      rw (take-all i (cut t .tokens) (omega arith)) (right .cut-short (ap refused-at end) .0)
 
-  demand-of : (v : Verdict) → Answers smi-module (classes (cut t .tokens)) v → ThirdDemand t (answer-to (cut t .tokens) (length t) v)
+  demand-of : (v : Verdict) → Judges (cut t .tokens) v → ThirdDemand t (answer-to (cut t .tokens) (length t) v)
   demand-of derived right = record {
     exactly = (λ seven. absurd (omega arith), λ none. absurd (none (right .accepts .0 refl)));
     otherwise = (λ _. right .accepts .0 refl, λ _. refl);
@@ -132,10 +186,10 @@ module _ (t : List ℕ) where
     otherwise = (λ seven. absurd (omega arith), λ some. absurd (never i (right .accepts .1 some)));
     at-fault = λ _. record {
       index = i;
-      within = omega (arith, right .within i refl, length-map (cut t .tokens) (λ (x : Tok). x .class));
+      within = right .within i refl;
       stands = refl;
-      begun = begun i right (ltb i (length (classes (cut t .tokens)))) refl;
-      spoiled = λ inside. right .spoiled i refl (omega (arith, length-map (cut t .tokens) (λ (x : Tok). x .class))) .1;
+      begun = begun i right (ltb i (length (cut t .tokens))) refl;
+      spoiled = λ inside. right .spoiled i refl inside .1;
     };
     one-reading = right .one-reading;
   }
@@ -151,20 +205,25 @@ pub empty-text : (answer : Answer) → Parses [] answer → answer ≡ Underived
 unfolding cut cut-from
 empty-text answer right =
     let judged = right .judged refl in
-    judged .2 ∙ ap (answer-to [] 0) (empty-refused (judged .0) (judged .1))
+    judged .2 ∙ ap (answer-to [] 0) (no-tokens-refused class-of-token each-terminal (judged .0) (judged .1))
 
--- the second demand's sentence on quotes, as far as refusals 3 to 7: new bytes inside text tokens change no answer
-pub quotes-answer : (a b : List ℕ) (answer : Answer) → QuotedChange a b → Parses a answer → Parses b answer
-quotes-answer a b answer change right =
-    let same = quotes a b change in
-    record {
-      uncut = λ n p ending. right .uncut n p (ap (λ (c : Cut). c .ending) same ∙ ending);
-      judged = λ ending.
-          let judged = right .judged (ap (λ (c : Cut). c .ending) same ∙ ending) in (
-            judged .0,
-            subst (λ (c : Cut). Answers smi-module (classes (c .tokens)) (judged .0)) same (judged .1),
-            judged .2
-                ∙ ap (λ (c : Cut). answer-to (c .tokens) (length a) (judged .0)) same
-                ∙ ap (λ (n : ℕ). answer-to (cut b .tokens) n (judged .0)) (change .same-length),
-          );
-    }
+-- the second demand's sentence on quotes, as far as refusals 3 to 7: two texts that differ only in allowed bytes strictly inside
+-- text tokens have equal answers
+module _ (a b : List ℕ) (change : QuotedChange a b) where
+  carried-over : (answer : Answer) → Parses a answer → Parses b answer
+  carried-over answer right =
+      let same = quotes a b change in
+      record {
+        uncut = λ n p ending. right .uncut n p (ap (λ (c : Cut). c .ending) same ∙ ending);
+        judged = λ ending.
+            let judged = right .judged (ap (λ (c : Cut). c .ending) same ∙ ending) in (
+              judged .0,
+              subst (λ (c : Cut). Judges (c .tokens) (judged .0)) same (judged .1),
+              judged .2
+                  ∙ ap (λ (c : Cut). answer-to (c .tokens) (length a) (judged .0)) same
+                  ∙ ap (λ (n : ℕ). answer-to (cut b .tokens) n (judged .0)) (change .same-length),
+            );
+      }
+
+  pub quotes-answer : (x y : Answer) → Parses a x → Parses b y → x ≡ y
+  quotes-answer x y p q = one-answer b x y (carried-over x p) q

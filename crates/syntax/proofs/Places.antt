@@ -1,21 +1,15 @@
 -- A verdict on the tokens, and its place, read off the table's arrays. Assumes nothing.
-use Prim.Native.Nat.{ℕ, zero, suc, _≤_, _<_}
-use mathlib.Core.Path.{_≡_, refl, sym, _∙_, ap}
-use mathlib.Core.Bool.{Bool, true, false, cond}
-use mathlib.Core.List.{List, [], _∷_, _++_, map}
-use lib.Dec.{ltb, leb·suc-suc}
-use lib.ListN.{length, getD, take, drop, List·getD-append}
-use borrow.Author.Tests.{lt-ltb, le-ltb, ltb-true}
-use Rattle.token.specs.Token.{Tok}
-use Rattle.token.specs.Table.{overlaid}
-use Rattle.grammar.specs.Answer.{Verdict, derived, refused}
+use Prim.Native.Nat.{ℕ, _≤_, _<_}
+use mathlib.Core.Path.{_≡_, sym, _∙_, ap}
+use mathlib.Core.List.{List}
+use lib.ListN.{getD}
+use borrow.Author.Tests.{lt-ltb, le-ltb}
+use Rattle.grammar.specs.Answer.{Verdict, refused}
 use Rattle.grammar.specs.Reading.{verdict}
 use Rattle.grammar.specs.declared.Reading.{Reading}
 use Rattle.grammar.specs.declared.Reading.the-variants.{Refused}
-use Rattle.grammar.specs.declared.TokenIndex.{TokenIndex}
-use Rattle.syntax.specs.Parsing.{place-of, answer-to}
+use Rattle.index.specs.declared.TokenIndex.{TokenIndex}
 use Rattle.syntax.specs.Placing.{placed}
-use Rattle.syntax.specs.declared.Answer.{Answer}
 use Rattle.syntax.specs.declared.Answer.the-variants.{Derived, Underived}
 
 -- what the grammar's answer makes of a verdict that it is

@@ -4,10 +4,11 @@ ghost use Prim.Native.Nat.{_≤_};
 ghost use lib.ListN.{length, take};
 ghost use Rattle.grammar.specs.Automaton.{run};
 ghost use Rattle.grammar.specs.Table.{module-automaton};
+ghost use Rattle.token.specs.Table.{longest-text, Lent};
 ghost use Rattle.syntax.specs.Parsing.{Parses, Tabled};
 ghost use Rattle.syntax.specs.Placing.{placed};
 use grammar::Reading;
-use token::Place;
+use index::Place;
 
 // The answer to a text. specs/Parsing.antt gives each case its number and place.
 pub enum Answer {
@@ -19,17 +20,16 @@ pub enum Answer {
     Uncut(u8, Place),
 }
 
-// Cuts a text of at most 65,536 bytes into tokens and reads these by the grammar. The arrays' first entries become the
-// tokens' classes, starts and ends, as token::cut leaves them.
+// Cuts a text of at most 65,536 bytes into tokens and reads these by the grammar. The arrays become its token table.
 pub fn parse(
     text: &[u8],
     classes: &mut [u8; 65536],
     starts: &mut [u32; 65536],
     ends: &mut [u32; 65536],
 ) -> Answer
-    requires { ⌜ (length (now text) ≤ 65536) × (length (now classes) ≡ 65536) × (length (now starts) ≡ 65536) × (length (now ends) ≡ 65536) ⌝ }
+    requires { ⌜ Lent (now text) (now classes) (now starts) (now ends) ⌝ }
     ensures right { λ r. ⌜ Parses (now (text .entry)) r ⌝ }
-    ensures table { λ _. ⌜ Tabled (now (text .entry)) (now (classes .entry)) (now (starts .entry)) (now (ends .entry)) (now (classes .exit)) (now (starts .exit)) (now (ends .exit)) ⌝ }
+    ensures table { λ r. ⌜ Tabled (now (text .entry)) r (now (classes .exit)) (now (starts .exit)) (now (ends .exit)) ⌝ }
 {
     match token::cut(text, classes, starts, ends) {
         token::Answer::Refused(number, place) => Answer::Uncut(number, place),
@@ -40,7 +40,8 @@ pub fn parse(
 // What the grammar says of a text of `size` bytes that cuts into the first `count` entries of the table. The place of the
 // end is the text's length.
 fn judge(classes: &[u8; 65536], starts: &[u32; 65536], count: usize, size: usize) -> Answer
-    requires { ⌜ (count ≤ 65536) × (length (now classes) ≡ 65536) ⌝ }
+    requires few { ⌜ count ≤ longest-text ⌝ }
+    requires long { ⌜ length (now classes) ≡ longest-text ⌝ }
     ensures { λ r. ⌜ r ≡ placed count (now (starts .entry)) size (run module-automaton (take count (now (classes .entry)))) ⌝ }
 {
     let Reading::Refused(index) = grammar::recognise(classes, count) else {

@@ -3,4 +3,5 @@ pub mod Laws
 pub mod Entries
 pub mod Quotes
 pub mod Examples
+pub mod Samples
 pub mod Progress
