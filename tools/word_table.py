@@ -1,7 +1,7 @@
 #!/usr/bin/env python3
 """Prints the tables by which words are looked up.
 
-Reads the words as crates/word/specs/Word.antt has them and writes crates/word/src/table.rt: the words' spellings one
+Reads the words as crates/lexicon/specs/Word.antt has them and writes crates/lexicon/src/table.rt: the words' spellings one
 after the other, where each starts, and the hash table of their classes. With --check it writes nothing, compares, and
 exits with 1 where the file differs. What it prints is trusted in nothing: the proofs test every entry.
 """
@@ -11,8 +11,8 @@ import sys
 from pathlib import Path
 
 ROOT = Path(__file__).resolve().parent.parent
-WORDS = ROOT / "crates/word/specs/Word.antt"
-TABLE = ROOT / "crates/word/src/table.rt"
+WORDS = ROOT / "crates/lexicon/specs/Word.antt"
+TABLE = ROOT / "crates/lexicon/src/table.rt"
 
 
 def words():
@@ -69,7 +69,7 @@ def main():
     text = table()
     if "--check" in sys.argv:
         if TABLE.read_text() != text:
-            sys.exit("word_table: crates/word/src/table.rt is not what Word.antt gives")
+            sys.exit("word_table: crates/lexicon/src/table.rt is not what Word.antt gives")
     else:
         TABLE.write_text(text)
 

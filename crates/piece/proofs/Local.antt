@@ -10,8 +10,8 @@ use lib.Dec.{leb, eqb}
 use lib.ListN.{length, getD, take, drop, length-drop}
 use lib.Seq.{getD-drop}
 use Rattle.terminal.specs.Terminal.{number, negative, text, hex, assign, dots, left-brace, bar}
-use Rattle.word.specs.Byte.{class-of, quote, newline, feed, hyphen, apostrophe, colon, dot, small-hex, digit, capital-hex, capital, classed, digit-byte, hex-byte, text-byte, name-byte, comment-byte, blank-byte, two-hyphens}
-use Rattle.word.specs.Word.{longest-name, name-class}
+use Rattle.lexicon.specs.Byte.{class-of, quote, newline, feed, hyphen, apostrophe, colon, dot, small-hex, digit, capital-hex, capital, classed, digit-byte, hex-byte, text-byte, name-byte, comment-byte, blank-byte, two-hyphens}
+use Rattle.lexicon.specs.Word.{longest-name, name-class}
 use Rattle.piece.specs.Decimal.{decimal}
 use Rattle.piece.specs.Piece.{Piece, gap, token, refusal, no-token, forbidden, long-name, out-of-range, largest-number, largest-negative, span, name, misfit, non-negative, below-zero, closing, comment, after-hyphen, quoted, hex-string, after-colon, after-dot, punctuation, piece, size}
 

@@ -10,14 +10,14 @@ use lib.Dec.{T, leb, ltb, eqb, leb→le}
 use lib.ListN.{length, getD, take, drop, length-drop}
 use borrow.Author.Tests.{leb-true, leb-false, ltb-true, eqb-true}
 use Rattle.terminal.specs.Terminal.{number, negative, text, hex, assign, dots, left-brace, bar, lower, Upper, terminals, word-count}
-use Rattle.word.specs.Byte.{class-of, quote, newline, feed, hyphen, apostrophe, colon, dot, digit, capital-hex, capital, digit-byte, hex-byte, text-byte, name-byte, comment-byte, blank-byte, two-hyphens}
-use Rattle.word.specs.Word.{longest-name, is-name, words, word-classes, place-in, name-class}
+use Rattle.lexicon.specs.Byte.{class-of, quote, newline, feed, hyphen, apostrophe, colon, dot, digit, capital-hex, capital, digit-byte, hex-byte, text-byte, name-byte, comment-byte, blank-byte, two-hyphens}
+use Rattle.lexicon.specs.Word.{longest-name, is-name, words, word-classes, place-in, name-class}
 use Rattle.piece.specs.Decimal.{decimal}
 use Rattle.piece.specs.Piece.{Piece, gap, token, refusal, largest-number, largest-negative, span, name, misfit, non-negative, below-zero, closing, comment, after-hyphen, quoted, hex-string, after-colon, after-dot, punctuation, piece}
 use Rattle.index.proofs.Search.{true-false}
-use Rattle.word.proofs.Places.{inside, byte-inside}
+use Rattle.lexicon.proofs.Places.{inside, byte-inside}
 use Rattle.piece.proofs.Span.{span-in}
-use Rattle.word.proofs.Words.{word-class}
+use Rattle.lexicon.proofs.Words.{word-class}
 
 -- a token of the class c and n bytes, at the start of s
 pub record TokenFits (s : List ℕ) (c n : ℕ) : Type 0 where

@@ -7,8 +7,8 @@ use Prim.Native.Nat.{ℕ, suc, _+_}
 use lib.Dec.{leb, ltb, eqb}
 use lib.ListN.{length, getD, take, drop}
 use Rattle.terminal.specs.Terminal.{number, negative, text, hex, assign, dots, left-brace, bar}
-use Rattle.word.specs.Byte.{class-of, quote, hyphen, apostrophe, colon, dot, digit, blank-byte, digit-byte, hex-byte, text-byte, name-byte, alphanumeric, comment-byte, two-hyphens}
-use Rattle.word.specs.Word.{longest-name, name-class}
+use Rattle.lexicon.specs.Byte.{class-of, quote, hyphen, apostrophe, colon, dot, digit, blank-byte, digit-byte, hex-byte, text-byte, name-byte, alphanumeric, comment-byte, two-hyphens}
+use Rattle.lexicon.specs.Word.{longest-name, name-class}
 use Rattle.piece.specs.Decimal.{decimal}
 
 -- how many bytes at the start of s, one after the other, pass the test p: the longest reading. The test is of a byte and the

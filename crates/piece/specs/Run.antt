@@ -2,7 +2,7 @@
 -- Assumes nothing.
 use mathlib.Core.Bool.{Bool}
 use Prim.Native.Nat.{ℕ}
-use Rattle.word.specs.Byte.{classed, name-byte, comment-byte}
+use Rattle.lexicon.specs.Byte.{classed, name-byte, comment-byte}
 use Rattle.piece.specs.declared.scan.Run.{Run}
 use Rattle.piece.specs.declared.scan.Run.the-variants.{Classes, Name, Comment}
 

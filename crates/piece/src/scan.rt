@@ -3,15 +3,15 @@
 ghost use mathlib.Core.Path.{_≡_};
 ghost use Prim.Native.Nat.{_+_, _-_, _*_, _≤_, _<_};
 ghost use lib.ListN.{length, getD, take, drop};
-ghost use Rattle.word.specs.Byte.{ClassTable, class-of, classed, digit-byte, name-byte, comment-byte};
+ghost use Rattle.lexicon.specs.Byte.{ClassTable, class-of, classed, digit-byte, name-byte, comment-byte};
 ghost use Rattle.piece.specs.Decimal.{decimal, too-large, capped};
 ghost use Rattle.piece.specs.Piece.{span};
 ghost use Rattle.piece.specs.Run.{belongs-to};
-use word::byte::CAPITAL;
-use word::byte::DIGIT;
-use word::byte::HYPHEN;
-use word::byte::NEWLINE;
-use word::byte::class_of;
+use lexicon::byte::CAPITAL;
+use lexicon::byte::DIGIT;
+use lexicon::byte::HYPHEN;
+use lexicon::byte::NEWLINE;
+use lexicon::byte::class_of;
 
 // The byte at a place of the text, or 0 at its end.
 pub fn byte_at(text: &[u8], at: usize) -> u8

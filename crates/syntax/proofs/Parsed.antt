@@ -152,6 +152,14 @@ module _ (t : List ℕ) (n : ℕ) (right : Parses t (Derived n)) where
   pub derived-text : DerivedText t n
   derived-text = derived-at (cut t .ending) refl
 
+-- the table that an answer comes with
+module _ (t : List ℕ) (answer : Answer) (n : ℕ) (classes starts′ ends : List ℕ) (tabled : Tabled t answer classes starts′ ends) where
+  pub derived-table : answer ≡ Derived n → TokenTable t (cut t .tokens) classes starts′ ends n
+  derived-table is = subst (λ (x : Answer). Tabled t x classes starts′ ends) is tabled
+
+  pub underived-table : (at : Place) → answer ≡ Underived n at → TokenTable t (cut t .tokens) classes starts′ ends n
+  underived-table at is = subst (λ (x : Answer). Tabled t x classes starts′ ends) is tabled
+
 -- a text has one right answer
 module _ (t : List ℕ) (x y : Answer) (p : Parses t x) (q : Parses t y) where
   same-at : (e : Ending) → cut t .ending ≡ e → x ≡ y

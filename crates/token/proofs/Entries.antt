@@ -7,7 +7,7 @@ use native.Mathlib.Omega.{arith}
 use lib.ListN.{length, getD, length-map, length-append, length-drop, List·getD-map}
 use borrow.Author.Tests.{le-leb, lt-leb}
 use Rattle.terminal.specs.Terminal.{lower}
-use Rattle.word.specs.Word.{between, Within}
+use Rattle.lexicon.specs.Word.{between, Within}
 use Rattle.token.specs.Token.{Tok, Meaning, tok, meaning, meanings, spelling-of, no-token, class-of-token}
 use Rattle.token.specs.Cut.{Ending, whole, refused, cut, said}
 use Rattle.token.specs.Law.{Sound}

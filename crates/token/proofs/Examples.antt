@@ -3,8 +3,8 @@
 use mathlib.Core.Path.{_≡_, refl}
 use mathlib.Core.List.{[], _∷_}
 use Rattle.terminal.specs.Terminal.{lower}
-use Rattle.word.specs.Byte.{class-of, class-in, rows}
-use Rattle.word.specs.Word.{bytes, word, word-table, words, word-classes, same, place-in, name-class}
+use Rattle.lexicon.specs.Byte.{class-of, class-in, rows}
+use Rattle.lexicon.specs.Word.{bytes, word, word-table, words, word-classes, same, place-in, name-class}
 use Rattle.piece.specs.Decimal.{decimal-after}
 use Rattle.token.specs.Token.{tok, spelling-of, value-of}
 use Rattle.piece.specs.Piece.{span, name, misfit, non-negative, below-zero, comment, after-hyphen, quoted, hex-string, after-colon, after-dot, punctuation, piece}

@@ -13,17 +13,17 @@ use lib.ListN.{length, getD, take, drop, length-drop, length-map, List·getD-app
 use lib.Seq.{length-take-le, drop-cons}
 use borrow.Author.Tests.{ne-eqb}
 use Rattle.terminal.specs.Terminal.{number, negative}
-use Rattle.word.specs.Byte.{class-of}
+use Rattle.lexicon.specs.Byte.{class-of}
 use Rattle.piece.specs.Decimal.{decimal}
-use Rattle.word.specs.Word.{is-name}
+use Rattle.lexicon.specs.Word.{is-name}
 use Rattle.token.specs.Token.{Tok, tok, meaning, spelling-of, value-of}
 use Rattle.piece.specs.Piece.{Piece, gap, token, refusal, largest-number, largest-negative, piece}
 use Rattle.token.specs.Cut.{whole, refused, Cut, cut}
-use Rattle.word.specs.Word.{between, Within}
+use Rattle.lexicon.specs.Word.{between, Within}
 use Rattle.token.specs.Table.{overlaid}
 use Rattle.token.specs.Law.{Sound, Rising}
 use Rattle.piece.proofs.Pieces.{Fits, Fit}
-use Rattle.word.proofs.Places.{byte-there}
+use Rattle.lexicon.proofs.Places.{byte-there}
 use Rattle.token.proofs.Left.{left, left-whole, step-gap, step-token, step-refusal, step-end, fit-at}
 
 -- what holds at the end and at a refusal, and is kept by a gap and by a token before, holds of the cut of what is left

@@ -13,7 +13,7 @@ use lib.ListN.{length, getD, take, drop, length-drop, List·getD-eq-default}
 use lib.Seq.{getD-drop, ext-getD}
 use borrow.Author.Tests.{leb-false, lt-leb, eqb-true}
 use Rattle.terminal.specs.Terminal.{text}
-use Rattle.word.specs.Byte.{class-of, small, space, quote, classed, text-byte}
+use Rattle.lexicon.specs.Byte.{class-of, small, space, quote, classed, text-byte}
 use Rattle.token.specs.Token.{Tok, tok, meaning, spelling-of, value-of}
 use Rattle.piece.specs.Piece.{Piece, gap, token, refusal, no-token, forbidden, span, quoted, punctuation, piece, size}
 use Rattle.token.specs.Cut.{whole, refused, Cut, cut}

@@ -7,8 +7,8 @@ use Prim.Native.Nat.{ℕ, _<_}
 use lib.Dec.{T, eqb, eqb→eq}
 use lib.ListN.{length, getD}
 use Rattle.terminal.specs.Terminal.{terminals}
-use Rattle.word.specs.Byte.{class-of, class-in, rows}
-use Rattle.word.specs.Word.{bytes, word, word-table, words, word-classes, same, place-in, name-class}
+use Rattle.lexicon.specs.Byte.{class-of, class-in, rows}
+use Rattle.lexicon.specs.Word.{bytes, word, word-table, words, word-classes, same, place-in, name-class}
 use Rattle.piece.specs.Decimal.{decimal-after}
 use Rattle.piece.specs.Piece.{span, name, misfit, non-negative, below-zero, comment, after-hyphen, quoted, hex-string, after-colon, after-dot, punctuation, piece}
 use Rattle.token.specs.Token.{Tok, tok, meaning, spelling-of, value-of}

@@ -9,8 +9,8 @@ use lib.Dec.{T}
 use lib.IntN.{pos, negℤ}
 use lib.ListN.{length, getD}
 use Rattle.terminal.specs.Terminal.{terminals, number, negative, text}
-use Rattle.word.specs.Byte.{class-of, quote, text-byte}
-use Rattle.word.specs.Word.{longest-name, is-name, between}
+use Rattle.lexicon.specs.Byte.{class-of, quote, text-byte}
+use Rattle.lexicon.specs.Word.{longest-name, is-name, between}
 use Rattle.piece.specs.Piece.{largest-number, largest-negative}
 use Rattle.token.specs.Token.{Tok, tok}
 use Rattle.token.specs.Cut.{cut}

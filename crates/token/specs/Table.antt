@@ -4,7 +4,7 @@ use mathlib.Core.Path.{_≡_}
 use mathlib.Core.List.{List, _++_, map}
 use Prim.Native.Nat.{ℕ, _≤_, _<_}
 use lib.ListN.{length, getD, drop}
-use Rattle.word.specs.Word.{between}
+use Rattle.lexicon.specs.Word.{between}
 use Rattle.token.specs.Token.{Tok, tok, no-token, class-of-token}
 use Rattle.token.specs.Cut.{Ending, whole, refused, cut}
 use Rattle.token.specs.Law.{Sound}

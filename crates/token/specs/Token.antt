@@ -7,7 +7,7 @@ use lib.Dec.{eqb}
 use lib.IntN.{ℤ, pos, negℤ}
 use lib.ListN.{drop}
 use Rattle.terminal.specs.Terminal.{number, negative}
-use Rattle.word.specs.Word.{is-name}
+use Rattle.lexicon.specs.Word.{is-name}
 use Rattle.piece.specs.Decimal.{decimal}
 
 -- What a token says. Everything that a module defines is a function of what its tokens say, and of nothing else of the text.

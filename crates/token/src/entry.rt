@@ -1,15 +1,15 @@
 // What the layers above read of the token table: a token's value, and whether its name is another's or a given one.
 ghost use mathlib.Core.Path.{_≡_};
 ghost use Prim.Native.Nat.{_<_};
-ghost use Rattle.word.specs.Word.{same, between, Within};
+ghost use Rattle.lexicon.specs.Word.{same, between, Within};
 ghost use Rattle.piece.specs.Decimal.{decimal, capped};
 ghost use Rattle.token.specs.Token.{tok, value-of};
 ghost use Rattle.token.specs.Cut.{cut, meanings-in, said};
 ghost use Rattle.token.specs.Law.{Sound};
 ghost use Rattle.token.specs.Table.{TokenTable};
 use index::TokenIndex;
+use lexicon::word::same_spelling;
 use piece::more;
-use word::word::same_spelling;
 
 // The value of the digits from start to end of the text, or one more than the largest number where it is larger.
 fn digits_value(text: &[u8], start: usize, end: usize) -> u64

@@ -5,10 +5,10 @@ ghost use Rattle.token.specs.Table.{Held, Lent, refusal-of};
 pub mod entry;
 
 use index::Place;
+use lexicon::byte::CLASSES;
 use piece::Found;
 use piece::GAP;
 use piece::piece_at;
-use word::byte::CLASSES;
 
 // The answer to a cut: how many tokens the text has, or the refusal's number and place.
 pub enum Answer {

@@ -3,10 +3,11 @@
 // tokens FILE prints a line for each token: its start, its end and its class, with tabs between them; and a last line: derived
 // where the grammar derives the tokens, else refused, 7 and the place. A text that does not cut into tokens gives just one line:
 // refused, the number and the place. With several files, a line with the file's name heads each listing.
-ghost use Prim.Native.Nat.{ℕ, _≤_, _<_};
-ghost use mathlib.Core.Path.{_≡_};
-ghost use lib.ListN.{length, getD};
-ghost use Rattle.tokens.specs.Listed.{Listed};
+ghost use Prim.Native.Nat.{_≤_};
+ghost use lib.ListN.{length};
+ghost use Rattle.lexicon.specs.Word.{Within};
+ghost use Rattle.token.specs.Cut.{cut};
+ghost use Rattle.token.specs.Table.{longest-text, TokenTable};
 use libc::STDOUT_FILENO;
 use syntax::Answer;
 
@@ -103,7 +104,7 @@ fn print_refusal(number: u64, place: u64) {
 // Lists the tokens of a text and says whether the grammar derives them, or prints the refusal of a text that does not cut
 // into tokens.
 fn list_text(text: &[u8])
-    requires { ⌜ length (now text) ≤ 65536 ⌝ }
+    requires { ⌜ length (now text) ≤ longest-text ⌝ }
 {
     let mut classes = [0u8; 65536];
     let mut starts = [0u32; 65536];
@@ -130,7 +131,7 @@ fn list_tokens(
     ends: &[u32; 65536],
     count: usize,
 )
-    requires { ⌜ Listed (length (now text)) (now starts) (now ends) count ⌝ }
+    requires { ⌜ TokenTable (now text) (cut (now text) .tokens) (now classes) (now starts) (now ends) count ⌝ }
 {
     let mut i = 0;
     while i < count {
@@ -140,7 +141,7 @@ fn list_tokens(
 }
 
 fn print_token(text: &[u8], class: u8, start: usize, end: usize)
-    requires { ⌜ (start ≤ end) × (end ≤ length (now text)) ⌝ }
+    requires { ⌜ Within (now text) start end ⌝ }
 {
     io::print_decimal(STDOUT_FILENO, start as u64);
     io::write_all(STDOUT_FILENO, b"\t");
@@ -152,14 +153,14 @@ fn print_token(text: &[u8], class: u8, start: usize, end: usize)
 
 // A capital word or a mark as itself, and any other token by its class; the status and access words are lower too.
 fn print_class(text: &[u8], class: u8, start: usize, end: usize)
-    requires { ⌜ (start ≤ end) × (end ≤ length (now text)) ⌝ }
+    requires { ⌜ Within (now text) start end ⌝ }
 {
-    if class <= terminal::UNITS {
+    if terminal::READ_CREATE < class {
         io::write_all(STDOUT_FILENO, &text[start..end]);
-    } else if class <= terminal::LOWER {
-        io::write_all(STDOUT_FILENO, b"lower");
     } else if class == terminal::UPPER {
         io::write_all(STDOUT_FILENO, b"Upper");
+    } else if terminal::LOWER <= class {
+        io::write_all(STDOUT_FILENO, b"lower");
     } else if class <= terminal::NEGATIVE {
         io::write_all(STDOUT_FILENO, b"number");
     } else if class == terminal::TEXT {

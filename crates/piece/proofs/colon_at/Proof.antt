@@ -4,7 +4,7 @@ use Prim.Native.Nat.{_+_, _-_}
 use native.Mathlib.Omega.{arith}
 use native.Mathlib.Nat.{add-zero}
 use Rattle.piece.specs.Piece.{after-colon}
-use Rattle.word.proofs.Places.{byte-is, byte-not}
+use Rattle.lexicon.proofs.Places.{byte-is, byte-not}
 use borrow.Author.Needs.{needs}
 use Rattle.piece.proofs.colon_at.Statement.{statement}
 use Rattle.piece.proofs.colon_at.Tie as tie

@@ -7,8 +7,8 @@ use lib.ListN.{drop}
 use Rattle.piece.specs.Piece.{span, comment}
 use Rattle.piece.specs.declared.Found.{Found}
 use Rattle.piece.specs.Found.{gap-class}
-use Rattle.word.specs.Byte.{hyphen, comment-byte}
-use Rattle.word.proofs.Places.{rest-at, class-is, class-not, inside}
+use Rattle.lexicon.specs.Byte.{hyphen, comment-byte}
+use Rattle.lexicon.proofs.Places.{rest-at, class-is, class-not, inside}
 use borrow.Author.Needs.{needs}
 use Rattle.piece.proofs.comment_at.Statement.{statement}
 use Rattle.piece.proofs.comment_at.Tie as tie

@@ -8,8 +8,8 @@ use lib.ListN.{drop}
 use Rattle.piece.specs.Piece.{span, hex-string}
 use Rattle.piece.specs.declared.Found.{Found}
 use Rattle.terminal.specs.Terminal.{hex}
-use Rattle.word.specs.Byte.{apostrophe, hex-byte}
-use Rattle.word.proofs.Places.{byte-is, byte-not, class-is, class-not, inside, byte-inside}
+use Rattle.lexicon.specs.Byte.{apostrophe, hex-byte}
+use Rattle.lexicon.proofs.Places.{byte-is, byte-not, class-is, class-not, inside, byte-inside}
 use borrow.Author.Needs.{needs}
 use Rattle.piece.proofs.hex_at.Statement.{statement}
 use Rattle.piece.proofs.hex_at.Tie as tie

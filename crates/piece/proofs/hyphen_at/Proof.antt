@@ -5,8 +5,8 @@ use Prim.Native.Nat.{_+_, _-_}
 use native.Mathlib.Omega.{arith}
 use native.Mathlib.Nat.{add-zero}
 use Rattle.piece.specs.Piece.{after-hyphen}
-use Rattle.word.specs.Byte.{hyphen}
-use Rattle.word.proofs.Places.{rest-at, class-is, class-not, inside}
+use Rattle.lexicon.specs.Byte.{hyphen}
+use Rattle.lexicon.proofs.Places.{rest-at, class-is, class-not, inside}
 use borrow.Author.Needs.{needs}
 use Rattle.piece.proofs.hyphen_at.Statement.{statement}
 use Rattle.piece.proofs.hyphen_at.Tie as tie

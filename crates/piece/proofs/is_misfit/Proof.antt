@@ -7,8 +7,8 @@ use native.Mathlib.Omega.{arith}
 use borrow.Author.Tests.{lt-ltb, le-ltb}
 use lib.ListN.{getD, drop}
 use Rattle.piece.specs.Piece.{span, misfit}
-use Rattle.word.specs.Byte.{class-of, digit-byte}
-use Rattle.word.proofs.Places.{byte-is, byte-not, class-there}
+use Rattle.lexicon.specs.Byte.{class-of, digit-byte}
+use Rattle.lexicon.proofs.Places.{byte-is, byte-not, class-there}
 use borrow.Author.Needs.{needs}
 use Rattle.piece.proofs.is_misfit.Statement.{statement}
 use Rattle.piece.proofs.is_misfit.Tie as tie

@@ -7,9 +7,9 @@ use native.Mathlib.Nat.{add-zero}
 use borrow.Author.Tests.{le-leb, lt-leb}
 use lib.ListN.{take, drop}
 use Rattle.piece.specs.Piece.{span, name}
-use Rattle.word.specs.Word.{longest-name, NameWithin, name-class}
+use Rattle.lexicon.specs.Word.{longest-name, NameWithin, name-class}
 use Rattle.piece.specs.declared.Found.{Found}
-use Rattle.word.specs.Byte.{name-byte}
+use Rattle.lexicon.specs.Byte.{name-byte}
 use Rattle.piece.proofs.Span.{span-end-in}
 use borrow.Author.Needs.{needs}
 use Rattle.piece.proofs.name_at.Statement.{statement}

@@ -11,8 +11,8 @@ use Rattle.piece.specs.Decimal.{decimal, capped}
 use Rattle.piece.specs.Piece.{largest-negative, span, misfit, below-zero}
 use Rattle.terminal.specs.Terminal.{negative}
 use Rattle.piece.specs.declared.Found.{Found}
-use Rattle.word.specs.Byte.{digit-byte}
-use Rattle.word.proofs.Places.{byte-is, byte-not}
+use Rattle.lexicon.specs.Byte.{digit-byte}
+use Rattle.lexicon.proofs.Places.{byte-is, byte-not}
 use borrow.Author.Needs.{needs}
 use Rattle.piece.proofs.negative_at.Statement.{statement}
 use Rattle.piece.proofs.negative_at.Tie as tie

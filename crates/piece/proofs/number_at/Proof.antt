@@ -11,7 +11,7 @@ use Rattle.piece.specs.Decimal.{decimal, capped}
 use Rattle.piece.specs.Piece.{largest-number, span, misfit, non-negative}
 use Rattle.terminal.specs.Terminal.{number}
 use Rattle.piece.specs.declared.Found.{Found}
-use Rattle.word.specs.Byte.{digit-byte}
+use Rattle.lexicon.specs.Byte.{digit-byte}
 use borrow.Author.Needs.{needs}
 use Rattle.piece.proofs.number_at.Statement.{statement}
 use Rattle.piece.proofs.number_at.Tie as tie

@@ -8,10 +8,10 @@ use native.Mathlib.Omega.{arith}
 use borrow.Author.Tests.{le-leb, lt-leb, eq-eqb, ne-eqb}
 use lib.ListN.{getD}
 use Rattle.piece.specs.Piece.{piece}
-use Rattle.word.specs.Byte.{class-of, name-byte}
+use Rattle.lexicon.specs.Byte.{class-of, name-byte}
 use Rattle.piece.specs.declared.Found.{Found}
 use Rattle.piece.specs.Found.{gap-class}
-use Rattle.word.proofs.Places.{class-there, rest-at}
+use Rattle.lexicon.proofs.Places.{class-there, rest-at}
 use Rattle.piece.proofs.Span.{span-more}
 use borrow.Author.Needs.{needs}
 use Rattle.piece.proofs.piece_at.Statement.{statement}

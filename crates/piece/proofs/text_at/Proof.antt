@@ -9,8 +9,8 @@ use lib.ListN.{length, drop, length-drop}
 use Rattle.piece.specs.Piece.{forbidden, span, quoted}
 use Rattle.piece.specs.declared.Found.{Found}
 use Rattle.terminal.specs.Terminal.{text}
-use Rattle.word.specs.Byte.{class-of, text-byte}
-use Rattle.word.proofs.Places.{class-is, class-not}
+use Rattle.lexicon.specs.Byte.{class-of, text-byte}
+use Rattle.lexicon.proofs.Places.{class-is, class-not}
 use borrow.Author.Needs.{needs}
 use Rattle.piece.proofs.text_at.Statement.{statement}
 use Rattle.piece.proofs.text_at.Tie as tie

@@ -5,14 +5,14 @@ use Prim.Native.Nat.{_-_, _≤_, _<_}
 use native.Mathlib.Omega.{arith}
 use borrow.Author.Needs.{needs}
 use lib.ListN.{length, drop}
-use Rattle.word.specs.Byte.{class-of, class-in, rows}
+use Rattle.lexicon.specs.Byte.{class-of, class-in, rows}
 use Rattle.piece.specs.Piece.{piece}
 use Rattle.token.specs.Cut.{whole}
 use Rattle.token.specs.Table.{longest-text}
 use Rattle.piece.specs.Found.{found-at}
 use Rattle.piece.specs.declared.Found.{Found}
 use Rattle.token.specs.declared.Answer.the-variants.{Tokens}
-use Rattle.word.proofs.Bytes.{right, class-table}
+use Rattle.lexicon.proofs.Bytes.{right, class-table}
 use Rattle.token.proofs.Left.{step-end}
 use Rattle.token.proofs.Progress.{Progress, progress-start, progress-done, read-forward, read-gap, read-token, read-refusal}
 use Rattle.token.proofs.cut.Statement.{statement}

@@ -1,7 +1,5 @@
 -- `list_text` is safe because each token of a text lies in it, and the answer counts no more than there are. Assumes nothing.
-use Rattle.tokens.proofs.Listing.{listed}
-use mathlib.Core.Path.{ap}
-use Rattle.syntax.specs.Parsing.{count}
+use Rattle.syntax.proofs.Parsed.{derived-table, underived-table}
 use borrow.Author.Needs.{needs}
 use Rattle.tokens.proofs.list_text.Statement.{statement}
 use Rattle.tokens.proofs.list_text.Tie as tie
@@ -14,8 +12,7 @@ enum-known-answer c = search needs
 
 list-tokens-requires : tie.Need-list-tokens-requires
 list-tokens-requires c κs =
-    listed _ _ _ _ _ _ _ _ _ (c .before .before .before .before .before .before .before .before .before .before .before .pre) (c .before .before .before .before .before .before .parse .ensures .0) (c .before .before .before .before .before .before .parse .ensures .1)
-    (ap count (c .before .before .before .before .answer .given .1))
+    derived-table _ _ _ _ _ _ (c .before .before .before .before .before .before .parse .ensures .1) (c .before .before .before .before .answer .given .1)
 
 slice-aggregate-print-line : tie.Need-slice-aggregate-print-line
 slice-aggregate-print-line c = search needs
@@ -28,8 +25,7 @@ enum-known-answer-2 c = search needs
 
 list-tokens-requires-2 : tie.Need-list-tokens-requires-2
 list-tokens-requires-2 c κs =
-    listed _ _ _ _ _ _ _ _ _ (c .before .before .before .before .before .before .before .before .before .before .before .pre) (c .before .before .before .before .before .before .parse .ensures .0) (c .before .before .before .before .before .before .parse .ensures .1)
-    (ap count (c .before .before .before .before .answer2 .given .1))
+    underived-table _ _ _ _ _ _ (c .before .before .before .before .before .before .parse .ensures .1) _ (c .before .before .before .before .answer2 .given .1)
 
 print-refusal-requires : tie.Need-print-refusal-requires
 print-refusal-requires c κs = search needs

@@ -2,6 +2,7 @@
 -- Assumes nothing.
 use Prim.Native.Nat.{_-_, _≤_}
 use native.Mathlib.Omega.{arith}
+use Rattle.token.proofs.Entries.{entry-place}
 use borrow.Author.Needs.{needs}
 use Rattle.tokens.proofs.list_tokens.Statement.{statement}
 use Rattle.tokens.proofs.list_tokens.Tie as tie
@@ -28,8 +29,8 @@ cast-print-token : tie.Need-cast-print-token Inv-loop μ-loop
 cast-print-token c =
     let l = c .before .before .before in
     let s = l .before .before in
-    let inside = s .pre .inside (l .loop .i) (c .before .before .loop-test .taken) in
-    omega (arith, inside, s .good .0 .0)
+    let place = entry-place _ _ _ _ _ _ (s .pre) (l .loop .i) (c .before .before .loop-test .taken) in
+    omega (arith, place, s .good .0 .0)
 
 mul-print-token-2 : tie.Need-mul-print-token-2 Inv-loop μ-loop
 mul-print-token-2 c = search needs
@@ -41,15 +42,15 @@ cast-print-token-2 : tie.Need-cast-print-token-2 Inv-loop μ-loop
 cast-print-token-2 c =
     let l = c .before .before .before .before in
     let s = l .before .before in
-    let inside = s .pre .inside (l .loop .i) (c .before .before .before .loop-test .taken) in
-    omega (arith, inside, s .good .0 .0)
+    let place = entry-place _ _ _ _ _ _ (s .pre) (l .loop .i) (c .before .before .before .loop-test .taken) in
+    omega (arith, place, s .good .0 .0)
 
 print-token-requires : tie.Need-print-token-requires Inv-loop μ-loop
 print-token-requires c κs =
     let l = c .before .before .before .before in
     let s = l .before .before in
-    let inside = s .pre .inside (l .loop .i) (c .before .before .before .loop-test .taken) in
-    inside
+    let place = entry-place _ _ _ _ _ _ (s .pre) (l .loop .i) (c .before .before .before .loop-test .taken) in
+    record { ordered = omega (arith, place); inside = place .1 }
 
 add-i : tie.Need-add-i Inv-loop μ-loop
 add-i c = search needs

@@ -1,7 +1,7 @@
 -- `class_at` is right because it is the class of the byte there.
 -- Assumes nothing.
 use mathlib.Core.Path.{ap, _∙_}
-use Rattle.word.specs.Byte.{class-of}
+use Rattle.lexicon.specs.Byte.{class-of}
 use borrow.Author.Needs.{needs}
 use Rattle.piece.proofs.scan.class_at.Statement.{statement}
 use Rattle.piece.proofs.scan.class_at.Tie as tie

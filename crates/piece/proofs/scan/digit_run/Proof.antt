@@ -6,9 +6,9 @@ use Prim.Native.Nat.{_+_, _-_}
 use native.Mathlib.Omega.{arith}
 use borrow.Author.Needs.{needs}
 use lib.ListN.{length, getD, take, drop}
-use Rattle.word.specs.Byte.{digit, digit-byte}
+use Rattle.lexicon.specs.Byte.{digit, digit-byte}
 use Rattle.piece.specs.Decimal.{capped, decimal}
-use Rattle.word.proofs.Bytes.{classed-as, classed-not}
+use Rattle.lexicon.proofs.Bytes.{classed-as, classed-not}
 use Rattle.piece.proofs.Decimal.{capped-none, capped-more}
 use Rattle.piece.proofs.Span.{Reached, reached-more, reached-stop, reached-end}
 use Rattle.piece.proofs.scan.digit_run.Statement.{statement}

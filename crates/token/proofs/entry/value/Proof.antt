@@ -11,7 +11,7 @@ use mir.Val.{SFits, toZ}
 use mir.Facts.{toZ-ofZ}
 use mir.ValLaws.{toZ-pos}
 use Rattle.piece.specs.Decimal.{decimal, capped}
-use Rattle.word.specs.Word.{between}
+use Rattle.lexicon.specs.Word.{between}
 use Rattle.piece.specs.Piece.{largest-number, largest-negative}
 use Rattle.token.proofs.Laws.{token-place, number-is, negative-is, other-value, token-within}
 use Rattle.token.proofs.entry.value.Statement.{statement}

@@ -6,14 +6,14 @@ use native.Mathlib.Omega.{arith}
 use borrow.Author.Tests.{le-leb, lt-leb, lt-ltb, le-ltb}
 use lib.ListN.{getD, drop}
 use lib.Seq.{getD-take}
-use Rattle.word.specs.Byte.{class-of}
-use Rattle.word.specs.Word.{words, place-in, name-class}
-use Rattle.word.specs.Word.{between}
-use Rattle.word.proofs.Words.{word-class}
-use Rattle.word.proofs.Places.{byte-there}
+use Rattle.lexicon.specs.Byte.{class-of}
+use Rattle.lexicon.specs.Word.{words, place-in, name-class}
+use Rattle.lexicon.specs.Word.{between}
+use Rattle.lexicon.proofs.Words.{word-class}
+use Rattle.lexicon.proofs.Places.{byte-there}
 use borrow.Author.Needs.{needs}
-use Rattle.word.proofs.word.name_class.Statement.{statement}
-use Rattle.word.proofs.word.name_class.Tie as tie
+use Rattle.lexicon.proofs.word.name_class.Statement.{statement}
+use Rattle.lexicon.proofs.word.name_class.Tie as tie
 
 word-of-requires : tie.Need-word-of-requires
 word-of-requires c κs = search needs

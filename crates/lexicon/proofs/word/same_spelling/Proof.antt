@@ -2,13 +2,12 @@
 -- Assumes nothing.
 use mathlib.Core.Path.{_≡_, sym, ap, _∙_}
 use Prim.Native.Nat.{ℕ, _-_}
-use native.Mathlib.Omega.{arith}
 use lib.ListN.{take, drop}
-use Rattle.word.specs.Word.{same, between}
-use Rattle.word.proofs.Words.{same-length, between-length}
+use Rattle.lexicon.specs.Word.{same, between}
+use Rattle.lexicon.proofs.Words.{same-length, between-length}
 use borrow.Author.Needs.{needs}
-use Rattle.word.proofs.word.same_spelling.Statement.{statement}
-use Rattle.word.proofs.word.same_spelling.Tie as tie
+use Rattle.lexicon.proofs.word.same_spelling.Statement.{statement}
+use Rattle.lexicon.proofs.word.same_spelling.Tie as tie
 
 sub-n : tie.Need-sub-n
 sub-n c = search needs

@@ -4,11 +4,11 @@ use mathlib.Core.Path.{_≡_, refl, sym, _∙_}
 use Prim.Native.Nat.{_-_}
 use native.Mathlib.Omega.{arith}
 use Rattle.terminal.specs.Terminal.{first-word}
-use Rattle.word.specs.Word.{words, word-table, word, bytes, between, SlotWord, slot-of}
-use Rattle.word.proofs.Words.{some-class, own-slot, slot-table, found, not-found, slot-part}
+use Rattle.lexicon.specs.Word.{words, word-table, word, bytes, between, SlotWord, slot-of}
+use Rattle.lexicon.proofs.Words.{some-class, own-slot, slot-table, found, not-found, slot-part}
 use borrow.Author.Needs.{needs}
-use Rattle.word.proofs.word.word_of.Statement.{statement}
-use Rattle.word.proofs.word.word_of.Tie as tie
+use Rattle.lexicon.proofs.word.word_of.Statement.{statement}
+use Rattle.lexicon.proofs.word.word_of.Tie as tie
 
 shared-slice-read-first : tie.Need-shared-slice-read-first
 shared-slice-read-first c = search needs

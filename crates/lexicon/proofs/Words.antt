@@ -13,8 +13,8 @@ use lib.ListN.{length, getD, take, drop, length-append, length-drop}
 use lib.Seq.{drop-cons, take-append-seam, drop-append-seam, drop-append-add, getD-take, length-take-le}
 use borrow.Author.Tests.{eq-eqb, ne-eqb, eqb-true}
 use Rattle.terminal.specs.Terminal.{terminals, first-word, word-count}
-use Rattle.word.specs.Word.{words, word-table, word-classes, word, bytes, same, place-in, joined, start-of, between, Within, slot-of, slot-count, SlotWord, SlotTable, StartTable}
-use Rattle.word.proofs.Places.{byte-there}
+use Rattle.lexicon.specs.Word.{words, word-table, word-classes, word, bytes, same, place-in, joined, start-of, between, Within, slot-of, slot-count, SlotWord, SlotTable, StartTable}
+use Rattle.lexicon.proofs.Places.{byte-there}
 use Rattle.index.proofs.Tested.{passes, tested}
 use Rattle.index.proofs.Search.{true-false}
 

@@ -10,7 +10,7 @@ use lib.Dec.{eqb}
 use lib.ListN.{length, getD, drop, List·getD-eq-default}
 use lib.Seq.{getD-drop, drop-drop}
 use borrow.Author.Tests.{eq-eqb, ne-eqb}
-use Rattle.word.specs.Byte.{other, class-of, class-in, rows}
+use Rattle.lexicon.specs.Byte.{other, class-of, class-in, rows}
 
 -- what is left n bytes on is what is left at the place k
 pub rest-at : (t : List ℕ) (at n k : ℕ) → at + n ≡ k → drop n (drop at t) ≡ drop k t

@@ -9,7 +9,7 @@ use lib.ListN.{length, getD}
 use borrow.Author.Tests.{le-leb, lt-leb}
 use native.Mathlib.Decide.{decLe}
 use native.Mathlib.Omega.{arith}
-use Rattle.word.specs.Byte.{ClassTable, class-of, classed}
+use Rattle.lexicon.specs.Byte.{ClassTable, class-of, classed}
 use Rattle.index.proofs.Tested.{passes, tested}
 
 -- an entry is its byte's class

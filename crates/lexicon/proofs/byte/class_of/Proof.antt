@@ -1,8 +1,8 @@
 -- `class_of` is right because the table's rule is what it requires, and a byte is one of the 256 entries.
 -- Assumes nothing.
 use borrow.Author.Needs.{needs}
-use Rattle.word.proofs.byte.class_of.Statement.{statement}
-use Rattle.word.proofs.byte.class_of.Tie as tie
+use Rattle.lexicon.proofs.byte.class_of.Statement.{statement}
+use Rattle.lexicon.proofs.byte.class_of.Tie as tie
 
 element-copy-out-result : tie.Need-element-copy-out-result
 element-copy-out-result c = search needs

@@ -1,6 +1,6 @@
 // The class of each of the 256 byte values. specs/Byte.antt has the rule, and the numbers under the same names.
 ghost use mathlib.Core.Path.{_≡_};
-ghost use Rattle.word.specs.Byte.{class-of, ClassTable};
+ghost use Rattle.lexicon.specs.Byte.{class-of, ClassTable};
 
 // A mark of one byte has its token's number. Letters and digits are the classes up to CAPITAL, below the marks; hex digits are
 // those from SMALL_HEX to CAPITAL_HEX.

@@ -1,8 +1,8 @@
 -- `slot_class` is right because the table's rule is what it requires.
 -- Assumes nothing.
 use borrow.Author.Needs.{needs}
-use Rattle.word.proofs.word.slot_class.Statement.{statement}
-use Rattle.word.proofs.word.slot_class.Tie as tie
+use Rattle.lexicon.proofs.word.slot_class.Statement.{statement}
+use Rattle.lexicon.proofs.word.slot_class.Tie as tie
 
 element-copy-out-wide-u8 : tie.Need-element-copy-out-wide-u8
 element-copy-out-wide-u8 c = search needs

@@ -1,11 +1,11 @@
 -- `is_word` is right because the word stands among the joined spellings where it starts, up to where the next one does.
 -- Assumes nothing.
 use mathlib.Core.Path.{refl}
-use Rattle.word.specs.Word.{words, word-table, word, bytes, joined}
-use Rattle.word.proofs.Words.{start-table, starts-there, word-within, word-compared}
+use Rattle.lexicon.specs.Word.{words, word-table, word, bytes, joined}
+use Rattle.lexicon.proofs.Words.{start-table, starts-there, word-within, word-compared}
 use borrow.Author.Needs.{needs}
-use Rattle.word.proofs.word.is_word.Statement.{statement}
-use Rattle.word.proofs.word.is_word.Tie as tie
+use Rattle.lexicon.proofs.word.is_word.Statement.{statement}
+use Rattle.lexicon.proofs.word.is_word.Tie as tie
 
 spelling-start-requires : tie.Need-spelling-start-requires
 unfolding starts-there words word-table word bytes joined

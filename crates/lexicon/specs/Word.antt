@@ -9,7 +9,7 @@ use Prim.Native.String.{String, [] as none, _∷_ as char-and}
 use lib.Dec.{eqb, leb, ltb}
 use lib.ListN.{length, getD, take, drop}
 use Rattle.terminal.specs.Terminal.{AUGMENTS, BEGIN, BITS, CONTACT-INFO, DEFINITIONS, DEFVAL, DESCRIPTION, DISPLAY-HINT, END, FROM, IDENTIFIER, IMPLIED, IMPORTS, INDEX, INTEGER, LAST-UPDATED, MAX-ACCESS, MODULE-IDENTITY, NOTIFICATION-TYPE, OBJECT, OBJECT-IDENTITY, OBJECT-TYPE, OBJECTS, OCTET, OF, ORGANIZATION, REFERENCE, REVISION, SEQUENCE, SIZE, STATUS, STRING, SYNTAX, TEXTUAL-CONVENTION, UNITS, current, deprecated, obsolete, not-accessible, accessible-for-notify, read-only, read-write, read-create, lower, Upper, terminals, first-word, word-count}
-use Rattle.word.specs.Byte.{class-of, capital-hex}
+use Rattle.lexicon.specs.Byte.{class-of, capital-hex}
 
 -- a word's spelling and its class
 pub record Word : Type 0 where

@@ -2,8 +2,8 @@
 -- Assumes nothing.
 use mathlib.Core.Path.{_∙_}
 use borrow.Author.Needs.{needs}
-use Rattle.word.proofs.word.spelling_start.Statement.{statement}
-use Rattle.word.proofs.word.spelling_start.Tie as tie
+use Rattle.lexicon.proofs.word.spelling_start.Statement.{statement}
+use Rattle.lexicon.proofs.word.spelling_start.Tie as tie
 
 mul-wide-u16 : tie.Need-mul-wide-u16
 mul-wide-u16 c = search needs

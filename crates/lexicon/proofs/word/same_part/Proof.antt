@@ -5,10 +5,10 @@ use Prim.Native.Nat.{_+_, _-_, _≤_}
 use native.Mathlib.Nat.{add-zero, sub-zero}
 use native.Mathlib.Omega.{arith}
 use lib.ListN.{take, drop}
-use Rattle.word.specs.Word.{same}
-use Rattle.word.proofs.Words.{same-more, same-stops, same-ends}
-use Rattle.word.proofs.word.same_part.Statement.{statement}
-use Rattle.word.proofs.word.same_part.Tie as tie
+use Rattle.lexicon.specs.Word.{same}
+use Rattle.lexicon.proofs.Words.{same-more, same-stops, same-ends}
+use Rattle.lexicon.proofs.word.same_part.Statement.{statement}
+use Rattle.lexicon.proofs.word.same_part.Tie as tie
 
 abbrev Inv-loop : tie.InvT-loop
 Inv-loop a i b j n k₀ k =
