@@ -40,7 +40,7 @@ pub const QUOTE: u8 = terminal::BAR + 9;
 pub const OTHER: u8 = terminal::BAR + 10;
 
 // The class of each byte; a mark of one byte has its token's.
-pub const CLASSES: [u8; 256] = [
+const CLASSES: [u8; 256] = [
     OTHER, // 0
     OTHER, // 1
     OTHER, // 2
@@ -299,7 +299,14 @@ pub const CLASSES: [u8; 256] = [
     OTHER, // 255
 ];
 
-// The class of the byte b. The table is lent by the call that has it, since a constant is built where it is used.
+// The class table. Who scans bytes takes it once and lends it on, since a constant is built anew wherever it is used.
+pub fn class_table() -> [u8; 256]
+    ensures { λ r. ⌜ ClassTable r ⌝ }
+{
+    CLASSES
+}
+
+// The class of the byte b.
 pub fn class_of(table: &[u8; 256], b: u8) -> u8
     requires { ⌜ ClassTable (now table) ⌝ }
     ensures { λ r. ⌜ r ≡ class-of b ⌝ }

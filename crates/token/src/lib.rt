@@ -5,7 +5,7 @@ ghost use Rattle.token.specs.Table.{Held, Lent, refusal-of};
 pub mod entry;
 
 use index::Place;
-use lexicon::byte::CLASSES;
+use lexicon::byte::class_table;
 use piece::Found;
 use piece::GAP;
 use piece::piece_at;
@@ -37,7 +37,7 @@ pub fn cut(
     requires { ⌜ Lent (now text) (now classes) (now starts) (now ends) ⌝ }
     ensures { λ r. ⌜ Held (now (text .entry)) r (now (classes .entry)) (now (starts .entry)) (now (ends .entry)) (now (classes .exit)) (now (starts .exit)) (now (ends .exit)) ⌝ }
 {
-    let table = CLASSES;
+    let table = class_table();
     let mut at = 0;
     let mut n = 0;
     while at < text.len() {
