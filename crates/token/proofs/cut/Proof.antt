@@ -1,18 +1,18 @@
 -- `cut` is right because each turn takes one piece, and what is stored with what is left stays the cut of the whole text.
 -- Assumes nothing.
+use mathlib.Core.List.{List}
 use mathlib.Core.Path.{_≡_, refl, sym, _∙_}
-use Prim.Native.Nat.{_-_, _≤_, _<_}
+use Prim.Native.Nat.{ℕ, _-_, _≤_, _<_}
 use native.Mathlib.Omega.{arith}
 use borrow.Author.Needs.{needs}
 use lib.ListN.{length, drop}
-use Rattle.lexicon.specs.Byte.{class-of, class-in, rows}
 use Rattle.piece.specs.Piece.{piece}
 use Rattle.token.specs.Cut.{whole}
 use Rattle.token.specs.Table.{longest-text}
 use Rattle.piece.specs.Found.{found-at}
 use Rattle.piece.specs.declared.Found.{Found}
 use Rattle.token.specs.declared.Answer.the-variants.{Tokens}
-use Rattle.lexicon.proofs.Bytes.{right, class-table}
+use Rattle.lexicon.proofs.Bytes.{class-table}
 use Rattle.token.proofs.Left.{step-end}
 use Rattle.token.proofs.Progress.{Progress, progress-start, progress-done, read-forward, read-gap, read-token, read-refusal}
 use Rattle.token.proofs.cut.Statement.{statement}
@@ -24,12 +24,14 @@ Inv-loop text classes₀ starts₀ ends₀ table at₀ n₀ classes starts ends 
 abbrev μ-loop : tie.MeasureT-loop
 μ-loop text classes₀ starts₀ ends₀ table at₀ n₀ classes starts ends at n = length text - at
 
+class-table-requires : tie.Need-class-table-requires Inv-loop μ-loop
+class-table-requires c κs = search needs
+
 loop-holds : tie.Need-loop-holds Inv-loop μ-loop
 loop-holds c = progress-start _ _ _ _
 
 piece-at-requires : tie.Need-piece-at-requires Inv-loop μ-loop
-unfolding right class-of class-in rows
-piece-at-requires c κs = (c .before .loop-test .taken, class-table _ refl tt)
+piece-at-requires c κs = (c .before .loop-test .taken, c .before .before .before .class-table .ensures)
 
 enum-known-found : tie.Need-enum-known-found Inv-loop μ-loop
 enum-known-found c = search needs
@@ -40,31 +42,62 @@ enum-told c = search needs
 refusal-requires : tie.Need-refusal-requires Inv-loop μ-loop
 refusal-requires c κs = search needs
 
+-- a piece was read: where the loop is, and what it read
+abbrev Read : Type 0
+Read = tie.After-known-told Inv-loop μ-loop
+
+abbrev loop-at : Read → tie.At-loop Inv-loop μ-loop
+loop-at c = c .before .before .before .before .before .before
+
+abbrev start-of : tie.At-loop Inv-loop μ-loop → tie.Start Inv-loop μ-loop
+start-of l = l .before .before .before
+
+abbrev text-of : tie.At-loop Inv-loop μ-loop → List ℕ
+text-of l = start-of l .args .text .now
+
+abbrev class-read : Read → ℕ
+class-read c = c .before .found .given .0 .0
+
+abbrev end-read : Read → ℕ
+end-read c = c .before .found .given .0 .1 .0
+
+before-end : (c : Read) → loop-at c .loop .at < length (text-of (loop-at c))
+before-end c = c .before .before .before .before .before .loop-test .taken
+
 returns : tie.Need-returns Inv-loop μ-loop
 returns c =
     let l = c .before .before .before .before .before .before in
-    let start = l .before .before in
-    let a = start .args in
+    let found = c .before .before .before .piece-at in
+    let refused = c .before .enum-told .given in
     rw (c .refusal .ensures)
-    (read-refusal (a .text .now) (a .classes .now) (a .starts .now) (a .ends .now) (l .loop .classes) (l .loop .starts) (l .loop .ends) (l .loop .at) (l .loop .n) (l .loop .inv) (c .before .before .before .before .before .loop-test .taken) (start .pre)
-    (c .before .before .before .piece-at .result) (c .before .enum-told .given .0 .0) (c .before .enum-told .given .0 .1 .0) (c .before .enum-told .given .1) (c .before .before .before .piece-at .ensures))
+    (read-refusal _ _ _ _ _ _ _ _ _ (l .loop .inv) (c .before .before .before .before .before .loop-test .taken) (start-of l .pre)
+    (found .result) (refused .0 .0) (refused .0 .1 .0) (refused .1) (found .ensures))
 
 -- what was read is what the text holds there
-reads : (c : tie.After-known-told Inv-loop μ-loop) → Found.Piece (c .before .found .given .0 .0) (c .before .found .given .0 .1 .0) ≡ found-at (c .before .before .before .before .before .before .loop .at) (piece (drop (c .before .before .before .before .before .before .loop .at) (c .before .before .before .before .before .before .before .before .args .text .now)))
+reads : (c : Read) → Found.Piece (class-read c) (end-read c) ≡ found-at (loop-at c .loop .at) (piece (drop (loop-at c .loop .at) (text-of (loop-at c))))
 reads c = sym (c .before .found .given .1) ∙ c .before .before .before .piece-at .ensures
 
 -- so there is room for it, and it leads forward in the text
-room : (c : tie.After-known-told Inv-loop μ-loop) → (c .before .before .before .before .before .before .loop .n < longest-text) × (c .before .before .before .before .before .before .loop .at < longest-text) × (c .before .before .before .before .before .before .loop .at < c .before .found .given .0 .1 .0) × (c .before .found .given .0 .1 .0 ≤ longest-text) × (c .before .found .given .0 .1 .0 ≤ length (c .before .before .before .before .before .before .before .before .args .text .now))
+record Room (c : Read) : Type 0 where
+  entry : loop-at c .loop .n < longest-text
+  place : loop-at c .loop .at < longest-text
+  forward : loop-at c .loop .at < end-read c
+  end : end-read c ≤ longest-text
+  inside : end-read c ≤ length (text-of (loop-at c))
+
+room : (c : Read) → Room c
 room c =
-    let l = c .before .before .before .before .before .before in
-    let start = l .before .before in
-    let a = start .args in
-    let found = c .before .found .given in
-    let inside = c .before .before .before .before .before .loop-test .taken in
-    let forward =
-    read-forward (a .text .now) (a .classes .now) (a .starts .now) (a .ends .now) (l .loop .classes) (l .loop .starts)
-    (l .loop .ends) (l .loop .at) (l .loop .n) (l .loop .inv) inside (found .0 .0) (found .0 .1 .0) (reads c) in
-    omega (arith, inside, forward, l .loop .inv .few, start .pre .short)
+    let l = loop-at c in
+    let inside = before-end c in
+    let forward = read-forward _ _ _ _ _ _ _ _ _ (l .loop .inv) inside (class-read c) (end-read c) (reads c) in
+    let short = start-of l .pre .short in
+    record {
+      entry = omega (arith, inside, l .loop .inv .few, short);
+      place = omega (arith, inside, short);
+      forward = forward .0;
+      end = omega (arith, forward .1, short);
+      inside = forward .1;
+    }
 
 element-write-classes : tie.Need-element-write-classes Inv-loop μ-loop
 element-write-classes c = omega (arith, room (c .before))
@@ -95,31 +128,21 @@ loop-less c = omega (arith, room (c .before))
 
 loop-again : tie.Need-loop-again Inv-loop μ-loop
 loop-again c =
-    let l = c .before .before .before .before .before .before .before in
-    let a = l .before .before .args in
-    let found = c .before .before .found .given in
-    read-token (a .text .now) (a .classes .now) (a .starts .now) (a .ends .now) (l .loop .classes) (l .loop .starts)
-    (l .loop .ends) (l .loop .at) (l .loop .n) (l .loop .inv) (c .before .before .before .before .before .before .loop-test .taken)
-    (found .0 .0) (found .0 .1 .0) (reads (c .before)) (c .if1 .taken)
+    let r = c .before in
+    read-token _ _ _ _ _ _ _ _ _ (loop-at r .loop .inv) (before-end r) (class-read r) (end-read r) (reads r) (c .if1 .taken)
 
 loop-less-2 : tie.Need-loop-less-2 Inv-loop μ-loop
 loop-less-2 c = omega (arith, room (c .before))
 
 loop-again-2 : tie.Need-loop-again-2 Inv-loop μ-loop
 loop-again-2 c =
-    let l = c .before .before .before .before .before .before .before in
-    let a = l .before .before .args in
-    let found = c .before .before .found .given in
-    read-gap (a .text .now) (a .classes .now) (a .starts .now) (a .ends .now) (l .loop .classes) (l .loop .starts)
-    (l .loop .ends) (l .loop .at) (l .loop .n) (l .loop .inv) (c .before .before .before .before .before .before .loop-test .taken)
-    (found .0 .0) (found .0 .1 .0) (reads (c .before)) (c .if1 .left)
+    let r = c .before in
+    read-gap _ _ _ _ _ _ _ _ _ (loop-at r .loop .inv) (before-end r) (class-read r) (end-read r) (reads r) (c .if1 .left)
 
 returns-2 : tie.Need-returns-2 Inv-loop μ-loop
 returns-2 c =
     let l = c .before in
-    let start = l .before .before in
-    let a = start .args in
-    progress-done (a .text .now) (a .classes .now) (a .starts .now) (a .ends .now) (l .loop .classes) (l .loop .starts) (l .loop .ends) (l .loop .at) (l .loop .n) (l .loop .inv) (start .pre) whole (step-end (a .text .now) (l .loop .at) (c .loop-test .left)) (Tokens (l .loop .n)) refl
+    progress-done _ _ _ _ _ _ _ _ _ (l .loop .inv) (start-of l .pre) whole (step-end (text-of l) (l .loop .at) (c .loop-test .left)) (Tokens (l .loop .n)) refl
 
 pub cut-spec : {M : Type 1} → statement M
 cut-spec =
@@ -127,6 +150,7 @@ cut-spec =
     (tie.spec
     Inv-loop
     μ-loop
+    class-table-requires
     loop-holds
     piece-at-requires
     enum-known-found
