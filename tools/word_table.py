@@ -23,7 +23,7 @@ def words():
 def multipliers():
     """The numbers of the hash: those by which first byte, last byte and length count, and the number of slots."""
     text = WORDS.read_text()
-    hashing = re.search(r"^slot-of s = .*$", text, re.M).group()
+    hashing = re.search(r"^slot first last size = .*$", text, re.M).group()
     size = re.search(r"^slot-count = (\d+)$", text, re.M).group(1)
     return [int(n) for n in re.findall(r"(\d+) \*", hashing)] + [int(size)]
 

@@ -4,7 +4,7 @@
 use mathlib.Core.Path.{_≡_, refl, sym, ap, _∙_}
 use mathlib.Core.Bool.{Bool, true, false, cond, _&&_}
 use mathlib.Core.List.{List, [], _∷_, _++_, append-nil}
-use Prim.Native.Nat.{ℕ, zero, suc, _+_, _-_, _*_, _%_, _≤_, _<_}
+use Prim.Native.Nat.{ℕ, zero, suc, _+_, _-_, _≤_, _<_}
 use native.Mathlib.Decide.{decLt}
 use native.Mathlib.Numerals.{add-one}
 use native.Mathlib.Omega.{arith}
@@ -13,7 +13,7 @@ use lib.ListN.{length, getD, take, drop, length-append, length-drop}
 use lib.Seq.{drop-cons, take-append-seam, drop-append-seam, drop-append-add, getD-take, length-take-le}
 use borrow.Author.Tests.{eq-eqb, ne-eqb, eqb-true}
 use Rattle.terminal.specs.Terminal.{terminals, first-word, word-count}
-use Rattle.lexicon.specs.Word.{words, word-table, word-classes, word, bytes, same, place-in, joined, start-of, between, Within, slot-of, slot-count, SlotWord, SlotTable, StartTable}
+use Rattle.lexicon.specs.Word.{words, word-table, word-classes, word, bytes, same, place-in, joined, start-of, between, Within, slot, slot-of, slot-count, SlotWord, SlotTable, StartTable}
 use Rattle.lexicon.proofs.Places.{byte-there}
 use Rattle.index.proofs.Tested.{passes, tested}
 use Rattle.index.proofs.Search.{true-false}
@@ -207,7 +207,7 @@ pub between-length : (t : List ℕ) (start end : ℕ) → Within t start end →
 between-length t start end w = length-take-le (end - start) (drop start t) (omega (arith, length-drop start t, w .inside))
 
 -- the slot of the name from start to end of a text
-pub slot-part : (t : List ℕ) (start end : ℕ) → start < end → end ≤ length t → slot-of (take (end - start) (drop start t)) ≡ (3 * getD t start 0 + 24 * getD t (end - 1) 0 + 7 * (end - start)) % slot-count
+pub slot-part : (t : List ℕ) (start end : ℕ) → start < end → end ≤ length t → slot-of (take (end - start) (drop start t)) ≡ slot (getD t start 0) (getD t (end - 1) 0) (end - start)
 slot-part t start end h q =
     let n : length (take (end - start) (drop start t)) ≡ end - start =
     length-take-le (end - start) (drop start t) (omega (arith, length-drop start t)) in

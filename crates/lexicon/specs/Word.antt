@@ -124,9 +124,13 @@ start-of ws k = length (joined (take k ws))
 abbrev pub slot-count : ℕ
 slot-count = 128
 
--- the slot of a spelling, by which the code looks words up: a hash of its first byte, last byte and length
+-- the slot of a name with this first byte, last byte and length: the hash by which the code looks words up
+abbrev pub slot : ℕ → ℕ → ℕ → ℕ
+slot first last size = (5 * first + 3 * last + 7 * size) % slot-count
+
+-- the slot of a spelling
 abbrev pub slot-of : List ℕ → ℕ
-slot-of s = (3 * getD s 0 0 + 24 * getD s (length s - 1) 0 + 7 * length s) % slot-count
+slot-of s = slot (getD s 0 0) (getD s (length s - 1) 0) (length s)
 
 -- a token of this class is a name: lower, Upper and the words are
 abbrev pub is-name : ℕ → Bool

@@ -444,132 +444,132 @@ pub const SLOT_COUNT: usize = 128;
 
 // The class of the word in each slot.
 pub const SLOTS: [u8; SLOT_COUNT] = [
-    terminal::DISPLAY_HINT, // 0
+    NONE, // 0
     NONE, // 1
     NONE, // 2
     NONE, // 3
     NONE, // 4
-    terminal::CONTACT_INFO, // 5
+    NONE, // 5
     NONE, // 6
     NONE, // 7
     NONE, // 8
     NONE, // 9
-    NONE, // 10
-    terminal::OF, // 11
-    NONE, // 12
-    terminal::SIZE, // 13
-    terminal::ACCESSIBLE_FOR_NOTIFY, // 14
+    terminal::SIZE, // 10
+    terminal::DESCRIPTION, // 11
+    terminal::TEXTUAL_CONVENTION, // 12
+    NONE, // 13
+    NONE, // 14
     NONE, // 15
-    NONE, // 16
-    terminal::ORGANIZATION, // 17
-    NONE, // 18
+    terminal::CONTACT_INFO, // 16
+    NONE, // 17
+    terminal::OBSOLETE, // 18
     NONE, // 19
-    terminal::READ_WRITE, // 20
+    terminal::INTEGER, // 20
     NONE, // 21
-    terminal::DEFVAL, // 22
-    NONE, // 23
-    terminal::LAST_UPDATED, // 24
+    NONE, // 22
+    terminal::IMPORTS, // 23
+    terminal::INDEX, // 24
     NONE, // 25
-    NONE, // 26
-    terminal::READ_CREATE, // 27
-    NONE, // 28
+    terminal::DEFINITIONS, // 26
+    NONE, // 27
+    terminal::LAST_UPDATED, // 28
     NONE, // 29
-    NONE, // 30
+    terminal::STRING, // 30
     NONE, // 31
     NONE, // 32
     NONE, // 33
     NONE, // 34
     NONE, // 35
-    terminal::NOT_ACCESSIBLE, // 36
+    terminal::DISPLAY_HINT, // 36
     NONE, // 37
-    terminal::FROM, // 38
-    NONE, // 39
-    terminal::MODULE_IDENTITY, // 40
-    terminal::SEQUENCE, // 41
-    terminal::BITS, // 42
+    terminal::SEQUENCE, // 38
+    terminal::OBJECT_TYPE, // 39
+    terminal::REFERENCE, // 40
+    terminal::IDENTIFIER, // 41
+    terminal::OCTET, // 42
     NONE, // 43
     NONE, // 44
-    terminal::REFERENCE, // 45
-    terminal::OBJECT_IDENTITY, // 46
-    NONE, // 47
+    NONE, // 45
+    NONE, // 46
+    terminal::READ_WRITE, // 47
     NONE, // 48
-    NONE, // 49
-    terminal::OBJECT_TYPE, // 50
+    terminal::OBJECT, // 49
+    NONE, // 50
     NONE, // 51
     NONE, // 52
-    NONE, // 53
-    NONE, // 54
-    NONE, // 55
+    terminal::OBJECTS, // 53
+    terminal::READ_CREATE, // 54
+    terminal::NOT_ACCESSIBLE, // 55
     NONE, // 56
-    terminal::BEGIN, // 57
-    terminal::CURRENT, // 58
+    NONE, // 57
+    terminal::END, // 58
     NONE, // 59
-    terminal::INTEGER, // 60
+    terminal::REVISION, // 60
     NONE, // 61
-    terminal::INDEX, // 62
+    NONE, // 62
     NONE, // 63
-    NONE, // 64
+    terminal::MAX_ACCESS, // 64
     NONE, // 65
-    NONE, // 66
-    terminal::AUGMENTS, // 67
-    terminal::END, // 68
-    NONE, // 69
+    terminal::STATUS, // 66
+    NONE, // 67
+    NONE, // 68
+    terminal::UNITS, // 69
     NONE, // 70
     NONE, // 71
     NONE, // 72
-    NONE, // 73
-    terminal::TEXTUAL_CONVENTION, // 74
-    terminal::STRING, // 75
-    NONE, // 76
+    terminal::ORGANIZATION, // 73
+    NONE, // 74
+    NONE, // 75
+    terminal::NOTIFICATION_TYPE, // 76
     NONE, // 77
     NONE, // 78
     NONE, // 79
     NONE, // 80
-    terminal::IDENTIFIER, // 81
-    terminal::DEPRECATED, // 82
+    terminal::SYNTAX, // 81
+    NONE, // 82
     NONE, // 83
-    terminal::IMPORTS, // 84
+    NONE, // 84
     NONE, // 85
     NONE, // 86
-    NONE, // 87
+    terminal::BEGIN, // 87
     NONE, // 88
-    terminal::NOTIFICATION_TYPE, // 89
+    NONE, // 89
     NONE, // 90
     NONE, // 91
     NONE, // 92
     NONE, // 93
     NONE, // 94
-    NONE, // 95
+    terminal::BITS, // 95
     NONE, // 96
-    terminal::DEFINITIONS, // 97
-    NONE, // 98
-    terminal::SYNTAX, // 99
-    NONE, // 100
+    terminal::FROM, // 97
+    terminal::DEFVAL, // 98
+    terminal::ACCESSIBLE_FOR_NOTIFY, // 99
+    terminal::READ_ONLY, // 100
     NONE, // 101
-    terminal::OBJECTS, // 102
+    terminal::DEPRECATED, // 102
     NONE, // 103
     NONE, // 104
-    terminal::DESCRIPTION, // 105
-    terminal::UNITS, // 106
-    terminal::STATUS, // 107
-    terminal::IMPLIED, // 108
-    terminal::READ_ONLY, // 109
+    NONE, // 105
+    terminal::IMPLIED, // 106
+    terminal::OF, // 107
+    NONE, // 108
+    NONE, // 109
     NONE, // 110
     NONE, // 111
-    terminal::OCTET, // 112
+    NONE, // 112
     NONE, // 113
     NONE, // 114
     NONE, // 115
     NONE, // 116
-    terminal::MAX_ACCESS, // 117
-    NONE, // 118
-    terminal::OBJECT, // 119
+    terminal::MODULE_IDENTITY, // 117
+    terminal::AUGMENTS, // 118
+    NONE, // 119
     NONE, // 120
     NONE, // 121
     NONE, // 122
     NONE, // 123
-    NONE, // 124
-    terminal::OBSOLETE, // 125
-    terminal::REVISION, // 126
-    NONE, // 127
+    terminal::CURRENT, // 124
+    NONE, // 125
+    NONE, // 126
+    terminal::OBJECT_IDENTITY, // 127
 ];

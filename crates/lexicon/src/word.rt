@@ -97,7 +97,7 @@ fn word_of(text: &[u8], start: usize, end: usize) -> usize
     let last = text[end - 1] as usize;
     let class = slot_class(
         &SLOTS,
-        (3 * first + 24 * last + 7 * (end - start)) % SLOT_COUNT,
+        (5 * first + 3 * last + 7 * (end - start)) % SLOT_COUNT,
     );
     if class < FIRST_WORD {
         return WORDS;
