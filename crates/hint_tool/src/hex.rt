@@ -1,7 +1,5 @@
 // Octets that are written in hexadecimal.
 ghost use mathlib.Core.Path.{_≡_};
-ghost use Prim.Native.Nat.{_≤_};
-ghost use lib.ListN.{length};
 ghost use Rattle.hint_tool.specs.Hex.{hexDigit, Read};
 
 // How many octets were read, or that the word is not pairs of hex digits.
