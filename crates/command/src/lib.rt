@@ -1,18 +1,16 @@
-// What the programs share: their words, the lines of a list, and the message for a word that does not fit; and, passed on,
-// the words of a line and the numbers that they write. Nothing here knows of SMI.
+// What the programs share: their words, the lines of a list, the message for a word that does not fit, and what stands
+// between the words that they print. Nothing here knows of SMI.
 mod argument;
 mod line;
 mod message;
+mod print;
 
 pub use argument::arguments;
 pub use line::Line;
 pub use line::Lines;
 pub use line::next_line;
 pub use message::complain;
-pub use words::Natural;
-pub use words::Number;
+pub use print::end_line;
+pub use print::print_tab;
 pub use words::count_words;
 pub use words::part;
-pub use words::read_natural;
-pub use words::read_number;
-pub use words::same;

@@ -1,3 +1,4 @@
 pub mod Digits
+pub mod HexLaws
 pub mod Signs
 pub mod WordLaws

@@ -147,7 +147,7 @@ pub answered : (s : ℕ) (line : List ℕ) (index : ℕ) (found : Word) → foun
 answered s line index found is = (is, rw is (found-left s line index 0 (omega arith)))
 
 -- there is at least one word
-some : (s : ℕ) (line : List ℕ) → 1 ≤ length (words s line)
+pub some : (s : ℕ) (line : List ℕ) → 1 ≤ length (words s line)
 unfolding words
 some s [] = omega arith
 some s (b ∷ line) = go (eqb b s) (words s line)

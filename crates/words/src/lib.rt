@@ -1,7 +1,10 @@
-// The words of a line, and the numbers that they write. Nothing here knows of SMI, and nothing here reads or prints.
+// The words of a line, and the numbers and octets that they write. Nothing here knows of SMI, and nothing reads or prints.
+mod hex;
 mod number;
 mod word;
 
+pub use hex::Octets;
+pub use hex::read_hex;
 pub use number::Natural;
 pub use number::Number;
 pub use number::read_natural;

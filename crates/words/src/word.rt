@@ -2,6 +2,7 @@
 ghost use mathlib.Core.Path.{_≡_};
 ghost use mathlib.Core.Bool.{true};
 ghost use mathlib.Core.List.{[]};
+ghost use Prim.Native.Nat.{_≤_};
 ghost use lib.ListN.{length, getD};
 ghost use Rattle.words.specs.Words.{Found, place, words};
 
@@ -41,7 +42,8 @@ pub fn part(line: &[u8], separator: u8, index: usize) -> &[u8]
 
 // How many words there are: at least one.
 pub fn count_words(line: &[u8], separator: u8) -> usize
-    ensures { λ r. ⌜ r ≡ length (words separator (now (line .entry))) ⌝ }
+    ensures number { λ r. ⌜ r ≡ length (words separator (now (line .entry))) ⌝ }
+    ensures some { λ r. ⌜ 1 ≤ r ⌝ }
 {
     let mut n = 1;
     let mut i = 0;

@@ -3,7 +3,7 @@
 use borrow.Author.Needs.{needs}
 use mathlib.Core.Path.{sym}
 use lib.Seq.{length-take-le}
-use Rattle.hint_tool.proofs.HexLaws.{read-fits}
+use Rattle.words.proofs.HexLaws.{read-fits}
 use Rattle.hint.proofs.Answers.{length-fits}
 use Rattle.hint_tool.proofs.answer_octets.Statement.{statement}
 use Rattle.hint_tool.proofs.answer_octets.Tie as tie

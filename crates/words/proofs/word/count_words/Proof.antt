@@ -6,7 +6,7 @@ use native.Mathlib.Omega.{arith}
 use lib.ListN.{length, drop}
 use borrow.Author.Needs.{needs}
 use Rattle.words.specs.Words.{words}
-use Rattle.words.proofs.WordLaws.{count-separator, count-other, count-ended}
+use Rattle.words.proofs.WordLaws.{some, count-separator, count-other, count-ended}
 use Rattle.words.proofs.word.count_words.Statement.{statement}
 use Rattle.words.proofs.word.count_words.Tie as tie
 
@@ -47,7 +47,9 @@ loop-again c =
 returns : tie.Need-returns Inv-loop μ-loop
 returns c =
     let args = c .before .before .args in
-    omega (arith, count-ended (args .separator) (args .line .now) (c .before .loop .i) (omega arith) (omega arith))
+    let all = some (args .separator) (args .line .now) in
+    let one = count-ended (args .separator) (args .line .now) (c .before .loop .i) (omega arith) (omega arith) in
+    (omega arith, omega arith)
 
 pub count-words-spec : {M : Type 1} → statement M
 count-words-spec =

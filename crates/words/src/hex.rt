@@ -1,6 +1,6 @@
 // Octets that are written in hexadecimal.
 ghost use mathlib.Core.Path.{_≡_};
-ghost use Rattle.hint_tool.specs.Hex.{hexDigit, Read};
+ghost use Rattle.words.specs.Hex.{hex-digit, Read};
 
 // How many octets were read, or that the word is not pairs of hex digits.
 pub enum Octets {
@@ -10,7 +10,7 @@ pub enum Octets {
 
 // The value of a hex digit, or 16 where the byte is none.
 fn hex_digit(b: u8) -> u8
-    ensures { λ r. ⌜ r ≡ hexDigit b ⌝ }
+    ensures { λ r. ⌜ r ≡ hex-digit b ⌝ }
 {
     match b {
         b'0'..=b'9' => b - 48,

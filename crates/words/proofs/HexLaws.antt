@@ -7,9 +7,9 @@ use borrow.Author.Tests.{leb-true}
 use mathlib.Core.List.{List}
 use native.Mathlib.Omega.{arith}
 use lib.ListN.{length}
-use Rattle.hint_tool.specs.Hex.{hexDigit, Read, octets, odd, noDigit, noRoom}
-use Rattle.hint_tool.specs.declared.hex.Octets.{Octets}
-use Rattle.hint_tool.specs.declared.hex.Octets.the-variants.{Are, AreNot}
+use Rattle.words.specs.Hex.{hex-digit, Read, octets, odd, no-digit, no-room}
+use Rattle.words.specs.declared.hex.Octets.{Octets}
+use Rattle.words.specs.declared.hex.Octets.the-variants.{Are, AreNot}
 
 not-are : {n : ℕ} → AreNot ≡ Are n → ⊥
 not-are e = let z : _≡_ {A = ℕ} 0 1 = cc in omega arith
@@ -17,13 +17,13 @@ not-are e = let z : _≡_ {A = ℕ} 0 1 = cc in omega arith
 pub read-fits : {word out : List ℕ} {r : Octets} {n : ℕ} → Read word r out → r ≡ Are n → n ≤ length out
 read-fits {n = n} (octets {n = m} long fits pairs) e = let same : m ≡ n = cc in omega arith
 read-fits (odd o) e = absurd (not-are e)
-read-fits (noDigit i below none) e = absurd (not-are e)
-read-fits (noRoom less) e = absurd (not-are e)
+read-fits (no-digit i below none) e = absurd (not-are e)
+read-fits (no-room less) e = absurd (not-are e)
 
 -- past 15 there is 16 alone
-pub no-digit : (b : ℕ) → 15 < hexDigit b → hexDigit b ≡ 16
-unfolding hexDigit
-no-digit b = go (leb 48 b && leb b 57) (leb 65 b && leb b 70) (leb 97 b && leb b 102) (upper (leb 48 b) 57) (upper (leb 65 b) 70) (upper (leb 97 b) 102)
+pub past-digits : (b : ℕ) → 15 < hex-digit b → hex-digit b ≡ 16
+unfolding hex-digit
+past-digits b = go (leb 48 b && leb b 57) (leb 65 b && leb b 70) (leb 97 b && leb b 102) (upper (leb 48 b) 57) (upper (leb 65 b) 70) (upper (leb 97 b) 102)
   where
     upper : (low : Bool) (high : ℕ) → (low && leb b high) ≡ true → b ≤ high
     upper true high e = leb-true b high e

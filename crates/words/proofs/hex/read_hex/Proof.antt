@@ -8,10 +8,10 @@ use borrow.Author.Needs.{needs}
 use borrow.Author.Count.{below-more}
 use lib.ListN.{length, getD, set, length-set}
 use lib.Seq.{getD-set-same, getD-set-other}
-use Rattle.hint_tool.proofs.HexLaws.{no-digit}
-use Rattle.hint_tool.specs.Hex.{hexDigit, Pair, octets, odd, noDigit, noRoom}
-use Rattle.hint_tool.proofs.hex.read_hex.Statement.{statement}
-use Rattle.hint_tool.proofs.hex.read_hex.Tie as tie
+use Rattle.words.proofs.HexLaws.{past-digits}
+use Rattle.words.specs.Hex.{hex-digit, Pair, octets, odd, no-digit, no-room}
+use Rattle.words.proofs.hex.read_hex.Statement.{statement}
+use Rattle.words.proofs.hex.read_hex.Tie as tie
 
 abbrev Inv-loop : tie.InvT-loop
 Inv-loop word out₀ count i₀ out i = (length out ≡ length out₀) × (i ≤ count) × ((k : ℕ) → k < i → Pair word out k)
@@ -23,7 +23,7 @@ returns : tie.Need-returns Inv-loop μ-loop
 returns c = let w = c .before .before .before .args .word .now in odd {word = w} (omega (arith, c .if1 .taken))
 
 returns-2 : tie.Need-returns-2 Inv-loop μ-loop
-returns-2 c = noRoom (c .if2 .taken)
+returns-2 c = no-room (c .if2 .taken)
 
 loop-holds : tie.Need-loop-holds Inv-loop μ-loop
 loop-holds c = (refl, omega arith, λ (k : ℕ) h. absurd (not-suc-le-zero h))
@@ -57,7 +57,7 @@ returns-3 c =
     let w = c .before .before .before .before .before .before .before .before .before .before .before .args .word .now in
     let i = c .before .before .before .before .before .before .loop .i in
     let high = c .before .before .before .hex-digit .ensures in
-    noDigit {word = w} (2 * i) (omega arith) (no-digit (getD w (2 * i) 0) (omega (arith, c .if3 .taken)))
+    no-digit {word = w} (2 * i) (omega arith) (past-digits (getD w (2 * i) 0) (omega (arith, c .if3 .taken)))
 
 same-length-2 : tie.Need-same-length-2 Inv-loop μ-loop
 same-length-2 c = c .before .before .before .before .before .before .before .loop .inv .0
@@ -67,7 +67,7 @@ returns-4 c =
     let w = c .before .before .before .before .before .before .before .before .before .before .before .before .args .word .now in
     let i = c .before .before .before .before .before .before .before .loop .i in
     let low = c .before .before .hex-digit2 .ensures in
-    noDigit {word = w} (2 * i + 1) (omega arith) (no-digit (getD w (2 * i + 1) 0) (omega (arith, c .if4 .taken)))
+    no-digit {word = w} (2 * i + 1) (omega arith) (past-digits (getD w (2 * i + 1) 0) (omega (arith, c .if4 .taken)))
 
 mul-out : tie.Need-mul-out Inv-loop μ-loop
 mul-out c = omega arith
@@ -96,7 +96,7 @@ loop-again c =
     let new : Pair word (set (here .out) (here .i) octet) (here .i) = record {
       high = omega (arith, c .before .if3 .left);
       low = omega (arith, c .if4 .left);
-      octet = getD-set-same (here .out) (here .i) octet 0 below ∙ ap (λ (k : ℕ). k * 16 + c .before .before .hex-digit2 .result) e₁ ∙ ap (λ (k : ℕ). hexDigit (getD word (2 * here .i) 0) * 16 + k) e₂;
+      octet = getD-set-same (here .out) (here .i) octet 0 below ∙ ap (λ (k : ℕ). k * 16 + c .before .before .hex-digit2 .result) e₁ ∙ ap (λ (k : ℕ). hex-digit (getD word (2 * here .i) 0) * 16 + k) e₂;
     } in
     let old : (k : ℕ) → k < here .i → Pair word (set (here .out) (here .i) octet) k = λ (k : ℕ) h.
     let p = inv .2 k h in
