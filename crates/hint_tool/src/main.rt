@@ -93,18 +93,17 @@ fn answer_octets(hint_word: &[u8], hex: &[u8], line: u64) {
 
 // Prints an integer by a hint. One of more than 18 digits is out of range whatever it is, and goes as one that is.
 fn answer_integer(hint_word: &[u8], number: &[u8], line: u64) {
-    let mut out = io::buffer();
     match words::read_number(number) {
-        Number::Is(value) => {
-            let answer = hint::integer(hint_word, value, &mut out);
-            print_answer(answer, &out);
-        }
-        Number::Beyond(_) => {
-            let answer = hint::integer(hint_word, 4294967296, &mut out);
-            print_answer(answer, &out);
-        }
+        Number::Is(value) => print_integer(hint_word, value),
+        Number::Beyond(_) => print_integer(hint_word, 4294967296),
         Number::IsNot => complain(line, number, b"is no number"),
     }
+}
+
+fn print_integer(hint_word: &[u8], value: i64) {
+    let mut out = io::buffer();
+    let answer = hint::integer(hint_word, value, &mut out);
+    print_answer(answer, &out);
 }
 
 // Prints the text that was printed, or the refusal.

@@ -6,13 +6,9 @@ use command::Line;
 use command::Lines;
 use libc::STDIN_FILENO;
 use libc::STDOUT_FILENO;
+use words::Flag;
 use words::Natural;
 use words::Number;
-
-enum Flag {
-    Is(bool),
-    IsNot,
-}
 
 fn main() {
     let mut space = io::large_buffer();
@@ -65,23 +61,18 @@ fn answer_case(case: &[u8], separator: u8, line: u64) {
         complain(line, words::part(case, separator, 4), b"is a word too many");
         return;
     }
-    answer_words(case, separator, line, count);
-}
-
-// Answers a case of three or four words.
-fn answer_words(case: &[u8], separator: u8, line: u64, count: usize) {
     let state_word = words::part(case, separator, 0);
     let Natural::Is(state) = words::read_natural(state_word) else {
         complain(line, state_word, b"is no state number");
         return;
     };
     let complete_word = words::part(case, separator, 1);
-    let Flag::Is(complete) = read_flag(complete_word) else {
+    let Flag::Is(complete) = words::read_flag(complete_word) else {
         complain(line, complete_word, b"is neither yes nor no");
         return;
     };
     let willing_word = words::part(case, separator, 2);
-    let Flag::Is(willing) = read_flag(willing_word) else {
+    let Flag::Is(willing) = words::read_flag(willing_word) else {
         complain(line, willing_word, b"is neither yes nor no");
         return;
     };
@@ -95,16 +86,6 @@ fn answer_words(case: &[u8], separator: u8, line: u64, count: usize) {
         return;
     };
     print_answer(value_word, value, state, complete, willing);
-}
-
-fn read_flag(word: &[u8]) -> Flag {
-    if words::same(word, b"yes") {
-        return Flag::Is(true);
-    }
-    if words::same(word, b"no") {
-        return Flag::Is(false);
-    }
-    Flag::IsNot
 }
 
 // Prints a line for each set value that RFC 2579 names.

@@ -1,8 +1,11 @@
-// The words of a line, and the numbers and octets that they write. Nothing here knows of SMI, and nothing reads or prints.
+// The words of a line, and the numbers, octets and flags that they write. Nothing here knows of SMI, and nothing reads or prints.
+mod flag;
 mod hex;
 mod number;
 mod word;
 
+pub use flag::Flag;
+pub use flag::read_flag;
 pub use hex::Octets;
 pub use hex::read_hex;
 pub use number::Natural;
