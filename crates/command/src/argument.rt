@@ -25,7 +25,8 @@ pub fn arguments(buf: &mut [u8]) -> usize
 // one more than buf has, where it does not fit.
 fn append(buf: &mut [u8], at: usize, index: usize) -> usize
     requires { ⌜ at ≤ length (now buf) ⌝ }
-    ensures { λ r. ⌜ (r ≤ length (now (buf .entry)) + 1) × (length (now (buf .exit)) ≡ length (now (buf .entry))) ⌝ }
+    ensures inside { λ r. ⌜ r ≤ length (now (buf .entry)) + 1 ⌝ }
+    ensures size { λ _. ⌜ length (now (buf .exit)) ≡ length (now (buf .entry)) ⌝ }
 {
     if index == 1 {
         return argument(buf, at, index);
@@ -40,7 +41,8 @@ fn append(buf: &mut [u8], at: usize, index: usize) -> usize
 // The same without the byte 0.
 fn argument(buf: &mut [u8], at: usize, index: usize) -> usize
     requires { ⌜ at ≤ length (now buf) ⌝ }
-    ensures { λ r. ⌜ (r ≤ length (now (buf .entry)) + 1) × (length (now (buf .exit)) ≡ length (now (buf .entry))) ⌝ }
+    ensures inside { λ r. ⌜ r ≤ length (now (buf .entry)) + 1 ⌝ }
+    ensures size { λ _. ⌜ length (now (buf .exit)) ≡ length (now (buf .entry)) ⌝ }
 {
     let n = os::arg(index, &mut buf[at..]);
     if os::errno() != 0 {

@@ -37,7 +37,8 @@ pub fn read_number(word: &[u8]) -> Number
 }
 
 fn starts_with_minus(word: &[u8]) -> bool
-    ensures { λ r. ⌜ (r ≡ eqb (getD (now (word .entry)) 0 0) 45) × (r ≡ true → 1 ≤ length (now (word .entry))) ⌝ }
+    ensures minus { λ r. ⌜ r ≡ eqb (getD (now (word .entry)) 0 0) 45 ⌝ }
+    ensures some { λ r. ⌜ (r ≡ true → 1 ≤ length (now (word .entry))) ⌝ }
 {
     if word.len() == 0 {
         return false;
@@ -115,7 +116,8 @@ fn all_digits(word: &[u8], from: usize) -> bool
 
 // The value of the digits from index `from` on, or the limit where it is larger.
 fn value(word: &[u8], from: usize) -> u64
-    requires { ⌜ (from ≤ length (now word)) × (all-digits (drop from (now word)) ≡ true) ⌝ }
+    requires inside { ⌜ from ≤ length (now word) ⌝ }
+    requires digits { ⌜ all-digits (drop from (now word)) ≡ true ⌝ }
     ensures { λ r. ⌜ r ≡ min (decimal-after 0 (drop from (now (word .entry)))) limit ⌝ }
 {
     let mut n: u64 = 0;
@@ -129,7 +131,8 @@ fn value(word: &[u8], from: usize) -> u64
 
 // The value of digits behind which one more digit stands, or the limit where it is larger.
 fn more(n: u64, byte: u8) -> u64
-    requires { ⌜ (n ≤ limit) × (48 ≤ byte) ⌝ }
+    requires limited { ⌜ n ≤ limit ⌝ }
+    requires digit { ⌜ 48 ≤ byte ⌝ }
     ensures { λ r. ⌜ r ≡ min (n * 10 + (byte - 48)) limit ⌝ }
 {
     let next = n * 10 + (byte - b'0') as u64;
