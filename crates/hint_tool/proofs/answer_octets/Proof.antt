@@ -36,10 +36,14 @@ buffer-requires : tie.Need-buffer-requires
 buffer-requires c κs = search needs
 
 array-share-prefix-space : tie.Need-array-share-prefix-space
-array-share-prefix-space c = read-fits (c .before .before .before .before .before .read-hex .ensures) (c .before .before .n .given .1)
+array-share-prefix-space c =
+    let found = c .before .before in
+    read-fits (found .before .before .before .read-hex .ensures) (found .n .given .1)
 
 slice-aggregate-octets : tie.Need-slice-aggregate-octets
-slice-aggregate-octets c = sym (length-take-le _ _ (read-fits (c .before .before .before .before .before .before .read-hex .ensures) (c .before .before .before .n .given .1)))
+slice-aggregate-octets c =
+    let found = c .before .before .before in
+    sym (length-take-le _ _ (read-fits (found .before .before .before .read-hex .ensures) (found .n .given .1)))
 
 slice-aggregate-octets-2 : tie.Need-slice-aggregate-octets-2
 slice-aggregate-octets-2 c = search needs

@@ -21,9 +21,10 @@ write-all-requires c κs = search needs
 
 slice-aggregate-write-all-2 : tie.Need-slice-aggregate-write-all-2
 slice-aggregate-write-all-2 c =
-    let n = c .before .before .before .before .before .length in
-    let out = c .before .before .before .before .before .before .before .args .out .now in
-    sym (length-take-le (n .result) out (omega (arith, n .ensures, c .before .before .before .before .before .before .before .pre)))
+    let asked = c .before .before .before .before .before in
+    let start = asked .before .before in
+    let n = asked .length in
+    sym (length-take-le (n .result) (start .args .out .now) (omega (arith, n .ensures, start .pre)))
 
 write-all-requires-2 : tie.Need-write-all-requires-2
 write-all-requires-2 c κs = search needs

@@ -30,10 +30,14 @@ argument-requires-2 : tie.Need-argument-requires-2
 argument-requires-2 c κs = simp length-set (omega arith)
 
 same-length-2 : tie.Need-same-length-2
-same-length-2 c = omega (arith, length-set (c .before .before .before .before .before .before .before .args .buf .now) (c .before .before .before .before .before .before .before .args .at) 0)
+same-length-2 c =
+    let args = c .before .before .before .before .before .before .before .args in
+    omega (arith, length-set (args .buf .now) (args .at) 0)
 
 returns-3 : tie.Need-returns-3
-returns-3 c = omega (arith, length-set (c .before .before .before .before .before .before .before .args .buf .now) (c .before .before .before .before .before .before .before .args .at) 0)
+returns-3 c =
+    let args = c .before .before .before .before .before .before .before .args in
+    omega (arith, length-set (args .buf .now) (args .at) 0)
 
 pub append-spec : {M : Type 1} → statement M
 append-spec =

@@ -28,7 +28,14 @@ returns-3 : tie.Need-returns-3
 unfolding Rattle.words.specs.Hex.hex-digit
 returns-3 c =
     let b = c .before .before .before .before .before .before .args .b in
-    simp (le-leb 48 b (omega arith), lt-leb b 57 (omega arith), le-leb 65 b (omega arith), lt-leb b 70 (omega arith), le-leb 97 b (omega arith), le-leb b 102 (omega arith))
+    simp (
+      le-leb 48 b (omega arith),
+      lt-leb b 57 (omega arith),
+      le-leb 65 b (omega arith),
+      lt-leb b 70 (omega arith),
+      le-leb 97 b (omega arith),
+      le-leb b 102 (omega arith),
+    )
 
 returns-4 : tie.Need-returns-4
 unfolding Rattle.words.specs.Hex.hex-digit
@@ -46,13 +53,26 @@ returns-6 : tie.Need-returns-6
 unfolding Rattle.words.specs.Hex.hex-digit
 returns-6 c =
     let b = c .before .before .before .before .before .args .b in
-    simp (le-leb 48 b (omega arith), lt-leb b 57 (omega arith), le-leb 65 b (omega arith), lt-leb b 70 (omega arith), lt-leb 97 b (omega arith))
+    simp (
+      le-leb 48 b (omega arith),
+      lt-leb b 57 (omega arith),
+      le-leb 65 b (omega arith),
+      lt-leb b 70 (omega arith),
+      lt-leb 97 b (omega arith),
+    )
 
 returns-7 : tie.Need-returns-7
 unfolding Rattle.words.specs.Hex.hex-digit
 returns-7 c =
     let b = c .before .before .before .before .before .before .args .b in
-    simp (le-leb 48 b (omega arith), lt-leb b 57 (omega arith), le-leb 65 b (omega arith), lt-leb b 70 (omega arith), le-leb 97 b (omega arith), lt-leb b 102 (omega arith))
+    simp (
+      le-leb 48 b (omega arith),
+      lt-leb b 57 (omega arith),
+      le-leb 65 b (omega arith),
+      lt-leb b 70 (omega arith),
+      le-leb 97 b (omega arith),
+      lt-leb b 102 (omega arith),
+    )
 
 pub hex-digit-spec : {M : Type 1} → statement M
 hex-digit-spec =

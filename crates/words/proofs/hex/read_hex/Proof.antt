@@ -1,14 +1,12 @@
 -- `read_hex` is right: at i each octet before i is what its two digits write. The measure is the octets left.
 -- Assumes nothing.
 use Prim.Native.Nat.{ℕ, _+_, _-_, _*_, _/_, _<_, _≤_}
-use mathlib.Core.Path.{_≡_, refl, ap, _∙_}
+use mathlib.Core.Path.{_≡_, refl}
 use native.Mathlib.Omega.{arith}
 use native.Mathlib.Nat.{not-suc-le-zero}
 use borrow.Author.Needs.{needs}
-use borrow.Author.Count.{below-more}
-use lib.ListN.{length, getD, set, length-set}
-use lib.Seq.{getD-set-same, getD-set-other}
-use Rattle.words.proofs.HexLaws.{past-digits}
+use lib.ListN.{length, getD, length-set}
+use Rattle.words.proofs.HexLaws.{past-digits, pairs-more}
 use Rattle.words.specs.Hex.{hex-digit, Pair, octets, odd, no-digit, no-room}
 use Rattle.words.proofs.hex.read_hex.Statement.{statement}
 use Rattle.words.proofs.hex.read_hex.Tie as tie
@@ -50,24 +48,26 @@ hex-digit-requires-2 : tie.Need-hex-digit-requires-2 Inv-loop μ-loop
 hex-digit-requires-2 c κs = search needs
 
 same-length : tie.Need-same-length Inv-loop μ-loop
-same-length c = c .before .before .before .before .before .before .loop .inv .0
+same-length c = search needs
 
 returns-3 : tie.Need-returns-3 Inv-loop μ-loop
 returns-3 c =
-    let w = c .before .before .before .before .before .before .before .before .before .before .before .args .word .now in
-    let i = c .before .before .before .before .before .before .loop .i in
+    let here = c .before .before .before .before .before .before in
+    let word = here .before .before .before .before .before .args .word .now in
+    let i = here .loop .i in
     let high = c .before .before .before .hex-digit .ensures in
-    no-digit {word = w} (2 * i) (omega arith) (past-digits (getD w (2 * i) 0) (omega (arith, c .if3 .taken)))
+    no-digit {word = word} (2 * i) (omega arith) (past-digits (getD word (2 * i) 0) (omega (arith, c .if3 .taken)))
 
 same-length-2 : tie.Need-same-length-2 Inv-loop μ-loop
-same-length-2 c = c .before .before .before .before .before .before .before .loop .inv .0
+same-length-2 c = search needs
 
 returns-4 : tie.Need-returns-4 Inv-loop μ-loop
 returns-4 c =
-    let w = c .before .before .before .before .before .before .before .before .before .before .before .before .args .word .now in
-    let i = c .before .before .before .before .before .before .before .loop .i in
+    let here = c .before .before .before .before .before .before .before in
+    let word = here .before .before .before .before .before .args .word .now in
+    let i = here .loop .i in
     let low = c .before .before .hex-digit2 .ensures in
-    no-digit {word = w} (2 * i + 1) (omega arith) (past-digits (getD w (2 * i + 1) 0) (omega (arith, c .if4 .taken)))
+    no-digit {word = word} (2 * i + 1) (omega arith) (past-digits (getD word (2 * i + 1) 0) (omega (arith, c .if4 .taken)))
 
 mul-out : tie.Need-mul-out Inv-loop μ-loop
 mul-out c = omega arith
@@ -86,34 +86,30 @@ loop-less c = omega arith
 
 loop-again : tie.Need-loop-again Inv-loop μ-loop
 loop-again c =
-    let word = c .before .before .before .before .before .before .before .before .before .before .before .before .args .word .now in
-    let here = c .before .before .before .before .before .before .before .loop in
-    let inv = here .inv in
-    let octet = c .before .before .before .before .hex-digit .result * 16 + c .before .before .hex-digit2 .result in
-    let below : here .i < length (here .out) = omega (arith, c .before .before .before .before .before .before .before .before .if2 .left) in
-    let e₁ = c .before .before .before .before .hex-digit .ensures in
-    let e₂ = c .before .before .hex-digit2 .ensures in
-    let new : Pair word (set (here .out) (here .i) octet) (here .i) = record {
-      high = omega (arith, c .before .if3 .left);
-      low = omega (arith, c .if4 .left);
-      octet = getD-set-same (here .out) (here .i) octet 0 below ∙ ap (λ (k : ℕ). k * 16 + c .before .before .hex-digit2 .result) e₁ ∙ ap (λ (k : ℕ). hex-digit (getD word (2 * here .i) 0) * 16 + k) e₂;
-    } in
-    let old : (k : ℕ) → k < here .i → Pair word (set (here .out) (here .i) octet) k = λ (k : ℕ) h.
-    let p = inv .2 k h in
-    record {
-      high = p .high;
-      low = p .low;
-      octet = getD-set-other (here .out) (here .i) k octet 0 (λ e. omega arith) ∙ p .octet;
-    } in
-    (simp length-set (inv .0), omega arith, below-more _ (here .i) old new)
+    let here = c .before .before .before .before .before .before .before in
+    let word = here .before .before .before .before .before .args .word .now in
+    let high = c .before .before .before .before .hex-digit in
+    let low = c .before .before .hex-digit2 in
+    let inside : here .loop .i < length (here .loop .out) = omega (arith, here .before .if2 .left) in (
+      simp length-set (here .loop .inv .0),
+      omega arith,
+      pairs-more word (here .loop .out) (here .loop .i) (high .result) (low .result) inside (high .ensures) (low .ensures)
+          (omega (arith, c .before .if3 .left))
+          (omega (arith, c .if4 .left))
+          (here .loop .inv .2),
+    )
 
 same-length-3 : tie.Need-same-length-3 Inv-loop μ-loop
-same-length-3 c = c .before .loop .inv .0
+same-length-3 c = search needs
 
 returns-5 : tie.Need-returns-5 Inv-loop μ-loop
 returns-5 c =
-    let end : c .before .loop .i ≡ length (c .before .before .before .before .before .before .args .word .now) / 2 = omega arith in
-    octets {word = c .before .before .before .before .before .before .args .word .now} {out = c .before .loop .out} {n = length (c .before .before .before .before .before .before .args .word .now) / 2} (omega arith) (omega (arith, c .before .before .if2 .left)) (λ (k : ℕ) h. c .before .loop .inv .2 k (omega arith))
+    let here = c .before in
+    let word = here .before .before .before .before .before .args .word .now in
+    let end : here .loop .i ≡ length word / 2 = omega arith in
+    octets {word = word} {out = here .loop .out} {n = length word / 2} (omega arith)
+    (omega (arith, here .before .if2 .left))
+    (λ (k : ℕ) h. here .loop .inv .2 k (omega arith))
 
 pub read-hex-spec : {M : Type 1} → statement M
 read-hex-spec =

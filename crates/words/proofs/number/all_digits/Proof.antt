@@ -43,10 +43,13 @@ loop-less c = search needs
 loop-again : tie.Need-loop-again Inv-loop μ-loop
 loop-again c =
     let at = c .before .before .before .before .before in
-    (omega arith, at .loop .inv .1 ∙ past-digit (at .before .args .word .now) (at .loop .i) (omega arith) (omega arith) (omega arith))
+    let word = at .before .args .word .now in
+    (omega arith, at .loop .inv .1 ∙ past-digit word (at .loop .i) (omega arith) (omega arith) (omega arith))
 
 returns-3 : tie.Need-returns-3 Inv-loop μ-loop
-returns-3 c = sym (c .before .loop .inv .1 ∙ digits-ended (c .before .before .args .word .now) (c .before .loop .i) (omega arith) (omega arith))
+returns-3 c =
+    let at = c .before in
+    sym (at .loop .inv .1 ∙ digits-ended (at .before .args .word .now) (at .loop .i) (omega arith) (omega arith))
 
 pub all-digits-spec : {M : Type 1} → statement M
 all-digits-spec =

@@ -1,4 +1,4 @@
--- `words::number::below_zero` meets its contract: a number below the limit has a negative, which is read back as it is. Assumes nothing.
+-- `words::number::below_zero` meets its contract: the negative of a number below the limit is read back as it is. Assumes nothing.
 use Rattle.words.proofs.Signs.{small-number, fits, turned-fits, turned-back}
 use mathlib.Core.Path.{sym, ap, _∙_}
 use Rattle.words.specs.Decimal.{below}
@@ -23,7 +23,9 @@ enum-told-2 : tie.Need-enum-told-2
 enum-told-2 c = search needs
 
 returns : tie.Need-returns
-returns c = ap Is (turned-back _ (small-number _ _ (c .before .natural .given .1) (c .before .before .before .pre))) ∙ sym (ap below (c .before .natural .given .1))
+returns c =
+    let is = c .before .natural .given .1 in
+    ap Is (turned-back _ (small-number _ _ is (c .before .before .before .pre))) ∙ sym (ap below is)
 
 returns-2 : tie.Need-returns-2
 returns-2 c = search needs

@@ -20,7 +20,9 @@ enum-told-2 : tie.Need-enum-told-2
 enum-told-2 c = search needs
 
 returns : tie.Need-returns
-returns c = ap Is (read-back _ (small-number _ _ (c .before .natural .given .1) (c .before .before .before .pre))) ∙ sym (ap above (c .before .natural .given .1))
+returns c =
+    let is = c .before .natural .given .1 in
+    ap Is (read-back _ (small-number _ _ is (c .before .before .before .pre))) ∙ sym (ap above is)
 
 returns-2 : tie.Need-returns-2
 returns-2 c = search needs

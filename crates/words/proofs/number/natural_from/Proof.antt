@@ -22,15 +22,19 @@ value-requires c κs = (c .before .before .before .before .pre, sym (c .before .
 
 returns-3 : tie.Need-returns-3
 returns-3 c =
+    let tested = c .before .before in
+    let digits = sym (tested .before .all-digits .ensures) ∙ not-false _ (tested .if2 .left) in
     sym
-    (small-digits _ _ (simp length-drop (omega arith)) (sym (c .before .before .before .all-digits .ensures) ∙ not-false _ (c .before .before .if2 .left))
+    (small-digits _ _ (simp length-drop (omega arith)) digits
     (c .before .value .ensures)
     (c .if3 .taken))
 
 returns-4 : tie.Need-returns-4
 returns-4 c =
+    let tested = c .before .before in
+    let digits = sym (tested .before .all-digits .ensures) ∙ not-false _ (tested .if2 .left) in
     sym
-    (large-digits _ _ (simp length-drop (omega arith)) (sym (c .before .before .before .all-digits .ensures) ∙ not-false _ (c .before .before .if2 .left))
+    (large-digits _ _ (simp length-drop (omega arith)) digits
     (c .before .value .ensures)
     (c .if3 .left))
 

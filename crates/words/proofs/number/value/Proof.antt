@@ -1,4 +1,4 @@
--- `words::number::value` meets its contract: the value so far and the digits left make the whole value, up to the limit. Assumes nothing.
+-- `words::number::value` is right: the value so far and the digits left make the whole value, up to the limit. Assumes nothing.
 use Rattle.words.specs.Decimal.{all-digits, decimal-after, limit}
 use mathlib.Core.Bool.{true}
 use native.Mathlib.Omega.{arith}
@@ -11,7 +11,11 @@ use Rattle.words.proofs.number.value.Statement.{statement}
 use Rattle.words.proofs.number.value.Tie as tie
 
 abbrev Inv-loop : tie.InvT-loop
-Inv-loop word from n₀ i₀ n i = (n ≤ limit) × (i ≤ length word) × (all-digits (drop i word) ≡ true) × (min (decimal-after n (drop i word)) limit ≡ min (decimal-after 0 (drop from word)) limit)
+Inv-loop word from n₀ i₀ n i =
+    (n ≤ limit)
+    × (i ≤ length word)
+    × (all-digits (drop i word) ≡ true)
+    × (min (decimal-after n (drop i word)) limit ≡ min (decimal-after 0 (drop from word)) limit)
 
 abbrev μ-loop : tie.MeasureT-loop
 μ-loop word from n₀ i₀ n i = length word - i
@@ -46,7 +50,8 @@ loop-again c =
 returns : tie.Need-returns Inv-loop μ-loop
 returns c =
     let at = c .before in
-    omega (arith, at .loop .inv .3, value-ended (at .loop .n) (at .before .before .args .word .now) (at .loop .i) (omega arith) (omega arith))
+    let word = at .before .before .args .word .now in
+    omega (arith, at .loop .inv .3, value-ended (at .loop .n) word (at .loop .i) (omega arith) (omega arith))
 
 pub value-spec : {M : Type 1} → statement M
 value-spec =

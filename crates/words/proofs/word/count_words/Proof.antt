@@ -11,7 +11,8 @@ use Rattle.words.proofs.word.count_words.Statement.{statement}
 use Rattle.words.proofs.word.count_words.Tie as tie
 
 abbrev Inv-loop : tie.InvT-loop
-Inv-loop line separator n₀ i₀ n i = (i ≤ length line) × (n ≤ i + 1) × (n + length (words separator (drop i line)) ≡ length (words separator line) + 1)
+Inv-loop line separator n₀ i₀ n i =
+    (i ≤ length line) × (n ≤ i + 1) × (n + length (words separator (drop i line)) ≡ length (words separator line) + 1)
 
 abbrev μ-loop : tie.MeasureT-loop
 μ-loop line separator n₀ i₀ n i = length line - i

@@ -1,4 +1,4 @@
--- `words::word::part` meets its contract: a word that was found stands in the line, and where none is there are no bytes. Assumes nothing.
+-- `words::word::part` is right: a word that was found stands in the line, and where none is there are no bytes. Assumes nothing.
 use mathlib.Core.Path.{sym}
 use borrow.Author.Needs.{needs}
 use Rattle.words.proofs.WordLaws.{word-stands, no-word}
@@ -12,16 +12,20 @@ enum-known-from : tie.Need-enum-known-from
 enum-known-from c = search needs
 
 sub-result : tie.Need-sub-result
-sub-result c = word-stands _ _ _ _ _ _ (c .before .from .given .1) (c .before .before .before .word-at .ensures .1) .ordered
+sub-result c =
+    let found = c .before in
+    word-stands _ _ _ _ _ _ (found .from .given .1) (found .before .before .word-at .ensures .1) .ordered
 
 part-result-start : tie.Need-part-result-start
 part-result-start c =
-    let stands = word-stands _ _ _ _ _ _ (c .before .from .given .1) (c .before .before .before .word-at .ensures .1) in
+    let found = c .before in
+    let stands = word-stands _ _ _ _ _ _ (found .from .given .1) (found .before .before .word-at .ensures .1) in
     search needs
 
 part-result-end : tie.Need-part-result-end
 part-result-end c =
-    let stands = word-stands _ _ _ _ _ _ (c .before .from .given .1) (c .before .before .before .word-at .ensures .1) in
+    let found = c .before in
+    let stands = word-stands _ _ _ _ _ _ (found .from .given .1) (found .before .before .word-at .ensures .1) in
     search needs
 
 enum-told : tie.Need-enum-told
@@ -31,7 +35,9 @@ slice-aggregate-result : tie.Need-slice-aggregate-result
 slice-aggregate-result c = search needs
 
 returns : tie.Need-returns
-returns c = word-stands _ _ _ _ _ _ (c .before .before .from .given .1) (c .before .before .before .before .word-at .ensures .1) .bytes
+returns c =
+    let found = c .before .before in
+    word-stands _ _ _ _ _ _ (found .from .given .1) (found .before .before .word-at .ensures .1) .bytes
 
 returns-2 : tie.Need-returns-2
 returns-2 c = sym (no-word _ _ _ _ (c .before .enum-told .given .1) (c .before .before .before .word-at .ensures .1))

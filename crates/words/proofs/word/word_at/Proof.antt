@@ -1,4 +1,4 @@
--- `words::word::word_at` meets its contract: the word asked for is the word `left` of what is left of the line. Assumes nothing.
+-- `words::word::word_at` is right: the word asked for is the word `left` of what is left of the line. Assumes nothing.
 use Prim.Native.Nat.{_≤_, _-_}
 use mathlib.Core.Path.{_≡_, sym, _∙_}
 use native.Mathlib.Omega.{arith}
@@ -27,8 +27,9 @@ returns c =
     let args = c .before .before .before .before .before .args in
     let here = c .before .before .before .loop in
     let line = args .line .now in
-    let end = searched (args .separator) line (here .from) (c .before .find .result) (c .before .find .ensures .0) in
-    let none = place-none (args .separator) line (here .from) (c .before .find .result) (here .inv .0) end (here .left) (omega arith) (omega arith) in
+    let find = c .before .find in
+    let end = searched (args .separator) line (here .from) (find .result) (find .ensures .0) in
+    let none = place-none (args .separator) line (here .from) (find .result) (here .inv .0) end (here .left) (omega arith) (omega arith) in
     answered (args .separator) line (args .index) _ (sym none ∙ here .inv .1)
 
 add-from : tie.Need-add-from Inv-loop μ-loop
@@ -45,8 +46,9 @@ loop-again c =
     let args = c .before .before .before .before .before .args in
     let here = c .before .before .before .loop in
     let line = args .line .now in
-    let end = searched (args .separator) line (here .from) (c .before .find .result) (c .before .find .ensures .0) in
-    let next = place-next (args .separator) line (here .from) (c .before .find .result) (here .inv .0) end (here .left) (omega arith) (omega arith) in
+    let find = c .before .find in
+    let end = searched (args .separator) line (here .from) (find .result) (find .ensures .0) in
+    let next = place-next (args .separator) line (here .from) (find .result) (here .inv .0) end (here .left) (omega arith) (omega arith) in
     (omega arith, sym next ∙ here .inv .1)
 
 find-requires-2 : tie.Need-find-requires-2 Inv-loop μ-loop
@@ -57,9 +59,10 @@ returns-2 c =
     let args = c .before .before .before .before .args in
     let here = c .before .before .loop in
     let line = args .line .now in
-    let end = searched (args .separator) line (here .from) (c .find2 .result) (c .find2 .ensures .0) in
+    let find = c .find2 in
+    let end = searched (args .separator) line (here .from) (find .result) (find .ensures .0) in
     let first : here .left ≡ 0 = omega arith in
-    let found = place-here (args .separator) line (here .from) (c .find2 .result) (here .inv .0) end (c .find2 .ensures .1) in
+    let found = place-here (args .separator) line (here .from) (find .result) (here .inv .0) end (find .ensures .1) in
     answered (args .separator) line (args .index) _ (sym found ∙ rw first at (here .inv .1))
 
 pub word-at-spec : {M : Type 1} → statement M
