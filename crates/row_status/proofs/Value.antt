@@ -11,7 +11,8 @@ use borrow.Author.Tests.{eq-eqb, ne-eqb}
 use Rattle.row_status.specs.RowStatus.{is-value}
 
 -- equal bits: it is the value, since the bits of a number below zero are no small number
-pub value-is : (value : ℤ) (number : ℕ) → number < 2 ^ 63 → SFits w64 value → ofZ w64 value ≡ number → is-value value number ≡ true
+pub value-is : (value : ℤ) (number : ℕ) → number < 2 ^ 63 → SFits w64 value → ofZ w64 value ≡ number
+    → is-value value number ≡ true
 value-is (pos n) number small fits same = eq-eqb n number same
 value-is (negsuc n) number small fits same = absurd (omega (arith, fits .sfits))
 

@@ -1,7 +1,8 @@
 // What may be done next to a conceptual row, by its RowStatus (RFC 2579).
 ghost use mathlib.Core.Path.{_≡_};
 ghost use Prim.Native.Nat.{ℕ};
-ghost use Rattle.row_status.specs.RowStatus.{number-of, next-of, outcome, row-status, if-complete, set-active, set-not-in-service, createAndGo, createAndWait};
+ghost use Rattle.row_status.specs.RowStatus.{number-of, next-of, outcome, row-status};
+ghost use Rattle.row_status.specs.RowStatus.{if-complete, set-active, set-not-in-service, createAndGo, createAndWait};
 
 // The states of a row, and the set values of the same name.
 pub const NONE: u64 = 0;

@@ -18,11 +18,13 @@ use Rattle.words.specs.declared.number.Natural.the-variants.{Is, Beyond,
 pub left : (word : List ℕ) (i : ℕ) → i < length word → drop i word ≡ getD word i 0 ∷ drop (i + 1) word
 left word i inside = rw (add-one, drop-cons word i 0)
 
-pub digits-left : (word : List ℕ) (i : ℕ) → i < length word → all-digits (drop i word) ≡ digit (getD word i 0) && all-digits (drop (i + 1) word)
+pub digits-left : (word : List ℕ) (i : ℕ) → i < length word
+    → all-digits (drop i word) ≡ digit (getD word i 0) && all-digits (drop (i + 1) word)
 unfolding all-digits
 digits-left word i inside = ap all-digits (left word i inside)
 
-pub value-left : (n : ℕ) (word : List ℕ) (i : ℕ) → i < length word → decimal-after n (drop i word) ≡ decimal-after (n * 10 + (getD word i 0 - 48)) (drop (i + 1) word)
+pub value-left : (n : ℕ) (word : List ℕ) (i : ℕ) → i < length word
+    → decimal-after n (drop i word) ≡ decimal-after (n * 10 + (getD word i 0 - 48)) (drop (i + 1) word)
 unfolding decimal-after
 value-left n word i inside = ap (decimal-after n) (left word i inside)
 
@@ -32,7 +34,8 @@ unfolding decimal-after
 grows n [] = omega arith
 grows n (d ∷ ds) = omega (arith, grows (n * 10 + (d - 48)) ds)
 
-capped : (n : ℕ) (ds : List ℕ) → (n ≤ limit) ⊎ (limit ≤ n) → min (decimal-after (min n limit) ds) limit ≡ min (decimal-after n ds) limit
+capped : (n : ℕ) (ds : List ℕ) → (n ≤ limit) ⊎ (limit ≤ n)
+    → min (decimal-after (min n limit) ds) limit ≡ min (decimal-after n ds) limit
 capped n ds (inl small) = let same : min n limit ≡ n = omega arith in rw same
 capped n ds (inr large) =
     let same : min n limit ≡ limit = omega arith in
@@ -69,7 +72,8 @@ below-digits word i inside small = digits-left word i inside ∙ simp (lt-leb _ 
 pub above-digits : (word : List ℕ) (i : ℕ) → i < length word → 57 < getD word i 0 → all-digits (drop i word) ≡ false
 above-digits word i inside large = digits-left word i inside ∙ simp (lt-leb _ _ large, both-false (leb 48 (getD word i 0)))
 
-pub past-digit : (word : List ℕ) (i : ℕ) → i < length word → 48 ≤ getD word i 0 → getD word i 0 ≤ 57 → all-digits (drop i word) ≡ all-digits (drop (i + 1) word)
+pub past-digit : (word : List ℕ) (i : ℕ) → i < length word → 48 ≤ getD word i 0 → getD word i 0 ≤ 57
+    → all-digits (drop i word) ≡ all-digits (drop (i + 1) word)
 past-digit word i inside low high = digits-left word i inside ∙ simp (le-leb _ _ low, le-leb _ _ high)
 
 left-true : (a b : Bool) → (a && b) ≡ true → a ≡ true
@@ -85,11 +89,14 @@ pub first-digit : (word : List ℕ) (i : ℕ) → i < length word → all-digits
 first-digit word i inside digits =
     leb-true _ _ (left-true _ _ (left-true (digit (getD word i 0)) _ (sym (digits-left word i inside) ∙ digits)))
 
-pub rest-digits : (word : List ℕ) (i : ℕ) → i < length word → all-digits (drop i word) ≡ true → all-digits (drop (i + 1) word) ≡ true
+pub rest-digits : (word : List ℕ) (i : ℕ) → i < length word → all-digits (drop i word) ≡ true
+    → all-digits (drop (i + 1) word) ≡ true
 rest-digits word i inside digits = right-true (digit (getD word i 0)) _ (sym (digits-left word i inside) ∙ digits)
 
 -- one digit more: what is left makes the same value, up to the limit
-pub one-more : (n : ℕ) (word : List ℕ) (i : ℕ) → i < length word → min (decimal-after (min (n * 10 + (getD word i 0 - 48)) limit) (drop (i + 1) word)) limit ≡ min (decimal-after n (drop i word)) limit
+pub one-more : (n : ℕ) (word : List ℕ) (i : ℕ) → i < length word
+    → min (decimal-after (min (n * 10 + (getD word i 0 - 48)) limit) (drop (i + 1) word)) limit
+    ≡ min (decimal-after n (drop i word)) limit
 one-more n word i inside =
     saturated (n * 10 + (getD word i 0 - 48)) (drop (i + 1) word)
     ∙ ap (λ (v : ℕ). min v limit) (sym (value-left n word i inside))
@@ -107,12 +114,14 @@ digits-are : (ds : List ℕ) → 0 < length ds → all-digits ds ≡ true → na
 unfolding natural-of
 digits-are ds some digits = simp (lt-ltb _ _ some, digits)
 
-pub small-digits : (ds : List ℕ) (n : ℕ) → 0 < length ds → all-digits ds ≡ true → n ≡ min (decimal-after 0 ds) limit → n < limit → natural-of ds ≡ Is n
+pub small-digits : (ds : List ℕ) (n : ℕ) → 0 < length ds → all-digits ds ≡ true → n ≡ min (decimal-after 0 ds) limit
+    → n < limit → natural-of ds ≡ Is n
 small-digits ds n some digits capped small =
     let same : decimal-after 0 ds ≡ n = omega arith in
     digits-are ds some digits ∙ simp (same, lt-ltb _ _ small)
 
-pub large-digits : (ds : List ℕ) (n : ℕ) → 0 < length ds → all-digits ds ≡ true → n ≡ min (decimal-after 0 ds) limit → limit ≤ n → natural-of ds ≡ Beyond
+pub large-digits : (ds : List ℕ) (n : ℕ) → 0 < length ds → all-digits ds ≡ true → n ≡ min (decimal-after 0 ds) limit
+    → limit ≤ n → natural-of ds ≡ Beyond
 large-digits ds n some digits capped large =
     let beyond : limit ≤ decimal-after 0 ds = omega arith in
     digits-are ds some digits ∙ simp (le-ltb _ _ beyond)

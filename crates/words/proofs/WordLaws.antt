@@ -1,4 +1,5 @@
--- The first word of what is left of a line ends at the first separator, so a search for separators finds each word. Assumes nothing.
+-- The first word of what is left of a line ends at the first separator, so a search for separators finds each word.
+-- Assumes nothing.
 use Prim.Native.Nat.{ℕ, zero, suc, _+_, _-_, _≤_, _<_}
 use mathlib.Core.Path.{_≡_, refl, sym, _∙_, ap, subst}
 use mathlib.Core.Bool.{Bool, true, false, cond}
@@ -26,8 +27,10 @@ parted s (b ∷ line) inside = go (eqb b s) (parted s line) inside
     k : ℕ
     k = indexOf s line
 
-    go : (t : Bool) → (k < length line → words s line ≡ take k line ∷ words s (drop (suc k) line)) → indexAfter t k < suc (length line)
-        → cond t ([] ∷ words s line) (in-front b (words s line)) ≡ take (indexAfter t k) (b ∷ line) ∷ words s (drop (suc (indexAfter t k)) (b ∷ line))
+    go : (t : Bool) → (k < length line → words s line ≡ take k line ∷ words s (drop (suc k) line))
+        → indexAfter t k < suc (length line)
+        → cond t ([] ∷ words s line) (in-front b (words s line))
+        ≡ take (indexAfter t k) (b ∷ line) ∷ words s (drop (suc (indexAfter t k)) (b ∷ line))
     go true behind inside = refl
     go false behind inside = ap (in-front b) (behind (omega arith))
 
@@ -37,7 +40,8 @@ unfolding words indexOf indexAfter
 whole s [] none = refl
 whole s (b ∷ line) none = go (eqb b s) (whole s line) none
   where
-    go : (t : Bool) → (length line ≤ indexOf s line → words s line ≡ line ∷ []) → suc (length line) ≤ indexAfter t (indexOf s line)
+    go : (t : Bool) → (length line ≤ indexOf s line → words s line ≡ line ∷ [])
+        → suc (length line) ≤ indexAfter t (indexOf s line)
         → cond t ([] ∷ words s line) (in-front b (words s line)) ≡ (b ∷ line) ∷ []
     go true behind none = absurd (omega arith)
     go false behind none = ap (in-front b) (behind (omega arith))
@@ -108,7 +112,8 @@ module _ (s : ℕ) (line : List ℕ) (from end : ℕ) (low : from ≤ length lin
           record { ordered = omega arith; inside = inside; counted = rw all (omega arith); bytes = rw all }
 
 -- a word more before the others
-found-later : (line word : List ℕ) (all : List (List ℕ)) (index : ℕ) (found : Word) → Found line all index found → Found line (word ∷ all) (suc index) found
+found-later : (line word : List ℕ) (all : List (List ℕ)) (index : ℕ) (found : Word) → Found line all index found
+    → Found line (word ∷ all) (suc index) found
 found-later line word all index (At from to) stands =
     record { ordered = stands .ordered; inside = stands .inside; counted = omega (arith, stands .counted); bytes = stands .bytes }
 found-later line word all index Missing none = omega arith
@@ -118,14 +123,17 @@ abbrev FoundLeft : ℕ → List ℕ → ℕ → ℕ → Type 0
 FoundLeft s line index from = Found line (words s (drop from line)) index (place from (words s (drop from line)) index)
 
 found-next : (s : ℕ) (line : List ℕ) (index from end : ℕ) → from ≤ length line → end ≡ from + indexOf s (drop from line)
-    → ((at : ℕ) → at ≤ length line → FoundLeft s line index at) → (end ≡ length line) ⊎ (end < length line) → FoundLeft s line (suc index) from
+    → ((at : ℕ) → at ≤ length line → FoundLeft s line index at) → (end ≡ length line) ⊎ (end < length line)
+    → FoundLeft s line (suc index) from
 found-next s line index from end low is behind (inl none) =
-    rw (place-none s line from end low is (suc index) (omega arith) (omega arith), last-left s line from end low is (omega arith)) (omega arith)
+    let missing = place-none s line from end low is (suc index) (omega arith) (omega arith) in
+    rw (missing, last-left s line from end low is (omega arith)) (omega arith)
 found-next s line index from end low is behind (inr more) =
     let same : suc index - 1 ≡ index = omega arith in
     let next : List ℕ = drop (end + 1) line in
     rw (place-next s line from end low is (suc index) (omega arith) more, words-left s line from end low is more, same)
-    (found-later line (between from end line) (words s next) index (place (end + 1) (words s next) index) (behind (end + 1) (omega arith)))
+    (found-later line (between from end line) (words s next) index (place (end + 1) (words s next) index)
+    (behind (end + 1) (omega arith)))
 
 pub found-left : (s : ℕ) (line : List ℕ) (index from : ℕ) → from ≤ length line → FoundLeft s line index from
 found-left s line zero from low =
@@ -133,11 +141,13 @@ found-left s line zero from low =
     let inside : end ≤ length line = omega (arith, reach s (drop from line), length-drop from line) in
     rw (place-here s line from end low refl inside) (first-stands s line from end low refl inside)
 found-left s line (suc index) from low =
-    let inside : from + indexOf s (drop from line) ≤ length line = omega (arith, reach s (drop from line), length-drop from line) in
-    found-next s line index from _ low refl (found-left s line index) (eq-or-lt-of-le inside)
+    let end : ℕ = from + indexOf s (drop from line) in
+    let inside : end ≤ length line = omega (arith, reach s (drop from line), length-drop from line) in
+    found-next s line index from end low refl (found-left s line index) (eq-or-lt-of-le inside)
 
 -- a search in the line is one in what is left of it
-pub searched : (s : ℕ) (line : List ℕ) (from end : ℕ) → end ≡ from + indexOf s (slice from (length line) line) → end ≡ from + indexOf s (drop from line)
+pub searched : (s : ℕ) (line : List ℕ) (from end : ℕ) → end ≡ from + indexOf s (slice from (length line) line)
+    → end ≡ from + indexOf s (drop from line)
 unfolding slice
 searched s line from end is = is ∙ ap (λ (l : List ℕ). from + indexOf s (drop from l)) (take-length line)
 
@@ -163,20 +173,25 @@ same-number b [] none = absurd (omega arith)
 same-number b (word ∷ all) one = refl
 
 -- how many words are left, before and behind a byte
-pub count-separator : (s : ℕ) (line : List ℕ) (i : ℕ) → i < length line → getD line i 0 ≡ s → length (words s (drop i line)) ≡ length (words s (drop (i + 1) line)) + 1
+pub count-separator : (s : ℕ) (line : List ℕ) (i : ℕ) → i < length line → getD line i 0 ≡ s
+    → length (words s (drop i line)) ≡ length (words s (drop (i + 1) line)) + 1
 unfolding words
 count-separator s line i inside is = rw (left line i inside) (simp (eq-eqb _ _ is) (omega arith))
 
-pub count-other : (s : ℕ) (line : List ℕ) (i : ℕ) → i < length line → (getD line i 0 ≡ s → ⊥) → length (words s (drop i line)) ≡ length (words s (drop (i + 1) line))
+pub count-other : (s : ℕ) (line : List ℕ) (i : ℕ) → i < length line → (getD line i 0 ≡ s → ⊥)
+    → length (words s (drop i line)) ≡ length (words s (drop (i + 1) line))
 unfolding words
-count-other s line i inside other = rw (left line i inside) (simp (ne-eqb _ _ other) (same-number (getD line i 0) (words s (drop (i + 1) line)) (some s (drop (i + 1) line))))
+count-other s line i inside other =
+    let rest : List ℕ = drop (i + 1) line in
+    rw (left line i inside) (simp (ne-eqb _ _ other) (same-number (getD line i 0) (words s rest) (some s rest)))
 
 pub count-ended : (s : ℕ) (line : List ℕ) (i : ℕ) → i ≤ length line → length line ≤ i → length (words s (drop i line)) ≡ 1
 unfolding words
 count-ended s line i low high = rw (ended line i low high)
 
 -- what a caller knows that has matched on the answer
-pub word-stands : (line : List ℕ) (all : List (List ℕ)) (index : ℕ) (found : Word) (from to : ℕ) → found ≡ At from to → Found line all index found → Stands line all index from to
+pub word-stands : (line : List ℕ) (all : List (List ℕ)) (index : ℕ) (found : Word) (from to : ℕ) → found ≡ At from to
+    → Found line all index found → Stands line all index from to
 word-stands line all index found from to at is = subst (Found line all index) at is
 
 past : (all : List (List ℕ)) (index : ℕ) → length all ≤ index → getD all index [] ≡ []
@@ -184,5 +199,6 @@ past [] index none = refl
 past (word ∷ all) zero none = absurd (omega arith)
 past (word ∷ all) (suc index) none = past all index (omega arith)
 
-pub no-word : (line : List ℕ) (all : List (List ℕ)) (index : ℕ) (found : Word) → found ≡ Missing → Found line all index found → getD all index [] ≡ []
+pub no-word : (line : List ℕ) (all : List (List ℕ)) (index : ℕ) (found : Word) → found ≡ Missing → Found line all index found
+    → getD all index [] ≡ []
 no-word line all index found missing is = past all index (subst (Found line all index) missing is)

@@ -19,9 +19,10 @@ pub record Pair (word out : List ℕ) (i : ℕ) : Type 0 where
   pub low : hex-digit (getD word (2 * i + 1) 0) < 16
   pub octet : getD out i 0 ≡ hex-digit (getD word (2 * i) 0) * 16 + hex-digit (getD word (2 * i + 1) 0)
 
--- what was read of a word: octets, two digits for each; or it has an odd length, a byte that is no digit, or more octets than the buffer
+-- what was read of a word: octets, of two digits each; or an odd length, a byte that is no digit, or more octets than fit
 pub data Read : List ℕ → Octets → List ℕ → Type 0 where
-  octets : {word out : List ℕ} {n : ℕ} → length word ≡ 2 * n → n ≤ length out → ((i : ℕ) → i < n → Pair word out i) → Read word (Are n) out
+  octets : {word out : List ℕ} {n : ℕ} → length word ≡ 2 * n → n ≤ length out → ((i : ℕ) → i < n → Pair word out i)
+      → Read word (Are n) out
   odd : {word out : List ℕ} → length word % 2 ≡ 1 → Read word AreNot out
   no-digit : {word out : List ℕ} (i : ℕ) → i < length word → hex-digit (getD word i 0) ≡ 16 → Read word AreNot out
   no-room : {word out : List ℕ} → length out < length word / 2 → Read word AreNot out

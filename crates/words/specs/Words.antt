@@ -13,7 +13,7 @@ abbrev pub in-front : ℕ → List (List ℕ) → List (List ℕ)
 in-front b [] = (b ∷ []) ∷ []
 in-front b (word ∷ rest) = (b ∷ word) ∷ rest
 
--- the words of a line: a separator ends a word, and any other byte belongs to its word; an empty line has one word, which is empty
+-- the words of a line: a separator ends a word, any other byte belongs to its word; an empty line has one word, an empty one
 unfoldable pub words : ℕ → List ℕ → List (List ℕ)
 words separator [] = [] ∷ []
 words separator (b ∷ line) = cond (eqb b separator) ([] ∷ words separator line) (in-front b (words separator line))

@@ -1,4 +1,5 @@
--- `row_status::set` meets its contract: its tests are those of `row-status`, in its order, and each case answers as the function that it calls. Assumes nothing.
+-- `row_status::set` meets its contract: its tests are those of `row-status`, in its order.
+-- Assumes nothing.
 use lib.Dec.{lit<}
 use borrow.Author.Tests.{lt-ltb, le-ltb}
 use Rattle.row_status.proofs.Value.{value-is, value-is-not}

@@ -1,4 +1,5 @@
--- `command::argument::append` meets its contract: the byte 0 is put where there is room, and the argument behind it. Assumes nothing.
+-- `command::argument::append` meets its contract: the byte 0 is put where there is room, and the argument behind it.
+-- Assumes nothing.
 use native.Mathlib.Omega.{arith}
 use lib.ListN.{length-set}
 use borrow.Author.Needs.{needs}

@@ -1,4 +1,5 @@
--- `words::number::below_zero` meets its contract: the negative of a number below the limit is read back as it is. Assumes nothing.
+-- `words::number::below_zero` meets its contract: the negative of a number below the limit is read back as it is.
+-- Assumes nothing.
 use Rattle.words.proofs.Signs.{small-number, fits, turned-fits, turned-back}
 use mathlib.Core.Path.{sym, ap, _∙_}
 use Rattle.words.specs.Decimal.{below}

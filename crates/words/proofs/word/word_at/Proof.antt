@@ -29,7 +29,8 @@ returns c =
     let line = args .line .now in
     let find = c .before .find in
     let end = searched (args .separator) line (here .from) (find .result) (find .ensures .0) in
-    let none = place-none (args .separator) line (here .from) (find .result) (here .inv .0) end (here .left) (omega arith) (omega arith) in
+    let none =
+    place-none (args .separator) line (here .from) (find .result) (here .inv .0) end (here .left) (omega arith) (omega arith) in
     answered (args .separator) line (args .index) _ (sym none ∙ here .inv .1)
 
 add-from : tie.Need-add-from Inv-loop μ-loop
@@ -48,7 +49,8 @@ loop-again c =
     let line = args .line .now in
     let find = c .before .find in
     let end = searched (args .separator) line (here .from) (find .result) (find .ensures .0) in
-    let next = place-next (args .separator) line (here .from) (find .result) (here .inv .0) end (here .left) (omega arith) (omega arith) in
+    let next =
+    place-next (args .separator) line (here .from) (find .result) (here .inv .0) end (here .left) (omega arith) (omega arith) in
     (omega arith, sym next ∙ here .inv .1)
 
 find-requires-2 : tie.Need-find-requires-2 Inv-loop μ-loop
