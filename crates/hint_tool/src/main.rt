@@ -86,8 +86,12 @@ fn answer_octets(hint_word: &[u8], hex: &[u8], line: u64) {
         complain(line, hex, b"is not pairs of hex digits");
         return;
     };
+    print_octets(hint_word, &space[..n]);
+}
+
+fn print_octets(hint_word: &[u8], octets: &[u8]) {
     let mut out = io::buffer();
-    let answer = hint::octets(hint_word, &space[..n], &mut out);
+    let answer = hint::octets(hint_word, octets, &mut out);
     print_answer(answer, &out);
 }
 
