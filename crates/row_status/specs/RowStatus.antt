@@ -12,16 +12,19 @@ pub record Outcome : Type 0 where
   pub number : ℕ
   pub next : ℕ
 
--- the states; 1 and 2 are set values too
+-- state 0: there is no row
 abbrev pub none : ℕ
 none = 0
 
+-- state 1, and set value 1
 abbrev pub active : ℕ
 active = 1
 
+-- state 2, and set value 2
 abbrev pub notInService : ℕ
 notInService = 2
 
+-- state 3
 abbrev pub notReady : ℕ
 notReady = 3
 

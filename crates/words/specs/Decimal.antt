@@ -42,12 +42,13 @@ Small (natural.Is n) = n < limit
 Small natural.Beyond = Unit {0}
 Small natural.IsNot = Unit {0}
 
--- a number with its sign
+-- a number without a minus
 abbrev pub above : Natural → Number
 above (natural.Is n) = number.Is (pos n)
 above natural.Beyond = number.Beyond false
 above natural.IsNot = number.IsNot
 
+-- a number with a minus
 abbrev pub below : Natural → Number
 below (natural.Is n) = number.Is (negℤ (pos n))
 below natural.Beyond = number.Beyond true
