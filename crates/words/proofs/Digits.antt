@@ -5,19 +5,15 @@ use mathlib.Core.Bool.{Bool, true, false, _&&_, cond, false≢true}
 use mathlib.Core.List.{List, [], _∷_}
 use mathlib.Core.Logic.{_⊎_, inl, inr}
 use native.Mathlib.Omega.{arith}
-use native.Mathlib.Numerals.{add-one}
 use lib.ListN.{length, getD, drop, length-drop}
-use lib.Seq.{drop-cons, drop-length}
 use lib.Dec.{leb, ltb, eqb}
 use borrow.Author.Tests.{leb-true, leb-false, lt-leb, le-leb, lt-ltb, le-ltb, ltb-true}
+use Rattle.words.proofs.Left.{left, ended}
 use Rattle.words.specs.Decimal.{digit, all-digits, decimal-after, limit, within, natural-of, number-of, above, below, Small}
 use Rattle.words.specs.declared.number.Natural.{Natural}
 use Rattle.words.specs.declared.number.Natural.the-variants.{Is, Beyond, IsNot}
 
--- what is left of a word from an index on is the byte there and what is left behind it
-pub left : (word : List ℕ) (i : ℕ) → i < length word → drop i word ≡ getD word i 0 ∷ drop (i + 1) word
-left word i inside = rw (add-one, drop-cons word i 0)
-
+-- the digits that are left, and their value, are those of the byte there and of what is left behind it
 pub digits-left : (word : List ℕ) (i : ℕ) → i < length word
     → all-digits (drop i word) ≡ digit (getD word i 0) && all-digits (drop (i + 1) word)
 unfolding all-digits
@@ -50,9 +46,6 @@ pub saturated : (n : ℕ) (ds : List ℕ) → min (decimal-after (min n limit) d
 saturated n ds = capped n ds (split n (leb n limit) refl)
 
 -- nothing is left behind the last byte
-pub ended : (word : List ℕ) (i : ℕ) → i ≤ length word → length word ≤ i → drop i word ≡ []
-ended word i low high = let same : i ≡ length word = omega arith in rw (same, drop-length word)
-
 pub digits-ended : (word : List ℕ) (i : ℕ) → i ≤ length word → length word ≤ i → all-digits (drop i word) ≡ true
 unfolding all-digits
 digits-ended word i low high = ap all-digits (ended word i low high)

@@ -12,7 +12,7 @@ use lib.ListN.{length, getD, take, drop, length-take, length-drop}
 use lib.Seq.{take-all, take-length, drop-drop}
 use borrow.Author.Tests.{eq-eqb, ne-eqb}
 use Rattle.bytes.specs.Bytes.{indexOf, indexAfter, slice}
-use Rattle.words.proofs.Digits.{left, ended}
+use Rattle.words.proofs.Left.{left, ended}
 use Rattle.words.specs.Words.{words, in-front, place, between, Stands, Found}
 use Rattle.words.specs.declared.word.Word.{Word}
 use Rattle.words.specs.declared.word.Word.the-variants.{At, Missing}
@@ -91,25 +91,26 @@ module _ (s : ℕ) (line : List ℕ) (from end : ℕ) (low : from ≤ length lin
   place-none zero some none = absurd (omega arith)
   place-none (suc left) some none = ap (λ (all : List (List ℕ)). place from all (suc left)) (last-left none)
 
-  -- and that of the first
+  -- in either case the first word comes first
+  opened : (behind : List (List ℕ)) → words s (drop from line) ≡ between from end line ∷ behind
+      → words s (drop from line) ≡ between from end line ∷ drop 1 (words s (drop from line))
+  opened behind is = is ∙ ap (λ (all : List (List ℕ)). between from end line ∷ drop 1 all) (sym is)
+
+  first-left : (end ≡ length line) ⊎ (end < length line)
+      → words s (drop from line) ≡ between from end line ∷ drop 1 (words s (drop from line))
+  first-left (inl none) = opened _ (last-left (omega arith))
+  first-left (inr more) = opened _ (words-left more)
+
+  -- the place of the first, and its bytes
   pub place-here : end ≤ length line → place from (words s (drop from line)) 0 ≡ At from end
   unfolding place
-  place-here inside = go (eq-or-lt-of-le inside)
-    where
-      go : (end ≡ length line) ⊎ (end < length line) → place from (words s (drop from line)) 0 ≡ At from end
-      go (inl none) = ap (λ (all : List (List ℕ)). place from all 0) (last-left (omega arith)) ∙ ap (At from) (word-size inside)
-      go (inr more) = ap (λ (all : List (List ℕ)). place from all 0) (words-left more) ∙ ap (At from) (word-size inside)
+  place-here inside =
+      ap (λ (all : List (List ℕ)). place from all 0) (first-left (eq-or-lt-of-le inside)) ∙ ap (At from) (word-size inside)
 
   first-stands : end ≤ length line → Stands line (words s (drop from line)) 0 from end
-  first-stands inside = go (eq-or-lt-of-le inside)
-    where
-      go : (end ≡ length line) ⊎ (end < length line) → Stands line (words s (drop from line)) 0 from end
-      go (inl none) =
-          let all = last-left (omega arith) in
-          record { ordered = omega arith; inside = inside; counted = rw all (omega arith); bytes = rw all }
-      go (inr more) =
-          let all = words-left more in
-          record { ordered = omega arith; inside = inside; counted = rw all (omega arith); bytes = rw all }
+  first-stands inside =
+      let all = first-left (eq-or-lt-of-le inside) in
+      record { ordered = omega arith; inside = inside; counted = rw all (omega arith); bytes = rw all }
 
 -- a word more before the others
 found-later : (line word : List ℕ) (all : List (List ℕ)) (index : ℕ) (found : Word) → Found line all index found
@@ -194,6 +195,7 @@ pub word-stands : (line : List ℕ) (all : List (List ℕ)) (index : ℕ) (found
     → Found line all index found → Stands line all index from to
 word-stands line all index found from to at is = subst (Found line all index) at is
 
+-- behind the last word there is none
 past : (all : List (List ℕ)) (index : ℕ) → length all ≤ index → getD all index [] ≡ []
 past [] index none = refl
 past (word ∷ all) zero none = absurd (omega arith)
