@@ -1,3 +1,1 @@
-pub mod Digits
 pub mod Found
-pub mod Signs

@@ -1,10 +1,8 @@
 -- That what is found in a buffer lies inside it. Assumes nothing.
-use Prim.Native.Nat.{ℕ, _≤_, _+_}
+use Prim.Native.Nat.{ℕ, _≤_}
 use Rattle.command.specs.declared.line.Lines.{Lines}
 use Rattle.command.specs.declared.line.Line.{Line}
 use Rattle.command.specs.declared.line.Line.the-variants as line
-use Rattle.command.specs.declared.word.Word.{Word}
-use Rattle.command.specs.declared.word.Word.the-variants as word
 
 -- the bytes read and not used yet stand in a buffer of that length
 pub record LinesWithin (lines : Lines) (size : ℕ) : Type 0 where
@@ -21,8 +19,3 @@ abbrev pub LineWithin : Line → ℕ → Type 0
 LineWithin (line.At from to rest) size = PartWithin from to size × LinesWithin rest size
 LineWithin (line.TooLong rest) size = LinesWithin rest size
 LineWithin line.End size = Unit {0}
-
--- a word stands in a line of that length
-abbrev pub WordWithin : Word → ℕ → Type 0
-WordWithin (word.At from to) size = PartWithin from to size
-WordWithin word.Missing size = Unit {0}

@@ -1,21 +1,14 @@
-// What the programs share: the lines of a list, the words of a line, numbers, and the message for a word that does
-// not fit. Nothing here knows of SMI.
+// What the programs share: their words, the lines of a list, the message for a word that does not fit, and what stands
+// between the words that they print. Nothing here knows of SMI.
+mod argument;
 mod line;
 mod message;
-mod number;
-mod word;
+mod print;
 
+pub use argument::arguments;
 pub use line::Line;
 pub use line::Lines;
 pub use line::next_line;
 pub use message::complain;
-pub use number::Natural;
-pub use number::Number;
-pub use number::read_natural;
-pub use number::read_number;
-pub use word::Word;
-pub use word::arguments;
-pub use word::count_words;
-pub use word::part;
-pub use word::same;
-pub use word::word_at;
+pub use print::end_line;
+pub use print::print_tab;

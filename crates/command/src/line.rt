@@ -88,7 +88,8 @@ fn last_line(to: usize) -> Line
 // Reads once into the buffer behind its first `held` bytes, and answers how many came: 0 at the end of the input.
 fn read_more(fd: i32, buf: &mut [u8], held: usize) -> usize
     requires { ⌜ held ≤ length (now buf) ⌝ }
-    ensures { λ r. ⌜ (held + r ≤ length (now (buf .entry))) × (length (now (buf .exit)) ≡ length (now (buf .entry))) ⌝ }
+    ensures inside { λ r. ⌜ held + r ≤ length (now (buf .entry)) ⌝ }
+    ensures size { λ _. ⌜ length (now (buf .exit)) ≡ length (now (buf .entry)) ⌝ }
 {
     let rest = &mut buf[held..];
     let got = libc::read(fd, rest);

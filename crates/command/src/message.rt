@@ -5,16 +5,26 @@ use libc::STDERR_FILENO;
 // the program is used.
 pub fn complain(program: &[u8], line: u64, word: &[u8], why: &[u8], usage: &[u8]) {
     io::write_all(STDERR_FILENO, program);
-    io::write_all(STDERR_FILENO, b": ");
     if 0 < line {
-        io::write_all(STDERR_FILENO, b"line ");
-        io::print_decimal(STDERR_FILENO, line);
-        io::write_all(STDERR_FILENO, b": ");
+        write_line_number(line);
     }
-    io::write_all(STDERR_FILENO, b"'");
+    write_quoted(word);
+    io::write_all(STDERR_FILENO, why);
+    write_usage(usage);
+}
+
+fn write_line_number(line: u64) {
+    io::write_all(STDERR_FILENO, b": line ");
+    io::print_decimal(STDERR_FILENO, line);
+}
+
+fn write_quoted(word: &[u8]) {
+    io::write_all(STDERR_FILENO, b": '");
     io::write_all(STDERR_FILENO, word);
     io::write_all(STDERR_FILENO, b"' ");
-    io::write_all(STDERR_FILENO, why);
+}
+
+fn write_usage(usage: &[u8]) {
     io::write_all(STDERR_FILENO, b"; usage: ");
     io::write_all(STDERR_FILENO, usage);
     io::write_all(STDERR_FILENO, b"\n");

@@ -5,18 +5,14 @@
 // input, a case a line, with tabs between them.
 use command::Line;
 use command::Lines;
-use command::Number;
 use hint::Answer;
 use libc::STDIN_FILENO;
 use libc::STDOUT_FILENO;
-
-mod hex;
-
+use words::Number;
+use words::Octets;
 ghost use Prim.Native.Nat.{_≤_};
 ghost use lib.ListN.{length};
 ghost use Rattle.hint.specs.Answer.{lengthOf};
-use hex::Octets;
-use hex::read_hex;
 
 fn main() {
     let mut space = io::large_buffer();
@@ -26,7 +22,7 @@ fn main() {
     }
     let n = command::arguments(&mut space);
     if space.len() < n {
-        complain(0, b"..", b"is too long");
+        complain_long(0);
         return;
     }
     answer_case(&space[..n], 0, 0);
@@ -44,7 +40,7 @@ fn read_list(buf: &mut [u8]) {
                 lines = rest;
             }
             Line::TooLong(rest) => {
-                complain(line, b"..", b"is too long");
+                complain_long(line);
                 lines = rest;
             }
             Line::End => {
@@ -56,31 +52,27 @@ fn read_list(buf: &mut [u8]) {
 
 // Answers one case, or says which of its words does not fit.
 fn answer_case(case: &[u8], separator: u8, line: u64) {
-    let count = command::count_words(case, separator);
+    let count = words::count_words(case, separator);
     if count < 3 {
         complain(
             line,
-            command::part(case, separator, count - 1),
+            words::part(case, separator, count - 1),
             b"is the last word, and a case has three",
         );
         return;
     }
     if 3 < count {
-        complain(
-            line,
-            command::part(case, separator, 3),
-            b"is a word too many",
-        );
+        complain(line, words::part(case, separator, 3), b"is a word too many");
         return;
     }
-    let kind = command::part(case, separator, 0);
-    let hint_word = command::part(case, separator, 1);
-    let value_word = command::part(case, separator, 2);
-    if command::same(kind, b"octets") {
+    let kind = words::part(case, separator, 0);
+    let hint_word = words::part(case, separator, 1);
+    let value_word = words::part(case, separator, 2);
+    if words::same(kind, b"octets") {
         answer_octets(hint_word, value_word, line);
         return;
     }
-    if command::same(kind, b"integer") {
+    if words::same(kind, b"integer") {
         answer_integer(hint_word, value_word, line);
         return;
     }
@@ -90,29 +82,32 @@ fn answer_case(case: &[u8], separator: u8, line: u64) {
 // Prints octets, which are written in hexadecimal, by a hint.
 fn answer_octets(hint_word: &[u8], hex: &[u8], line: u64) {
     let mut space = io::large_buffer();
-    let Octets::Are(n) = read_hex(hex, &mut space) else {
+    let Octets::Are(n) = words::read_hex(hex, &mut space) else {
         complain(line, hex, b"is not pairs of hex digits");
         return;
     };
+    print_octets(hint_word, &space[..n]);
+}
+
+fn print_octets(hint_word: &[u8], octets: &[u8]) {
     let mut out = io::buffer();
-    let answer = hint::octets(hint_word, &space[..n], &mut out);
+    let answer = hint::octets(hint_word, octets, &mut out);
     print_answer(answer, &out);
 }
 
 // Prints an integer by a hint. One of more than 18 digits is out of range whatever it is, and goes as one that is.
 fn answer_integer(hint_word: &[u8], number: &[u8], line: u64) {
-    let mut out = io::buffer();
-    match command::read_number(number) {
-        Number::Is(value) => {
-            let answer = hint::integer(hint_word, value, &mut out);
-            print_answer(answer, &out);
-        }
-        Number::Beyond(_) => {
-            let answer = hint::integer(hint_word, 4294967296, &mut out);
-            print_answer(answer, &out);
-        }
+    match words::read_number(number) {
+        Number::Is(value) => print_integer(hint_word, value),
+        Number::Beyond(_) => print_integer(hint_word, 4294967296),
         Number::IsNot => complain(line, number, b"is no number"),
     }
+}
+
+fn print_integer(hint_word: &[u8], value: i64) {
+    let mut out = io::buffer();
+    let answer = hint::integer(hint_word, value, &mut out);
+    print_answer(answer, &out);
 }
 
 // Prints the text that was printed, or the refusal.
@@ -123,14 +118,19 @@ fn print_answer(answer: Answer, out: &[u8])
     if answer.number() == 0 {
         io::write_all(STDOUT_FILENO, b"printed\t");
         io::write_all(STDOUT_FILENO, &out[..n]);
-        io::write_all(STDOUT_FILENO, b"\n");
+        command::end_line();
         return;
     }
     io::write_all(STDOUT_FILENO, b"refused\t");
     io::print_decimal(STDOUT_FILENO, answer.number());
-    io::write_all(STDOUT_FILENO, b"\t");
+    command::print_tab();
     io::print_decimal(STDOUT_FILENO, answer.place() as u64);
-    io::write_all(STDOUT_FILENO, b"\n");
+    command::end_line();
+}
+
+// The message for a line, or for arguments, that the buffer cannot hold.
+fn complain_long(line: u64) {
+    complain(line, b"..", b"is too long");
 }
 
 fn complain(line: u64, word: &[u8], why: &[u8]) {

@@ -4,15 +4,11 @@
 // reads the same words from standard input, a case a line, with tabs between them.
 use command::Line;
 use command::Lines;
-use command::Natural;
-use command::Number;
 use libc::STDIN_FILENO;
 use libc::STDOUT_FILENO;
-
-enum Flag {
-    Is(bool),
-    IsNot,
-}
+use words::Flag;
+use words::Natural;
+use words::Number;
 
 fn main() {
     let mut space = io::large_buffer();
@@ -22,7 +18,7 @@ fn main() {
     }
     let n = command::arguments(&mut space);
     if space.len() < n {
-        complain(0, b"..", b"is too long");
+        complain_long(0);
         return;
     }
     answer_case(&space[..n], 0, 0);
@@ -40,7 +36,7 @@ fn read_list(buf: &mut [u8]) {
                 lines = rest;
             }
             Line::TooLong(rest) => {
-                complain(line, b"..", b"is too long");
+                complain_long(line);
                 lines = rest;
             }
             Line::End => {
@@ -52,35 +48,31 @@ fn read_list(buf: &mut [u8]) {
 
 // Answers one case, or says which of its words does not fit.
 fn answer_case(case: &[u8], separator: u8, line: u64) {
-    let count = command::count_words(case, separator);
+    let count = words::count_words(case, separator);
     if count < 3 {
         complain(
             line,
-            command::part(case, separator, count - 1),
+            words::part(case, separator, count - 1),
             b"is the last word, and a case has three or four",
         );
         return;
     }
     if 4 < count {
-        complain(
-            line,
-            command::part(case, separator, 4),
-            b"is a word too many",
-        );
+        complain(line, words::part(case, separator, 4), b"is a word too many");
         return;
     }
-    let state_word = command::part(case, separator, 0);
-    let Natural::Is(state) = command::read_natural(state_word) else {
+    let state_word = words::part(case, separator, 0);
+    let Natural::Is(state) = words::read_natural(state_word) else {
         complain(line, state_word, b"is no state number");
         return;
     };
-    let complete_word = command::part(case, separator, 1);
-    let Flag::Is(complete) = read_flag(complete_word) else {
+    let complete_word = words::part(case, separator, 1);
+    let Flag::Is(complete) = words::read_flag(complete_word) else {
         complain(line, complete_word, b"is neither yes nor no");
         return;
     };
-    let willing_word = command::part(case, separator, 2);
-    let Flag::Is(willing) = read_flag(willing_word) else {
+    let willing_word = words::part(case, separator, 2);
+    let Flag::Is(willing) = words::read_flag(willing_word) else {
         complain(line, willing_word, b"is neither yes nor no");
         return;
     };
@@ -88,22 +80,12 @@ fn answer_case(case: &[u8], separator: u8, line: u64) {
         print_each(state, complete, willing);
         return;
     }
-    let value_word = command::part(case, separator, 3);
-    let Number::Is(value) = command::read_number(value_word) else {
+    let value_word = words::part(case, separator, 3);
+    let Number::Is(value) = words::read_number(value_word) else {
         complain(line, value_word, b"is no number");
         return;
     };
     print_answer(value_word, value, state, complete, willing);
-}
-
-fn read_flag(word: &[u8]) -> Flag {
-    if command::same(word, b"yes") {
-        return Flag::Is(true);
-    }
-    if command::same(word, b"no") {
-        return Flag::Is(false);
-    }
-    Flag::IsNot
 }
 
 // Prints a line for each set value that RFC 2579 names.
@@ -120,13 +102,13 @@ fn print_each(state: u64, complete: bool, willing: bool) {
 fn print_answer(word: &[u8], value: i64, state: u64, complete: bool, willing: bool) {
     let answer = row_status::set(state, value, complete, willing);
     io::write_all(STDOUT_FILENO, word);
-    io::write_all(STDOUT_FILENO, b"\t");
+    command::print_tab();
     print_name(value);
-    io::write_all(STDOUT_FILENO, b"\t");
+    command::print_tab();
     io::print_decimal(STDOUT_FILENO, answer.number());
-    io::write_all(STDOUT_FILENO, b"\t");
+    command::print_tab();
     io::print_decimal(STDOUT_FILENO, answer.next(state));
-    io::write_all(STDOUT_FILENO, b"\n");
+    command::end_line();
 }
 
 // Prints the name that RFC 2579 gives a set value, or a hyphen.
@@ -141,6 +123,11 @@ fn print_name(value: i64) {
         _ => io::write_all(STDOUT_FILENO, b"-"),
     }
     ;
+}
+
+// The message for a line, or for arguments, that the buffer cannot hold.
+fn complain_long(line: u64) {
+    complain(line, b"..", b"is too long");
 }
 
 fn complain(line: u64, word: &[u8], why: &[u8]) {

@@ -1,7 +1,8 @@
 // What may be done next to a conceptual row, by its RowStatus (RFC 2579).
 ghost use mathlib.Core.Path.{_≡_};
 ghost use Prim.Native.Nat.{ℕ};
-ghost use Rattle.row_status.specs.RowStatus.{numberOf, nextOf, outcome, rowStatus, ifComplete, setActive, setNotInService, createAndGo, createAndWait};
+ghost use Rattle.row_status.specs.RowStatus.{number-of, next-of, outcome, row-status};
+ghost use Rattle.row_status.specs.RowStatus.{if-complete, set-active, set-not-in-service, createAndGo, createAndWait};
 
 // The states of a row, and the set values of the same name.
 pub const NONE: u64 = 0;
@@ -28,7 +29,7 @@ pub enum Answer {
 impl Answer {
     // The answer's number.
     pub fn number(self) -> u64
-        ensures { λ r. ⌜ r ≡ numberOf self ⌝ }
+        ensures { λ r. ⌜ r ≡ number-of self ⌝ }
     {
         match self {
             Answer::NoError(_) => 0,
@@ -40,7 +41,7 @@ impl Answer {
 
     // The state of a row that was in `state` before this answer.
     pub fn next(self, state: u64) -> u64
-        ensures { λ r. ⌜ r ≡ nextOf state self ⌝ }
+        ensures { λ r. ⌜ r ≡ next-of state self ⌝ }
     {
         match self {
             Answer::NoError(next) => next,
@@ -54,7 +55,7 @@ impl Answer {
 // Answers a set of RowStatus to `value` on a row in `state`. `complete`: no required column is lacking after this set.
 // `willing`: the agent is willing to take the row out of service, or to create it so.
 pub fn set(state: u64, value: i64, complete: bool, willing: bool) -> Answer
-    ensures { λ r. ⌜ outcome state r ≡ rowStatus state value complete willing ⌝ }
+    ensures { λ r. ⌜ outcome state r ≡ row-status state value complete willing ⌝ }
 {
     if state > NOT_READY {
         return Answer::NoSuchState;
@@ -79,7 +80,7 @@ pub fn set(state: u64, value: i64, complete: bool, willing: bool) -> Answer
 
 // A complete row moves to `next`; one that lacks a required column does not.
 fn if_complete(complete: bool, next: u64) -> Answer
-    ensures { λ r. ⌜ ((state : ℕ) → outcome state r ≡ ifComplete state complete next) ⌝ }
+    ensures { λ r. ⌜ ((state : ℕ) → outcome state r ≡ if-complete state complete next) ⌝ }
 {
     if complete {
         Answer::NoError(next)
@@ -89,7 +90,7 @@ fn if_complete(complete: bool, next: u64) -> Answer
 }
 
 fn set_active(state: u64, complete: bool) -> Answer
-    ensures { λ r. ⌜ outcome state r ≡ setActive state complete ⌝ }
+    ensures { λ r. ⌜ outcome state r ≡ set-active state complete ⌝ }
 {
     if state == ACTIVE {
         return Answer::NoError(ACTIVE);
@@ -104,7 +105,7 @@ fn set_active(state: u64, complete: bool) -> Answer
 }
 
 fn set_not_in_service(state: u64, complete: bool, willing: bool) -> Answer
-    ensures { λ r. ⌜ outcome state r ≡ setNotInService state complete willing ⌝ }
+    ensures { λ r. ⌜ outcome state r ≡ set-not-in-service state complete willing ⌝ }
 {
     if state == NOT_IN_SERVICE {
         return Answer::NoError(NOT_IN_SERVICE);

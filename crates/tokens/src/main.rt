@@ -36,10 +36,10 @@ fn main() {
 
 // Lists the files whose names stand in `names` with a byte 0 between them.
 fn list_files(names: &[u8]) {
-    let count = command::count_words(names, 0);
+    let count = words::count_words(names, 0);
     let mut k = 0;
     while k < count {
-        let name = command::part(names, 0, k);
+        let name = words::part(names, 0, k);
         if 1 < count {
             print_line(name);
         }
@@ -50,7 +50,7 @@ fn list_files(names: &[u8]) {
 
 fn print_line(line: &[u8]) {
     io::write_all(STDOUT_FILENO, line);
-    io::write_all(STDOUT_FILENO, b"\n");
+    command::end_line();
 }
 
 // Lists one file, or says why it cannot be opened or read.
@@ -96,9 +96,9 @@ fn read_file(fd: i32, buf: &mut [u8]) -> Content {
 fn print_refusal(number: u64, place: u64) {
     io::write_all(STDOUT_FILENO, b"refused\t");
     io::print_decimal(STDOUT_FILENO, number);
-    io::write_all(STDOUT_FILENO, b"\t");
+    command::print_tab();
     io::print_decimal(STDOUT_FILENO, place);
-    io::write_all(STDOUT_FILENO, b"\n");
+    command::end_line();
 }
 
 // Lists the tokens of a text and says whether the grammar derives them, or prints the refusal of a text that does not cut
@@ -144,11 +144,11 @@ fn print_token(text: &[u8], class: u8, start: usize, end: usize)
     requires { ⌜ Within (now text) start end ⌝ }
 {
     io::print_decimal(STDOUT_FILENO, start as u64);
-    io::write_all(STDOUT_FILENO, b"\t");
+    command::print_tab();
     io::print_decimal(STDOUT_FILENO, end as u64);
-    io::write_all(STDOUT_FILENO, b"\t");
+    command::print_tab();
     print_class(text, class, start, end);
-    io::write_all(STDOUT_FILENO, b"\n");
+    command::end_line();
 }
 
 // A capital word or a mark as itself, and any other token by its class; the status and access words are lower too.

@@ -1,10 +1,8 @@
--- `answer_octets` is safe: the octets that were read lie in their buffer, and what the call answers in its own.
--- Assumes nothing.
+-- `answer_octets` is safe: the octets that were read lie in their buffer. Assumes nothing.
 use borrow.Author.Needs.{needs}
 use mathlib.Core.Path.{sym}
 use lib.Seq.{length-take-le}
-use Rattle.hint_tool.proofs.HexLaws.{read-fits}
-use Rattle.hint.proofs.Answers.{length-fits}
+use Rattle.words.proofs.HexLaws.{read-fits}
 use Rattle.hint_tool.proofs.answer_octets.Statement.{statement}
 use Rattle.hint_tool.proofs.answer_octets.Tie as tie
 
@@ -32,26 +30,18 @@ complain-requires c κs = search needs
 returns : tie.Need-returns
 returns c = search needs
 
-buffer-requires : tie.Need-buffer-requires
-buffer-requires c κs = search needs
-
 array-share-prefix-space : tie.Need-array-share-prefix-space
-array-share-prefix-space c = read-fits (c .before .before .before .before .before .read-hex .ensures) (c .before .before .n .given .1)
+array-share-prefix-space c =
+    let found = c .before in
+    read-fits (found .before .before .before .read-hex .ensures) (found .n .given .1)
 
-slice-aggregate-octets : tie.Need-slice-aggregate-octets
-slice-aggregate-octets c = sym (length-take-le _ _ (read-fits (c .before .before .before .before .before .before .read-hex .ensures) (c .before .before .before .n .given .1)))
+slice-aggregate-print-octets : tie.Need-slice-aggregate-print-octets
+slice-aggregate-print-octets c =
+    let found = c .before .before in
+    sym (length-take-le _ _ (read-fits (found .before .before .before .read-hex .ensures) (found .n .given .1)))
 
-slice-aggregate-octets-2 : tie.Need-slice-aggregate-octets-2
-slice-aggregate-octets-2 c = search needs
-
-octets-requires : tie.Need-octets-requires
-octets-requires c κs = search needs
-
-slice-aggregate-print-answer : tie.Need-slice-aggregate-print-answer
-slice-aggregate-print-answer c = search needs
-
-print-answer-requires : tie.Need-print-answer-requires
-print-answer-requires c κs = length-fits _ _ _ _ _ (c .before .before .octets .ensures)
+print-octets-requires : tie.Need-print-octets-requires
+print-octets-requires c κs = search needs
 
 returns-2 : tie.Need-returns-2
 returns-2 c = search needs
@@ -68,11 +58,7 @@ answer-octets-spec =
     slice-aggregate-complain
     complain-requires
     returns
-    buffer-requires
     array-share-prefix-space
-    slice-aggregate-octets
-    slice-aggregate-octets-2
-    octets-requires
-    slice-aggregate-print-answer
-    print-answer-requires
+    slice-aggregate-print-octets
+    print-octets-requires
     returns-2)

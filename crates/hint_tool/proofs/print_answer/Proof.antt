@@ -21,12 +21,19 @@ write-all-requires c κs = search needs
 
 slice-aggregate-write-all-2 : tie.Need-slice-aggregate-write-all-2
 slice-aggregate-write-all-2 c =
-    let n = c .before .before .before .before .before .length in
-    let out = c .before .before .before .before .before .before .before .args .out .now in
-    sym (length-take-le (n .result) out (omega (arith, n .ensures, c .before .before .before .before .before .before .before .pre)))
+    let asked = c .before .before .before .before .before in
+    let start = asked .before .before in
+    let n = asked .length in
+    sym (length-take-le (n .result) (start .args .out .now) (omega (arith, n .ensures, start .pre)))
 
 write-all-requires-2 : tie.Need-write-all-requires-2
 write-all-requires-2 c κs = search needs
+
+end-line-requires : tie.Need-end-line-requires
+end-line-requires c κs = search needs
+
+returns : tie.Need-returns
+returns c = search needs
 
 slice-aggregate-write-all-3 : tie.Need-slice-aggregate-write-all-3
 slice-aggregate-write-all-3 c = search needs
@@ -34,26 +41,14 @@ slice-aggregate-write-all-3 c = search needs
 write-all-requires-3 : tie.Need-write-all-requires-3
 write-all-requires-3 c κs = search needs
 
-returns : tie.Need-returns
-returns c = search needs
-
-slice-aggregate-write-all-4 : tie.Need-slice-aggregate-write-all-4
-slice-aggregate-write-all-4 c = search needs
-
-write-all-requires-4 : tie.Need-write-all-requires-4
-write-all-requires-4 c κs = search needs
-
 number-requires-2 : tie.Need-number-requires-2
 number-requires-2 c κs = search needs
 
 print-decimal-requires : tie.Need-print-decimal-requires
 print-decimal-requires c κs = search needs
 
-slice-aggregate-write-all-5 : tie.Need-slice-aggregate-write-all-5
-slice-aggregate-write-all-5 c = search needs
-
-write-all-requires-5 : tie.Need-write-all-requires-5
-write-all-requires-5 c κs = search needs
+print-tab-requires : tie.Need-print-tab-requires
+print-tab-requires c κs = search needs
 
 place-requires : tie.Need-place-requires
 place-requires c κs = search needs
@@ -61,11 +56,8 @@ place-requires c κs = search needs
 print-decimal-requires-2 : tie.Need-print-decimal-requires-2
 print-decimal-requires-2 c κs = search needs
 
-slice-aggregate-write-all-6 : tie.Need-slice-aggregate-write-all-6
-slice-aggregate-write-all-6 c = search needs
-
-write-all-requires-6 : tie.Need-write-all-requires-6
-write-all-requires-6 c κs = search needs
+end-line-requires-2 : tie.Need-end-line-requires-2
+end-line-requires-2 c κs = search needs
 
 returns-2 : tie.Need-returns-2
 returns-2 c = search needs
@@ -80,17 +72,14 @@ print-answer-spec =
     write-all-requires
     slice-aggregate-write-all-2
     write-all-requires-2
+    end-line-requires
+    returns
     slice-aggregate-write-all-3
     write-all-requires-3
-    returns
-    slice-aggregate-write-all-4
-    write-all-requires-4
     number-requires-2
     print-decimal-requires
-    slice-aggregate-write-all-5
-    write-all-requires-5
+    print-tab-requires
     place-requires
     print-decimal-requires-2
-    slice-aggregate-write-all-6
-    write-all-requires-6
+    end-line-requires-2
     returns-2)

@@ -10,10 +10,10 @@ use Rattle.hint_tool.proofs.read_list.Statement.{statement}
 use Rattle.hint_tool.proofs.read_list.Tie as tie
 
 abbrev Inv-loop : tie.InvT-loop
-Inv-loop buf₀ lines₀ line₀ t8 t9 buf lines line = (length buf ≡ length buf₀) × LinesWithin lines (length buf)
+Inv-loop buf₀ lines₀ line₀ buf lines line = (length buf ≡ length buf₀) × LinesWithin lines (length buf)
 
 abbrev μ-loop : tie.MeasureT-loop
-μ-loop buf₀ lines₀ line₀ t8 t9 buf lines line = 18446744073709551615 - line
+μ-loop buf₀ lines₀ line₀ buf lines line = 18446744073709551615 - line
 
 loop-holds : tie.Need-loop-holds Inv-loop μ-loop
 loop-holds c = search needs
@@ -29,17 +29,20 @@ enum-known-from c = search needs
 
 sub-answer-case : tie.Need-sub-answer-case Inv-loop μ-loop
 sub-answer-case c =
-    let within = line-within _ _ _ _ _ (c .before .from .given .1) (c .before .before .before .before .before .next-line .ensures) in
+    let found = c .before in
+    let within = line-within _ _ _ _ _ (found .from .given .1) (found .before .before .before .before .next-line .ensures) in
     search needs
 
 part-answer-case-start : tie.Need-part-answer-case-start Inv-loop μ-loop
 part-answer-case-start c =
-    let within = line-within _ _ _ _ _ (c .before .before .from .given .1) (c .before .before .before .before .before .before .next-line .ensures) in
+    let found = c .before .before in
+    let within = line-within _ _ _ _ _ (found .from .given .1) (found .before .before .before .before .next-line .ensures) in
     search needs
 
 part-answer-case-end : tie.Need-part-answer-case-end Inv-loop μ-loop
 part-answer-case-end c =
-    let within = line-within _ _ _ _ _ (c .before .before .from .given .1) (c .before .before .before .before .before .before .next-line .ensures) in
+    let found = c .before .before in
+    let within = line-within _ _ _ _ _ (found .from .given .1) (found .before .before .before .before .next-line .ensures) in
     search needs
 
 answer-case-requires : tie.Need-answer-case-requires Inv-loop μ-loop
@@ -50,27 +53,23 @@ loop-less c = search needs
 
 loop-again : tie.Need-loop-again Inv-loop μ-loop
 loop-again c =
-    let within = line-within _ _ _ _ _ (c .before .before .before .before .from .given .1) (c .before .before .before .before .before .before .before .before .next-line .ensures) in
+    let found = c .before .before .before .before in
+    let within = line-within _ _ _ _ _ (found .from .given .1) (found .before .before .before .before .next-line .ensures) in
     (omega arith, record { ordered = omega arith; inside = omega arith })
 
 enum-known-rest : tie.Need-enum-known-rest Inv-loop μ-loop
 enum-known-rest c = search needs
 
-slice-aggregate-complain : tie.Need-slice-aggregate-complain Inv-loop μ-loop
-slice-aggregate-complain c = search needs
-
-slice-aggregate-complain-2 : tie.Need-slice-aggregate-complain-2 Inv-loop μ-loop
-slice-aggregate-complain-2 c = search needs
-
-complain-requires : tie.Need-complain-requires Inv-loop μ-loop
-complain-requires c κs = search needs
+complain-long-requires : tie.Need-complain-long-requires Inv-loop μ-loop
+complain-long-requires c κs = search needs
 
 loop-less-2 : tie.Need-loop-less-2 Inv-loop μ-loop
 loop-less-2 c = search needs
 
 loop-again-2 : tie.Need-loop-again-2 Inv-loop μ-loop
 loop-again-2 c =
-    let within = too-long-within _ _ _ (c .before .before .before .before .rest .given .1) (c .before .before .before .before .before .before .before .before .next-line .ensures) in
+    let found = c .before .before in
+    let within = too-long-within _ _ _ (found .rest .given .1) (found .before .before .before .before .next-line .ensures) in
     (omega arith, record { ordered = omega arith; inside = omega arith })
 
 enum-told : tie.Need-enum-told Inv-loop μ-loop
@@ -105,9 +104,7 @@ read-list-spec =
     loop-less
     loop-again
     enum-known-rest
-    slice-aggregate-complain
-    slice-aggregate-complain-2
-    complain-requires
+    complain-long-requires
     loop-less-2
     loop-again-2
     enum-told

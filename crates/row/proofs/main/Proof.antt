@@ -26,14 +26,8 @@ slice-aggregate-arguments c = search needs
 arguments-requires : tie.Need-arguments-requires
 arguments-requires c κs = search needs
 
-slice-aggregate-complain : tie.Need-slice-aggregate-complain
-slice-aggregate-complain c = search needs
-
-slice-aggregate-complain-2 : tie.Need-slice-aggregate-complain-2
-slice-aggregate-complain-2 c = search needs
-
-complain-requires : tie.Need-complain-requires
-complain-requires c κs = search needs
+complain-long-requires : tie.Need-complain-long-requires
+complain-long-requires c κs = search needs
 
 returns-2 : tie.Need-returns-2
 returns-2 c = search needs
@@ -61,9 +55,7 @@ main-spec =
     returns
     slice-aggregate-arguments
     arguments-requires
-    slice-aggregate-complain
-    slice-aggregate-complain-2
-    complain-requires
+    complain-long-requires
     returns-2
     array-share-prefix-space
     slice-aggregate-answer-case

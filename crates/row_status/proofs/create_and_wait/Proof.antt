@@ -1,4 +1,5 @@
--- `row_status::create_and_wait` meets its contract: its tests are those of `createAndWait`, the outer ones first. Assumes nothing.
+-- `row_status::create_and_wait` meets its contract: its tests are those of `createAndWait`, the outer ones first.
+-- Assumes nothing.
 use borrow.Author.Tests.{eq-eqb, ne-eqb, not-true, not-false}
 use Rattle.row_status.proofs.create_and_wait.Statement.{statement}
 use Rattle.row_status.proofs.create_and_wait.Tie as tie

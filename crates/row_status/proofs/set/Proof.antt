@@ -1,4 +1,5 @@
--- `row_status::set` meets its contract: its tests are those of `rowStatus`, in its order, and each case answers as the function that it calls. Assumes nothing.
+-- `row_status::set` meets its contract: its tests are those of `row-status`, in its order.
+-- Assumes nothing.
 use lib.Dec.{lit<}
 use borrow.Author.Tests.{lt-ltb, le-ltb}
 use Rattle.row_status.proofs.Value.{value-is, value-is-not}
@@ -14,9 +15,12 @@ set-active-requires c κs = search needs
 
 returns-2 : tie.Need-returns-2
 returns-2 c =
+    let test2 = c .before in
+    let test1 = test2 .before in
+    let start = test1 .before in
     simp (
-      le-ltb _ _ (c .before .before .if1 .left),
-      value-is _ _ (lit< tt) (c .before .before .before .fits .value) (c .before .if2 .taken),
+      le-ltb _ _ (test1 .if1 .left),
+      value-is _ _ (lit< tt) (start .fits .value) (test2 .if2 .taken),
     )
     (c .set-active .ensures)
 
@@ -25,11 +29,14 @@ set-not-in-service-requires c κs = search needs
 
 returns-3 : tie.Need-returns-3
 returns-3 c =
-    let value = c .before .before .before .before .args .value in
+    let test3 = c .before in
+    let test2 = test3 .before in
+    let test1 = test2 .before in
+    let start = test1 .before in
     simp (
-      le-ltb _ _ (c .before .before .before .if1 .left),
-      value-is-not value _ (c .before .before .if2 .left),
-      value-is _ _ (lit< tt) (c .before .before .before .before .fits .value) (c .before .if3 .taken),
+      le-ltb _ _ (test1 .if1 .left),
+      value-is-not (start .args .value) _ (test2 .if2 .left),
+      value-is _ _ (lit< tt) (start .fits .value) (test3 .if3 .taken),
     )
     (c .set-not-in-service .ensures)
 
@@ -38,12 +45,16 @@ create-and-go-requires c κs = search needs
 
 returns-4 : tie.Need-returns-4
 returns-4 c =
-    let value = c .before .before .before .before .before .args .value in
+    let test4 = c .before in
+    let test3 = test4 .before in
+    let test2 = test3 .before in
+    let test1 = test2 .before in
+    let start = test1 .before in
     simp (
-      le-ltb _ _ (c .before .before .before .before .if1 .left),
-      value-is-not value _ (c .before .before .before .if2 .left),
-      value-is-not value _ (c .before .before .if3 .left),
-      value-is _ _ (lit< tt) (c .before .before .before .before .before .fits .value) (c .before .if4 .taken),
+      le-ltb _ _ (test1 .if1 .left),
+      value-is-not (start .args .value) _ (test2 .if2 .left),
+      value-is-not (start .args .value) _ (test3 .if3 .left),
+      value-is _ _ (lit< tt) (start .fits .value) (test4 .if4 .taken),
     )
     (c .create-and-go .ensures)
 
@@ -52,38 +63,53 @@ create-and-wait-requires c κs = search needs
 
 returns-5 : tie.Need-returns-5
 returns-5 c =
-    let value = c .before .before .before .before .before .before .args .value in
+    let test5 = c .before in
+    let test4 = test5 .before in
+    let test3 = test4 .before in
+    let test2 = test3 .before in
+    let test1 = test2 .before in
+    let start = test1 .before in
     simp (
-      le-ltb _ _ (c .before .before .before .before .before .if1 .left),
-      value-is-not value _ (c .before .before .before .before .if2 .left),
-      value-is-not value _ (c .before .before .before .if3 .left),
-      value-is-not value _ (c .before .before .if4 .left),
-      value-is _ _ (lit< tt) (c .before .before .before .before .before .before .fits .value) (c .before .if5 .taken),
+      le-ltb _ _ (test1 .if1 .left),
+      value-is-not (start .args .value) _ (test2 .if2 .left),
+      value-is-not (start .args .value) _ (test3 .if3 .left),
+      value-is-not (start .args .value) _ (test4 .if4 .left),
+      value-is _ _ (lit< tt) (start .fits .value) (test5 .if5 .taken),
     )
     (c .create-and-wait .ensures)
 
 returns-6 : tie.Need-returns-6
 returns-6 c =
-    let value = c .before .before .before .before .before .before .args .value in
+    let test5 = c .before in
+    let test4 = test5 .before in
+    let test3 = test4 .before in
+    let test2 = test3 .before in
+    let test1 = test2 .before in
+    let start = test1 .before in
     simp (
-      le-ltb _ _ (c .before .before .before .before .before .if1 .left),
-      value-is-not value _ (c .before .before .before .before .if2 .left),
-      value-is-not value _ (c .before .before .before .if3 .left),
-      value-is-not value _ (c .before .before .if4 .left),
-      value-is-not value _ (c .before .if5 .left),
-      value-is _ _ (lit< tt) (c .before .before .before .before .before .before .fits .value) (c .if6 .taken),
+      le-ltb _ _ (test1 .if1 .left),
+      value-is-not (start .args .value) _ (test2 .if2 .left),
+      value-is-not (start .args .value) _ (test3 .if3 .left),
+      value-is-not (start .args .value) _ (test4 .if4 .left),
+      value-is-not (start .args .value) _ (test5 .if5 .left),
+      value-is _ _ (lit< tt) (start .fits .value) (c .if6 .taken),
     )
 
 returns-7 : tie.Need-returns-7
 returns-7 c =
-    let value = c .before .before .before .before .before .before .args .value in
+    let test5 = c .before in
+    let test4 = test5 .before in
+    let test3 = test4 .before in
+    let test2 = test3 .before in
+    let test1 = test2 .before in
+    let start = test1 .before in
     simp (
-      le-ltb _ _ (c .before .before .before .before .before .if1 .left),
-      value-is-not value _ (c .before .before .before .before .if2 .left),
-      value-is-not value _ (c .before .before .before .if3 .left),
-      value-is-not value _ (c .before .before .if4 .left),
-      value-is-not value _ (c .before .if5 .left),
-      value-is-not value _ (c .if6 .left),
+      le-ltb _ _ (test1 .if1 .left),
+      value-is-not (start .args .value) _ (test2 .if2 .left),
+      value-is-not (start .args .value) _ (test3 .if3 .left),
+      value-is-not (start .args .value) _ (test4 .if4 .left),
+      value-is-not (start .args .value) _ (test5 .if5 .left),
+      value-is-not (start .args .value) _ (c .if6 .left),
     )
 
 pub set-spec : {M : Type 1} → statement M

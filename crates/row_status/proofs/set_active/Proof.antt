@@ -1,4 +1,4 @@
--- `row_status::set_active` meets its contract: the tests of the state are those of `setActive`, in its order. Assumes nothing.
+-- `row_status::set_active` meets its contract: the tests of the state are those of `set-active`, in its order. Assumes nothing.
 use borrow.Author.Tests.{eq-eqb, ne-eqb}
 use borrow.Author.Needs.{needs}
 use Rattle.row_status.proofs.set_active.Statement.{statement}

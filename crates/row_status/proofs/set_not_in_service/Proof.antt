@@ -1,4 +1,5 @@
--- `row_status::set_not_in_service` meets its contract: the tests of the state are those of `setNotInService`, in its order. Assumes nothing.
+-- `row_status::set_not_in_service` meets its contract: the tests of the state are those of `set-not-in-service`, in its order.
+-- Assumes nothing.
 use borrow.Author.Tests.{eq-eqb, ne-eqb}
 use borrow.Author.Needs.{needs}
 use Rattle.row_status.proofs.set_not_in_service.Statement.{statement}

@@ -1,6 +1,7 @@
--- `command::line::move_to_front` is safe: a store keeps the length, and what is read lies no nearer the front than what is written. Assumes nothing.
+-- `command::line::move_to_front` is safe: a store keeps the length, and a byte moves to the front only.
+-- Assumes nothing.
 use mathlib.Core.Path.{_≡_}
-use Prim.Native.Nat.{_≤_, _+_, _-_}
+use Prim.Native.Nat.{_-_}
 use lib.ListN.{length}
 use borrow.Author.Needs.{needs}
 use Rattle.command.proofs.line.move_to_front.Statement.{statement}

@@ -1,4 +1,5 @@
--- `command::line::next_line` meets its contract: a line end that was found lies in the buffer, and moving keeps the buffer's length. Assumes nothing.
+-- `command::line::next_line` is right: a line end that was found lies in the buffer, and moving keeps the buffer's length.
+-- Assumes nothing.
 use mathlib.Core.Path.{subst}
 use Rattle.command.specs.Within.{LineWithin}
 use borrow.Author.Needs.{needs}

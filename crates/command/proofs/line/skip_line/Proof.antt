@@ -1,6 +1,6 @@
 -- `command::line::skip_line` meets its contract: a line end that was found lies in what was read. Assumes nothing.
 use mathlib.Core.Path.{_≡_}
-use Prim.Native.Nat.{_≤_, _+_, _-_}
+use Prim.Native.Nat.{_-_}
 use lib.ListN.{length}
 use borrow.Author.Needs.{needs}
 use Rattle.command.proofs.line.skip_line.Statement.{statement}

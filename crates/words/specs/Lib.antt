@@ -1,0 +1,4 @@
+pub mod Decimal
+pub mod Flag
+pub mod Hex
+pub mod Words
