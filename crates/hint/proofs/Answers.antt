@@ -11,13 +11,14 @@ use lib.IntN.{ℤ}
 use lib.ListN.{length, take, drop, replicate, length-replicate, length-append}
 use lib.Seq.{take-at, drop-at}
 use borrow.Author.Tests.{lt-ltb, le-ltb}
-use Rattle.hint.specs.Buffer.{written}
-use Rattle.hint.specs.Hint.{Reading, pieces, none, readHint, readForm}
+use Rattle.buffer.specs.Buffer.{written, Wrote}
+use Rattle.hint_form.specs.Hint.{Reading, pieces, none, read-hint, is-pieces, pieces-in}
+use Rattle.hint_form.specs.Form.{read-form, is-bad}
 use Rattle.hint.specs.Print.{Outcome, printing}
-use Rattle.hint.specs.Inner.{Wrote, Followed, wrote, failed, isPieces, piecesIn, isBad}
-use Rattle.hint.specs.Answer.{Verdict, text, refusal, Answered, number, place, size, buffer, numberOf, placeOf, lengthOf, ofOutcome, byPieces, octetsVerdict, byForm, inRange, signed, integerVerdict}
-use Rattle.hint.specs.declared.Form.{Form}
-use Rattle.hint.specs.declared.Form.the-variants.{Base, Point, Bad}
+use Rattle.hint.specs.Followed.{Followed, wrote, failed}
+use Rattle.hint.specs.Answer.{Verdict, text, refusal, Answered, number, place, size, buffer, number-of, place-of, length-of, of-outcome, by-pieces, octets-verdict, by-form, in-range, signed, integer-verdict}
+use Rattle.hint_form.specs.declared.Form.{Form}
+use Rattle.hint_form.specs.declared.Form.the-variants.{Base, Point, Bad}
 use Rattle.hint.specs.declared.Answer.{Answer}
 use Rattle.hint.specs.declared.Answer.the-variants.{Printed, ShortBuffer}
 use Rattle.hint.specs.declared.Progress.the-variants.{To, Fault}
@@ -29,7 +30,7 @@ answered-short part v o e = rw e (record { number-is = refl; place-is = refl; le
 
 -- any other refusal leaves a part of zeros
 pub answered-refusal : (part : ℕ) (v : Verdict) (answer : Answer) (o after : List ℕ) (n at : ℕ) → v ≡ refusal n at
-    → numberOf answer ≡ n → placeOf answer ≡ at → lengthOf answer ≡ 0 → eqb n 30 ≡ false → after ≡ replicate part 0 ++ drop part o
+    → number-of answer ≡ n → place-of answer ≡ at → length-of answer ≡ 0 → eqb n 30 ≡ false → after ≡ replicate part 0 ++ drop part o
     → Answered part v answer o after
 unfolding number place size buffer
 answered-refusal part v answer o after n at e num pla len other zeros =
@@ -63,80 +64,80 @@ module _ (part : ℕ) (o cleared : List ℕ) (zeros : cleared ≡ replicate part
             ∙ ap (λ (l : List ℕ). t ++ (replicate (part - length t) 0 ++ l)) rest-kept;
       }
 
-  pub answered-printed : {v : Verdict} {out : Outcome} {w : List ℕ} {n : ℕ} → v ≡ ofOutcome out → Followed out 0 (To n) (take part cleared) w
+  pub answered-printed : {v : Verdict} {out : Outcome} {w : List ℕ} {n : ℕ} → v ≡ of-outcome out → Followed out 0 (To n) (take part cleared) w
       → Answered part v (Printed n) o (w ++ drop part cleared)
-  unfolding ofOutcome
+  unfolding of-outcome
   answered-printed {w = w} {n = n} e (wrote done) = subst (λ (u : Verdict). Answered part u (Printed n) o (w ++ drop part cleared)) (sym e) (answered-text done)
 
   -- the part zeroed again
   pub zeros-again : (w after : List ℕ) → length w ≡ part → after ≡ replicate part 0 ++ drop part (w ++ drop part cleared) → after ≡ replicate part 0 ++ drop part o
   zeros-again w after long e = e ∙ ap (λ (l : List ℕ). replicate part 0 ++ l) (drop-at w (drop part cleared) part long ∙ rest-kept)
 
-pub fault-refusal : {out : Outcome} {at : ℕ} {before after : List ℕ} → Followed out 0 (Fault at) before after → ofOutcome out ≡ refusal 33 at
-unfolding ofOutcome
+pub fault-refusal : {out : Outcome} {at : ℕ} {before after : List ℕ} → Followed out 0 (Fault at) before after → of-outcome out ≡ refusal 33 at
+unfolding of-outcome
 fault-refusal failed = refl
 
 -- which verdict a call for octets meets
 module _ (room : ℕ) (hint value : List ℕ) where
-  pub octets-short : room < 4096 → octetsVerdict room hint value ≡ refusal 30 0
-  unfolding octetsVerdict
+  pub octets-short : room < 4096 → octets-verdict room hint value ≡ refusal 30 0
+  unfolding octets-verdict
   octets-short h = simp (lt-ltb room 4096 h)
 
-  pub octets-long : 4096 ≤ room → 1024 < length value → octetsVerdict room hint value ≡ refusal 31 0
-  unfolding octetsVerdict
+  pub octets-long : 4096 ≤ room → 1024 < length value → octets-verdict room hint value ≡ refusal 31 0
+  unfolding octets-verdict
   octets-long h l = simp (le-ltb room 4096 h, lt-ltb 1024 (length value) l)
 
-  pub octets-hint : 4096 ≤ room → length value ≤ 1024 → isPieces (readHint hint) ≡ false → octetsVerdict room hint value ≡ refusal 32 0
-  unfolding octetsVerdict byPieces isPieces
-  octets-hint h l b = simp (le-ltb room 4096 h, le-ltb 1024 (length value) l) (go (readHint hint) b)
+  pub octets-hint : 4096 ≤ room → length value ≤ 1024 → is-pieces (read-hint hint) ≡ false → octets-verdict room hint value ≡ refusal 32 0
+  unfolding octets-verdict by-pieces is-pieces
+  octets-hint h l b = simp (le-ltb room 4096 h, le-ltb 1024 (length value) l) (go (read-hint hint) b)
     where
-      go : (r : Reading) → isPieces r ≡ false → byPieces r value ≡ refusal 32 0
+      go : (r : Reading) → is-pieces r ≡ false → by-pieces r value ≡ refusal 32 0
       go (pieces ps) e = let z : _≡_ {A = ℕ} 0 1 = cc in absurd (omega arith)
       go none e = refl
 
-  pub octets-printed : 4096 ≤ room → length value ≤ 1024 → isPieces (readHint hint) ≡ true → octetsVerdict room hint value ≡ ofOutcome (printing (piecesIn (readHint hint)) value)
-  unfolding octetsVerdict byPieces isPieces piecesIn
-  octets-printed h l b = simp (le-ltb room 4096 h, le-ltb 1024 (length value) l) (go (readHint hint) b)
+  pub octets-printed : 4096 ≤ room → length value ≤ 1024 → is-pieces (read-hint hint) ≡ true → octets-verdict room hint value ≡ of-outcome (printing (pieces-in (read-hint hint)) value)
+  unfolding octets-verdict by-pieces is-pieces pieces-in
+  octets-printed h l b = simp (le-ltb room 4096 h, le-ltb 1024 (length value) l) (go (read-hint hint) b)
     where
-      go : (r : Reading) → isPieces r ≡ true → byPieces r value ≡ ofOutcome (printing (piecesIn r) value)
+      go : (r : Reading) → is-pieces r ≡ true → by-pieces r value ≡ of-outcome (printing (pieces-in r) value)
       go (pieces ps) e = refl
       go none e = let z : _≡_ {A = ℕ} 0 1 = cc in absurd (omega arith)
 
 -- which verdict a call for an integer meets
 module _ (room : ℕ) (hint : List ℕ) (value : ℤ) where
-  pub integer-short : room < 64 → integerVerdict room hint value ≡ refusal 30 0
-  unfolding integerVerdict
+  pub integer-short : room < 64 → integer-verdict room hint value ≡ refusal 30 0
+  unfolding integer-verdict
   integer-short h = simp (lt-ltb room 64 h)
 
-  pub integer-hint : 64 ≤ room → isBad (readForm hint) ≡ true → integerVerdict room hint value ≡ refusal 32 0
-  unfolding integerVerdict byForm
-  integer-hint h b = simp (le-ltb room 64 h) (go (readForm hint) b)
+  pub integer-hint : 64 ≤ room → is-bad (read-form hint) ≡ true → integer-verdict room hint value ≡ refusal 32 0
+  unfolding integer-verdict by-form
+  integer-hint h b = simp (le-ltb room 64 h) (go (read-form hint) b)
     where
-      go : (f : Form) → isBad f ≡ true → byForm f value ≡ refusal 32 0
+      go : (f : Form) → is-bad f ≡ true → by-form f value ≡ refusal 32 0
       go (Base base) e = let z : _≡_ {A = ℕ} 0 1 = cc in absurd (omega arith)
       go (Point places) e = let z : _≡_ {A = ℕ} 0 1 = cc in absurd (omega arith)
       go Bad e = refl
 
-  pub integer-range : 64 ≤ room → isBad (readForm hint) ≡ false → inRange value ≡ false → integerVerdict room hint value ≡ refusal 34 0
-  unfolding integerVerdict byForm
-  integer-range h b r = simp (le-ltb room 64 h) (go (readForm hint) b)
+  pub integer-range : 64 ≤ room → is-bad (read-form hint) ≡ false → in-range value ≡ false → integer-verdict room hint value ≡ refusal 34 0
+  unfolding integer-verdict by-form
+  integer-range h b r = simp (le-ltb room 64 h) (go (read-form hint) b)
     where
-      go : (f : Form) → isBad f ≡ false → byForm f value ≡ refusal 34 0
+      go : (f : Form) → is-bad f ≡ false → by-form f value ≡ refusal 34 0
       go (Base base) e = simp r
       go (Point places) e = simp r
       go Bad e = let z : _≡_ {A = ℕ} 0 1 = cc in absurd (omega arith)
 
-  pub integer-text : 64 ≤ room → isBad (readForm hint) ≡ false → inRange value ≡ true → integerVerdict room hint value ≡ text (signed (readForm hint) value)
-  unfolding integerVerdict byForm
-  integer-text h b r = simp (le-ltb room 64 h) (go (readForm hint) b)
+  pub integer-text : 64 ≤ room → is-bad (read-form hint) ≡ false → in-range value ≡ true → integer-verdict room hint value ≡ text (signed (read-form hint) value)
+  unfolding integer-verdict by-form
+  integer-text h b r = simp (le-ltb room 64 h) (go (read-form hint) b)
     where
-      go : (f : Form) → isBad f ≡ false → byForm f value ≡ text (signed f value)
+      go : (f : Form) → is-bad f ≡ false → by-form f value ≡ text (signed f value)
       go (Base base) e = simp r
       go (Point places) e = simp r
       go Bad e = let z : _≡_ {A = ℕ} 0 1 = cc in absurd (omega arith)
 
 -- the text of an answer lies in the buffer
-pub length-fits : (part : ℕ) (v : Verdict) (answer : Answer) (o after : List ℕ) → Answered part v answer o after → lengthOf answer ≤ length after
+pub length-fits : (part : ℕ) (v : Verdict) (answer : Answer) (o after : List ℕ) → Answered part v answer o after → length-of answer ≤ length after
 unfolding size buffer
 length-fits part (text t) answer o after a =
     omega (arith, a .length-is, ap length (a .buffer-is) ∙ length-append t (replicate (part - length t) 0 ++ drop part o))

@@ -3,20 +3,21 @@ ghost use mathlib.Core.Path.{_≡_};
 ghost use mathlib.Core.Bool.{true};
 ghost use Prim.Native.Nat.{_+_, _-_, _*_, _≤_, _<_};
 ghost use lib.ListN.{length, take, drop};
-ghost use Rattle.hint.specs.Hint.{longest, readHint};
-ghost use Rattle.hint.specs.Print.{passes, useText, optional, following, oneUse, uses, repeats, usesStart, usesEnd, printing};
-ghost use Rattle.hint.specs.Inner.{Wrote, Followed, isPieces, piecesIn};
-use crate::Found;
-use crate::Piece;
+ghost use Rattle.hint_form.specs.Hint.{longest, read-hint, is-pieces, pieces-in};
+ghost use Rattle.hint.specs.Print.{passes, use-text, optional, following, one-use, uses, repeats, uses-start, printing};
+ghost use Rattle.buffer.specs.Buffer.{Wrote};
+ghost use Rattle.hint.specs.Followed.{Followed};
 use crate::Progress;
-use crate::Search;
-use crate::buffer::copy;
-use crate::buffer::put;
-use crate::character::first_fault;
-use crate::digit::base_of;
-use crate::digit::big_endian;
-use crate::digit::print_digits;
-use crate::grammar::piece_at;
+use buffer::copy;
+use buffer::put;
+use character::Search;
+use character::first_fault;
+use digit::big_endian;
+use digit::print_digits;
+use hint_form::Found;
+use hint_form::Piece;
+use hint_form::base_of;
+use hint_form::piece_at;
 
 // Whether a format passes characters on.
 fn passes_on(format: u8) -> bool
@@ -29,7 +30,7 @@ fn passes_on(format: u8) -> bool
 fn print_use(s: &[u8], at: usize, format: u8, out: &mut [u8], pos: usize) -> Progress
     requires { ⌜ (0 < length (now s)) × (length (now s) ≤ longest format) × (at ≤ 1024) ⌝ }
     requires { ⌜ pos + 4 * length (now s) ≤ length (now out) ⌝ }
-    ensures { λ r. ⌜ Followed (useText format at (now (s .entry))) pos r (now (out .entry)) (now (out .exit)) ⌝ }
+    ensures { λ r. ⌜ Followed (use-text format at (now (s .entry))) pos r (now (out .entry)) (now (out .exit)) ⌝ }
 {
     if !passes_on(format) {
         let n = big_endian(s);
@@ -93,7 +94,7 @@ fn print_one(
     requires { ⌜ (at < length (now value)) × (length (now value) ≤ 1024) ⌝ }
     requires { ⌜ (0 < piece .size) × (piece .size ≤ longest (piece .format)) ⌝ }
     requires { ⌜ pos + 4 * (length (now value) - at) ≤ length (now out) ⌝ }
-    ensures { λ r. ⌜ Followed (oneUse piece left (now (value .entry)) at) pos r (now (out .entry)) (now (out .exit)) ⌝ }
+    ensures { λ r. ⌜ Followed (one-use piece left (now (value .entry)) at) pos r (now (out .entry)) (now (out .exit)) ⌝ }
 {
     let size = piece.size;
     let octets = use_octets(value, at, size);
@@ -153,16 +154,16 @@ fn repeats_of(piece: Piece, value: &[u8], at: usize) -> usize
 // Where its uses start.
 fn uses_start(piece: Piece, at: usize) -> usize
     requires { ⌜ at ≤ 1024 ⌝ }
-    ensures { λ r. ⌜ r ≡ usesStart piece at ⌝ }
+    ensures { λ r. ⌜ r ≡ uses-start piece at ⌝ }
 {
     if piece.starred { at + 1 } else { at }
 }
 
 // Writes a value by the pieces of a hint, the last of which repeats, or answers the octet at fault.
 pub fn print_pieces(hint: &[u8], value: &[u8], out: &mut [u8]) -> Progress
-    requires { ⌜ isPieces (readHint (now hint)) ≡ true ⌝ }
+    requires { ⌜ is-pieces (read-hint (now hint)) ≡ true ⌝ }
     requires { ⌜ (length (now value) ≤ 1024) × (length (now out) ≡ 4096) ⌝ }
-    ensures { λ r. ⌜ Followed (printing (piecesIn (readHint (now (hint .entry)))) (now (value .entry))) 0 r (now (out .entry)) (now (out .exit)) ⌝ }
+    ensures { λ r. ⌜ Followed (printing (pieces-in (read-hint (now (hint .entry)))) (now (value .entry))) 0 r (now (out .entry)) (now (out .exit)) ⌝ }
 {
     let mut cursor = 0;
     let mut at = 0;

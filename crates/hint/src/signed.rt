@@ -4,23 +4,24 @@ ghost use mathlib.Core.Bool.{true};
 ghost use Prim.Native.Nat.{_+_, _≤_};
 ghost use lib.IntN.{natAbs};
 ghost use lib.ListN.{length};
-ghost use Rattle.hint.specs.Answer.{inRange, magnitude, signed};
-ghost use Rattle.hint.specs.Inner.{Wrote, Usable, isBad};
-use crate::Form;
-use crate::buffer::put;
-use crate::digit::print_digits;
-use crate::digit::print_pointed;
+ghost use Rattle.hint.specs.Answer.{in-range, magnitude, signed};
+ghost use Rattle.buffer.specs.Buffer.{Wrote};
+ghost use Rattle.hint_form.specs.Form.{Usable, is-bad};
+use buffer::put;
+use digit::print_digits;
+use digit::print_pointed;
+use hint_form::Form;
 
 // Whether an integer is from -2147483648 to 4294967295.
 pub fn in_range(value: i64) -> bool
-    ensures { λ r. ⌜ r ≡ inRange value ⌝ }
+    ensures { λ r. ⌜ r ≡ in-range value ⌝ }
 {
     -2147483648 <= value && value <= 4294967295
 }
 
 // Whether a hint for integers has no form.
 pub fn is_bad(form: Form) -> bool
-    ensures { λ r. ⌜ r ≡ isBad form ⌝ }
+    ensures { λ r. ⌜ r ≡ is-bad form ⌝ }
 {
     match form {
         Form::Base(_) => false,
@@ -31,7 +32,7 @@ pub fn is_bad(form: Form) -> bool
 
 // The magnitude of an integer in the range: below zero it is negated first.
 fn magnitude_of(value: i64) -> u64
-    requires { ⌜ inRange value ≡ true ⌝ }
+    requires { ⌜ in-range value ≡ true ⌝ }
     ensures { λ r. ⌜ r ≡ natAbs value ⌝ }
 {
     if value < 0 {
@@ -57,7 +58,7 @@ fn print_magnitude(form: Form, n: u64, out: &mut [u8], at: usize) -> usize
 // Writes an integer in a form from the start of the output, and answers the text's length.
 pub fn print_signed(form: Form, value: i64, out: &mut [u8]) -> usize
     requires { ⌜ Usable form ⌝ }
-    requires { ⌜ (inRange value ≡ true) × (64 ≤ length (now out)) ⌝ }
+    requires { ⌜ (in-range value ≡ true) × (64 ≤ length (now out)) ⌝ }
     ensures { λ r. ⌜ Wrote (signed form value) 0 r (now (out .entry)) (now (out .exit)) ⌝ }
 {
     let n = magnitude_of(value);

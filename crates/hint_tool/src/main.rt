@@ -14,7 +14,7 @@ mod hex;
 
 ghost use Prim.Native.Nat.{_≤_};
 ghost use lib.ListN.{length};
-ghost use Rattle.hint.specs.Answer.{lengthOf};
+ghost use Rattle.hint.specs.Answer.{length-of};
 use hex::Octets;
 use hex::read_hex;
 
@@ -117,7 +117,7 @@ fn answer_integer(hint_word: &[u8], number: &[u8], line: u64) {
 
 // Prints the text that was printed, or the refusal.
 fn print_answer(answer: Answer, out: &[u8])
-    requires { ⌜ lengthOf answer ≤ length (now out) ⌝ }
+    requires { ⌜ length-of answer ≤ length (now out) ⌝ }
 {
     let n = answer.length();
     if answer.number() == 0 {

@@ -11,13 +11,13 @@ use lib.ListN.{length, take, drop, length-take}
 use mir.Facts.{toZ-ofZ}
 use mir.Syntax.{w64}
 use mir.Val.{toZ, ofZ}
-use Rattle.hint.proofs.SignedLaws.{form-usable}
+use Rattle.hint_form.proofs.FormLaws.{form-usable}
 use Rattle.hint.proofs.Answers.{answered-short, answered-refusal, answered-text, integer-short, integer-hint, integer-range, integer-text}
 use Rattle.hint.specs.declared.Answer.the-variants.{Printed, BadHint, OutOfRange}
-use Rattle.hint.specs.declared.Form.{Form}
-use Rattle.hint.specs.Answer.{Verdict, Answered, integerVerdict, inRange, signed}
-use Rattle.hint.specs.Inner.{Wrote, Usable, isBad}
-use Rattle.hint.specs.Hint.{readForm}
+use Rattle.hint_form.specs.declared.Form.{Form}
+use Rattle.hint.specs.Answer.{Verdict, Answered, integer-verdict, in-range, signed}
+use Rattle.buffer.specs.Buffer.{Wrote}
+use Rattle.hint_form.specs.Form.{Usable, is-bad, read-form}
 use Rattle.hint.proofs.integer.Statement.{statement}
 use Rattle.hint.proofs.integer.Tie as tie
 
@@ -26,7 +26,7 @@ returns c =
     let a = c .before .before .before .args in
     let h = a .hint .now in
     let o = a .out .now in
-    answered-short 64 (integerVerdict (length o) h (a .value)) o (integer-short (length o) h (a .value) (c .if1 .taken))
+    answered-short 64 (integer-verdict (length o) h (a .value)) o (integer-short (length o) h (a .value) (c .if1 .taken))
 
 clear-requires : tie.Need-clear-requires
 clear-requires c κs = search needs
@@ -46,9 +46,9 @@ returns-2 c =
     let h = a .hint .now in
     let o = a .out .now in
     let same = toZ-ofZ (c .before .before .before .before .before .before .before .before .before .before .fits .value) in
-    let form : c .before .before .form-of .result ≡ readForm h = c .before .before .form-of .ensures in
-    let bad : c .before .is-bad .result ≡ isBad (readForm h) = c .before .is-bad .ensures ∙ ap isBad form in
-    answered-refusal 64 (integerVerdict (length o) h (a .value)) BadHint o (c .before .before .before .before .before .clear .last .0) 32 0
+    let form : c .before .before .form-of .result ≡ read-form h = c .before .before .form-of .ensures in
+    let bad : c .before .is-bad .result ≡ is-bad (read-form h) = c .before .is-bad .ensures ∙ ap is-bad form in
+    answered-refusal 64 (integer-verdict (length o) h (a .value)) BadHint o (c .before .before .before .before .before .clear .last .0) 32 0
     (integer-hint (length o) h (a .value) (c .before .before .before .before .before .before .before .if1 .left) (sym bad ∙ c .if2 .taken)) refl refl refl refl (c .before .before .before .before .before .clear .ensures)
 
 in-range-requires : tie.Need-in-range-requires
@@ -63,10 +63,10 @@ returns-3 c =
     let h = a .hint .now in
     let o = a .out .now in
     let same = toZ-ofZ (c .before .before .before .before .before .before .before .before .before .before .before .before .fits .value) in
-    let form : c .before .before .before .before .form-of .result ≡ readForm h = c .before .before .before .before .form-of .ensures in
-    let bad : c .before .before .before .is-bad .result ≡ isBad (readForm h) = c .before .before .before .is-bad .ensures ∙ ap isBad form in
-    let out-of : inRange (a .value) ≡ false = sym (c .before .in-range .ensures ∙ ap inRange same) ∙ not-true _ (c .if3 .taken) in
-    answered-refusal 64 (integerVerdict (length o) h (a .value)) OutOfRange o (c .before .before .before .before .before .before .before .clear .last .0) 34 0
+    let form : c .before .before .before .before .form-of .result ≡ read-form h = c .before .before .before .before .form-of .ensures in
+    let bad : c .before .before .before .is-bad .result ≡ is-bad (read-form h) = c .before .before .before .is-bad .ensures ∙ ap is-bad form in
+    let out-of : in-range (a .value) ≡ false = sym (c .before .in-range .ensures ∙ ap in-range same) ∙ not-true _ (c .if3 .taken) in
+    answered-refusal 64 (integer-verdict (length o) h (a .value)) OutOfRange o (c .before .before .before .before .before .before .before .clear .last .0) 34 0
     (integer-range (length o) h (a .value) (c .before .before .before .before .before .before .before .before .before .if1 .left) (sym bad ∙ c .before .before .if2 .left) out-of) refl refl refl refl (c .before .before .before .before .before .before .before .clear .ensures)
 
 slice-relend-prefix-print-signed : tie.Need-slice-relend-prefix-print-signed
@@ -81,8 +81,8 @@ print-signed-requires c κs =
     let h = a .hint .now in
     let o = a .out .now in
     let same = toZ-ofZ (c .before .before .before .before .before .before .before .before .before .before .before .before .before .fits .value) in
-    let form : c .before .before .before .before .before .form-of .result ≡ readForm h = c .before .before .before .before .before .form-of .ensures in
-    let bad : c .before .before .before .before .is-bad .result ≡ isBad (readForm h) = c .before .before .before .before .is-bad .ensures ∙ ap isBad form in
+    let form : c .before .before .before .before .before .form-of .result ≡ read-form h = c .before .before .before .before .before .form-of .ensures in
+    let bad : c .before .before .before .before .is-bad .result ≡ is-bad (read-form h) = c .before .before .before .before .is-bad .ensures ∙ ap is-bad form in
     let cleared = c .before .before .before .before .before .before .before .before .clear .last .0 in
     let kept = c .before .before .before .before .before .before .before .before .clear .kept .0 in
     (subst Usable (sym form) (form-usable h), (sym (c .before .before .in-range .ensures) ∙ not-false _ (c .before .if3 .left), omega (arith, length-take 64 cleared, c .before .before .before .before .before .before .before .before .before .before .if1 .left)))
@@ -96,11 +96,11 @@ returns-4 c =
     let h = a .hint .now in
     let o = a .out .now in
     let same = toZ-ofZ (c .before .before .before .before .before .before .before .before .before .before .before .before .before .before .before .before .fits .value) in
-    let form : c .before .before .before .before .before .before .before .before .form-of .result ≡ readForm h = c .before .before .before .before .before .before .before .before .form-of .ensures in
-    let bad : c .before .before .before .before .before .before .before .is-bad .result ≡ isBad (readForm h) = c .before .before .before .before .before .before .before .is-bad .ensures ∙ ap isBad form in
-    let within : inRange (a .value) ≡ true = sym (c .before .before .before .before .before .in-range .ensures ∙ ap inRange same) ∙ not-false _ (c .before .before .before .before .if3 .left) in
-    let done : Wrote (signed (readForm h) (a .value)) 0 (c .before .before .print-signed .result) (take 64 (c .before .before .before .before .before .before .before .before .before .before .before .clear .last .0)) (c .before .before .print-signed .last .1 .1 .0) =
-    subst (λ (z : ℤ). Wrote (signed (readForm h) z) 0 (c .before .before .print-signed .result) (take 64 (c .before .before .before .before .before .before .before .before .before .before .before .clear .last .0)) (c .before .before .print-signed .last .1 .1 .0)) same
+    let form : c .before .before .before .before .before .before .before .before .form-of .result ≡ read-form h = c .before .before .before .before .before .before .before .before .form-of .ensures in
+    let bad : c .before .before .before .before .before .before .before .is-bad .result ≡ is-bad (read-form h) = c .before .before .before .before .before .before .before .is-bad .ensures ∙ ap is-bad form in
+    let within : in-range (a .value) ≡ true = sym (c .before .before .before .before .before .in-range .ensures ∙ ap in-range same) ∙ not-false _ (c .before .before .before .before .if3 .left) in
+    let done : Wrote (signed (read-form h) (a .value)) 0 (c .before .before .print-signed .result) (take 64 (c .before .before .before .before .before .before .before .before .before .before .before .clear .last .0)) (c .before .before .print-signed .last .1 .1 .0) =
+    subst (λ (z : ℤ). Wrote (signed (read-form h) z) 0 (c .before .before .print-signed .result) (take 64 (c .before .before .before .before .before .before .before .before .before .before .before .clear .last .0)) (c .before .before .print-signed .last .1 .1 .0)) same
     (subst (λ (f : Form). Wrote (signed f (toZ w64 (ofZ w64 (a .value)))) 0 (c .before .before .print-signed .result) (take 64 (c .before .before .before .before .before .before .before .before .before .before .before .clear .last .0)) (c .before .before .print-signed .last .1 .1 .0)) form (c .before .before .print-signed .ensures)) in
     subst (λ (u : Verdict). Answered 64 u (Printed (c .before .before .print-signed .result)) o (c .before .before .print-signed .last .1 .1 .0 ++ drop 64 (c .before .before .before .before .before .before .before .before .before .before .before .clear .last .0)))
     (sym (integer-text (length o) h (a .value) (c .before .before .before .before .before .before .before .before .before .before .before .before .before .if1 .left) (sym bad ∙ c .before .before .before .before .before .before .if2 .left) within))

@@ -9,10 +9,10 @@ use Rattle.hint.proofs.Answers.{answered-short, answered-refusal, answe
 use Rattle.hint.specs.declared.Progress.the-variants.{To, Fault}
 use Rattle.hint.specs.declared.Progress.{Progress}
 use Rattle.hint.specs.declared.Answer.the-variants.{LongValue, BadHint, BadOctet}
-use Rattle.hint.specs.Answer.{octetsVerdict}
-use Rattle.hint.specs.Inner.{Followed, piecesIn}
+use Rattle.hint.specs.Answer.{octets-verdict}
+use Rattle.hint.specs.Followed.{Followed}
+use Rattle.hint_form.specs.Hint.{pieces-in, read-hint}
 use Rattle.hint.specs.Print.{printing}
-use Rattle.hint.specs.Hint.{readHint}
 use Rattle.hint.proofs.octets.Statement.{statement}
 use Rattle.hint.proofs.octets.Tie as tie
 
@@ -22,7 +22,7 @@ returns c =
     let h = a .hint .now in
     let v = a .value .now in
     let o = a .out .now in
-    answered-short 4096 (octetsVerdict (length o) h v) o (octets-short (length o) h v (c .if1 .taken))
+    answered-short 4096 (octets-verdict (length o) h v) o (octets-short (length o) h v (c .if1 .taken))
 
 clear-requires : tie.Need-clear-requires
 clear-requires c κs = search needs
@@ -36,7 +36,7 @@ returns-2 c =
     let h = a .hint .now in
     let v = a .value .now in
     let o = a .out .now in
-    answered-refusal 4096 (octetsVerdict (length o) h v) LongValue o (c .before .before .before .clear .last .0) 31 0 (octets-long (length o) h v (c .before .before .before .before .before .if1 .left) (c .if2 .taken)) refl refl refl refl (c .before .before .before .clear .ensures)
+    answered-refusal 4096 (octets-verdict (length o) h v) LongValue o (c .before .before .before .clear .last .0) 31 0 (octets-long (length o) h v (c .before .before .before .before .before .if1 .left) (c .if2 .taken)) refl refl refl refl (c .before .before .before .clear .ensures)
 
 is-hint-requires : tie.Need-is-hint-requires
 is-hint-requires c κs = search needs
@@ -51,7 +51,7 @@ returns-3 c =
     let v = a .value .now in
     let o = a .out .now in
     let no = sym (c .before .is-hint .ensures) ∙ not-true _ (c .if3 .taken) in
-    answered-refusal 4096 (octetsVerdict (length o) h v) BadHint o (c .before .before .before .before .before .clear .last .0) 32 0 (octets-hint (length o) h v (c .before .before .before .before .before .before .before .if1 .left) (c .before .before .if2 .left) no) refl refl refl refl (c .before .before .before .before .before .clear .ensures)
+    answered-refusal 4096 (octets-verdict (length o) h v) BadHint o (c .before .before .before .before .before .clear .last .0) 32 0 (octets-hint (length o) h v (c .before .before .before .before .before .before .before .if1 .left) (c .before .before .if2 .left) no) refl refl refl refl (c .before .before .before .before .before .clear .ensures)
 
 slice-relend-prefix-print-pieces : tie.Need-slice-relend-prefix-print-pieces
 slice-relend-prefix-print-pieces c = search needs
@@ -87,8 +87,8 @@ returns-4 c =
     let v = a .value .now in
     let o = a .out .now in
     let yes₁ = sym (c .before .before .before .before .before .before .before .before .is-hint .ensures) ∙ not-false _ (c .before .before .before .before .before .before .before .if3 .left) in
-    let done : Followed (printing (piecesIn (readHint h)) v) 0 (To (c .before .n .given .0 .0)) (take 4096 (c .before .before .before .before .before .before .before .before .before .before .before .before .clear .last .0)) (c .before .before .before .before .before .print-pieces .last .1 .1 .0) =
-    subst (λ (r : Progress). Followed (printing (piecesIn (readHint h)) v) 0 r (take 4096 (c .before .before .before .before .before .before .before .before .before .before .before .before .clear .last .0)) (c .before .before .before .before .before .print-pieces .last .1 .1 .0)) (c .before .n .given .1) (c .before .before .before .before .before .print-pieces .ensures) in
+    let done : Followed (printing (pieces-in (read-hint h)) v) 0 (To (c .before .n .given .0 .0)) (take 4096 (c .before .before .before .before .before .before .before .before .before .before .before .before .clear .last .0)) (c .before .before .before .before .before .print-pieces .last .1 .1 .0) =
+    subst (λ (r : Progress). Followed (printing (pieces-in (read-hint h)) v) 0 r (take 4096 (c .before .before .before .before .before .before .before .before .before .before .before .before .clear .last .0)) (c .before .before .before .before .before .print-pieces .last .1 .1 .0)) (c .before .n .given .1) (c .before .before .before .before .before .print-pieces .ensures) in
     answered-printed 4096 o (c .before .before .before .before .before .before .before .before .before .before .before .before .clear .last .0) (c .before .before .before .before .before .before .before .before .before .before .before .before .clear .ensures) (octets-printed (length o) h v (c .before .before .before .before .before .before .before .before .before .before .before .before .before .before .if1 .left) (c .before .before .before .before .before .before .before .before .before .if2 .left) yes₁) done
 
 same-length-4 : tie.Need-same-length-4
@@ -102,11 +102,11 @@ returns-5 c =
     let o = a .out .now in
     let yes₁ = sym (c .before .before .before .before .before .before .before .before .before .before .before .before .is-hint .ensures) ∙ not-false _ (c .before .before .before .before .before .before .before .before .before .before .before .if3 .left) in
     let at = c .before .before .before .before .before .place .given .0 .0 in
-    let done : Followed (printing (piecesIn (readHint h)) v) 0 (Fault at) (take 4096 (c .before .before .before .before .before .before .before .before .before .before .before .before .before .before .before .before .clear .last .0)) (c .before .before .before .before .before .before .before .before .before .print-pieces .last .1 .1 .0) =
-    subst (λ (r : Progress). Followed (printing (piecesIn (readHint h)) v) 0 r (take 4096 (c .before .before .before .before .before .before .before .before .before .before .before .before .before .before .before .before .clear .last .0)) (c .before .before .before .before .before .before .before .before .before .print-pieces .last .1 .1 .0)) (c .before .before .before .before .before .place .given .1) (c .before .before .before .before .before .before .before .before .before .print-pieces .ensures) in
+    let done : Followed (printing (pieces-in (read-hint h)) v) 0 (Fault at) (take 4096 (c .before .before .before .before .before .before .before .before .before .before .before .before .before .before .before .before .clear .last .0)) (c .before .before .before .before .before .before .before .before .before .print-pieces .last .1 .1 .0) =
+    subst (λ (r : Progress). Followed (printing (pieces-in (read-hint h)) v) 0 r (take 4096 (c .before .before .before .before .before .before .before .before .before .before .before .before .before .before .before .before .clear .last .0)) (c .before .before .before .before .before .before .before .before .before .print-pieces .last .1 .1 .0)) (c .before .before .before .before .before .place .given .1) (c .before .before .before .before .before .before .before .before .before .print-pieces .ensures) in
     let kept = c .before .before .before .before .before .before .before .before .before .before .before .before .before .before .before .before .clear .kept .0 in
     let long : length (c .before .before .before .before .before .before .before .before .before .print-pieces .last .1 .1 .0) ≡ 4096 = c .before .before .before .before .before .before .before .before .before .print-pieces .kept .1 .1 .0 ∙ length-take 4096 (c .before .before .before .before .before .before .before .before .before .before .before .before .before .before .before .before .clear .last .0) ∙ omega (arith, c .before .before .before .before .before .before .before .before .before .before .before .before .before .before .before .before .before .before .if1 .left) in
-    answered-refusal 4096 (octetsVerdict (length o) h v) (BadOctet at) o (c .before .before .clear2 .last .0) 33 at
+    answered-refusal 4096 (octets-verdict (length o) h v) (BadOctet at) o (c .before .before .clear2 .last .0) 33 at
     (octets-printed (length o) h v (c .before .before .before .before .before .before .before .before .before .before .before .before .before .before .before .before .before .before .if1 .left) (c .before .before .before .before .before .before .before .before .before .before .before .before .before .if2 .left) yes₁ ∙ fault-refusal done) refl refl refl refl
     (zeros-again 4096 o (c .before .before .before .before .before .before .before .before .before .before .before .before .before .before .before .before .clear .last .0) (c .before .before .before .before .before .before .before .before .before .before .before .before .before .before .before .before .clear .ensures) (c .before .before .before .before .before .before .before .before .before .print-pieces .last .1 .1 .0) (c .before .before .clear2 .last .0) long (c .before .before .clear2 .ensures))
 

@@ -6,12 +6,15 @@ use mathlib.Core.Path.{_≡_, ap, subst, _∙_}
 use mathlib.Core.List.{List}
 use native.Mathlib.Omega.{arith}
 use lib.ListN.{length, take, drop, length-take, length-drop}
-use Rattle.hint.proofs.Bounds.{use-size, optional-size, octets-take, octets-drop, longest-small}
+use Rattle.hint.proofs.Bounds.{use-size, optional-size}
+use Rattle.digit.proofs.Sizes.{octets-take, octets-drop}
+use Rattle.hint_form.proofs.HintLaws.{longest-small}
 use Rattle.hint.proofs.Outcomes.{followed-next, followed-joined, followed-fault}
 use Rattle.hint.specs.declared.Progress.the-variants.{To, Fault}
 use Rattle.hint.specs.declared.Progress.{Progress}
-use Rattle.hint.specs.Inner.{Wrote, Followed, wrote}
-use Rattle.hint.specs.Print.{useText, optional, following, printed}
+use Rattle.buffer.specs.Buffer.{Wrote}
+use Rattle.hint.specs.Followed.{Followed, wrote}
+use Rattle.hint.specs.Print.{use-text, optional, following, printed}
 use Rattle.hint.proofs.pieces.print_one.Statement.{statement}
 use Rattle.hint.proofs.pieces.print_one.Tie as tie
 
@@ -50,9 +53,9 @@ put-optional-requires c κs =
     let octets = c .before .before .before .before .before .before .before .before .before .use-octets .ensures in
     let size = use-size (a .piece .format) (a .at) s (omega (arith, q)) (omega (arith, q))
     (octets-take (a .piece .size) (drop (a .at) (a .value .now)) (octets-drop (a .at) (a .value .now) (λ (k : ℕ). omega (arith, c .before .before .before .before .before .before .before .before .before .before .before .shared-slice-known .given k)))) in
-    let done : Followed (useText (a .piece .format) (a .at) s) (a .pos) (To (c .before .before .before .next .given .0 .0)) (a .out .now) (c .before .before .before .before .before .before .before .print-use .last .1 .1 .1 .0) =
-    subst (λ (l : List ℕ). Followed (useText (a .piece .format) (a .at) l) (a .pos) (To (c .before .before .before .next .given .0 .0)) (a .out .now) (c .before .before .before .before .before .before .before .print-use .last .1 .1 .1 .0)) octets
-    (subst (λ (r : Progress). Followed (useText (a .piece .format) (a .at) (c .before .before .before .before .before .before .before .before .before .use-octets .result .now)) (a .pos) r (a .out .now) (c .before .before .before .before .before .before .before .print-use .last .1 .1 .1 .0)) (c .before .before .before .next .given .1) (c .before .before .before .before .before .before .before .print-use .ensures)) in
+    let done : Followed (use-text (a .piece .format) (a .at) s) (a .pos) (To (c .before .before .before .next .given .0 .0)) (a .out .now) (c .before .before .before .before .before .before .before .print-use .last .1 .1 .1 .0) =
+    subst (λ (l : List ℕ). Followed (use-text (a .piece .format) (a .at) l) (a .pos) (To (c .before .before .before .next .given .0 .0)) (a .out .now) (c .before .before .before .before .before .before .before .print-use .last .1 .1 .1 .0)) octets
+    (subst (λ (r : Progress). Followed (use-text (a .piece .format) (a .at) (c .before .before .before .before .before .before .before .before .before .use-octets .result .now)) (a .pos) r (a .out .now) (c .before .before .before .before .before .before .before .print-use .last .1 .1 .1 .0)) (c .before .before .before .next .given .1) (c .before .before .before .before .before .before .before .print-use .ensures)) in
     let at = followed-next done in
     let kept = c .before .before .before .before .before .before .before .print-use .kept .1 .1 .1 .0 in
     omega (arith, q, size, optional-size (c .before .following-byte .result))
@@ -64,7 +67,7 @@ same-length : tie.Need-same-length
 same-length c = search needs
 
 returns : tie.Need-returns
-unfolding Rattle.hint.specs.Print.oneUse
+unfolding Rattle.hint.specs.Print.one-use
 returns c =
     let a = c .before .before .before .before .before .before .before .before .before .before .before .before .before .before .before .args in
     let q = c .before .before .before .before .before .before .before .before .before .before .before .before .before .before .before .pre in
@@ -74,9 +77,9 @@ returns c =
     let octets = c .before .before .before .before .before .before .before .before .before .before .before .before .use-octets .ensures in
     let size = use-size (a .piece .format) (a .at) s (omega (arith, q)) (omega (arith, q))
     (octets-take (a .piece .size) (drop (a .at) (a .value .now)) (octets-drop (a .at) (a .value .now) (λ (k : ℕ). omega (arith, c .before .before .before .before .before .before .before .before .before .before .before .before .before .before .shared-slice-known .given k)))) in
-    let done : Followed (useText (a .piece .format) (a .at) s) (a .pos) (To (c .before .before .before .before .before .before .next .given .0 .0)) (a .out .now) (c .before .before .before .before .before .before .before .before .before .before .print-use .last .1 .1 .1 .0) =
-    subst (λ (l : List ℕ). Followed (useText (a .piece .format) (a .at) l) (a .pos) (To (c .before .before .before .before .before .before .next .given .0 .0)) (a .out .now) (c .before .before .before .before .before .before .before .before .before .before .print-use .last .1 .1 .1 .0)) octets
-    (subst (λ (r : Progress). Followed (useText (a .piece .format) (a .at) (c .before .before .before .before .before .before .before .before .before .before .before .before .use-octets .result .now)) (a .pos) r (a .out .now) (c .before .before .before .before .before .before .before .before .before .before .print-use .last .1 .1 .1 .0)) (c .before .before .before .before .before .before .next .given .1) (c .before .before .before .before .before .before .before .before .before .before .print-use .ensures)) in
+    let done : Followed (use-text (a .piece .format) (a .at) s) (a .pos) (To (c .before .before .before .before .before .before .next .given .0 .0)) (a .out .now) (c .before .before .before .before .before .before .before .before .before .before .print-use .last .1 .1 .1 .0) =
+    subst (λ (l : List ℕ). Followed (use-text (a .piece .format) (a .at) l) (a .pos) (To (c .before .before .before .before .before .before .next .given .0 .0)) (a .out .now) (c .before .before .before .before .before .before .before .before .before .before .print-use .last .1 .1 .1 .0)) octets
+    (subst (λ (r : Progress). Followed (use-text (a .piece .format) (a .at) (c .before .before .before .before .before .before .before .before .before .before .before .before .use-octets .result .now)) (a .pos) r (a .out .now) (c .before .before .before .before .before .before .before .before .before .before .print-use .last .1 .1 .1 .0)) (c .before .before .before .before .before .before .next .given .1) (c .before .before .before .before .before .before .before .before .before .before .print-use .ensures)) in
     let after : Wrote (optional (following (a .piece) (a .left) (a .value .now) (a .at + a .piece .size))) (c .before .before .before .before .before .before .next .given .0 .0) (c .before .before .put-optional .result) (c .before .before .before .before .before .before .before .before .before .before .print-use .last .1 .1 .1 .0) (c .before .before .put-optional .last .0) =
     subst (λ (b : ℕ). Wrote (optional b) (c .before .before .before .before .before .before .next .given .0 .0) (c .before .before .put-optional .result) (c .before .before .before .before .before .before .before .before .before .before .print-use .last .1 .1 .1 .0) (c .before .before .put-optional .last .0)) (c .before .before .before .before .following-byte .ensures) (c .before .before .put-optional .ensures) in
     followed-joined (omega (arith, q, size)) done (wrote after)
@@ -85,7 +88,7 @@ same-length-2 : tie.Need-same-length-2
 same-length-2 c = search needs
 
 returns-2 : tie.Need-returns-2
-unfolding Rattle.hint.specs.Print.oneUse
+unfolding Rattle.hint.specs.Print.one-use
 returns-2 c =
     let a = c .before .before .before .before .before .before .before .before .before .before .args in
     let q = c .before .before .before .before .before .before .before .before .before .before .pre in
@@ -95,9 +98,9 @@ returns-2 c =
     let octets = c .before .before .before .before .before .before .before .use-octets .ensures in
     let size = use-size (a .piece .format) (a .at) s (omega (arith, q)) (omega (arith, q))
     (octets-take (a .piece .size) (drop (a .at) (a .value .now)) (octets-drop (a .at) (a .value .now) (λ (k : ℕ). omega (arith, c .before .before .before .before .before .before .before .before .before .shared-slice-known .given k)))) in
-    let done : Followed (useText (a .piece .format) (a .at) s) (a .pos) (Fault (c .before .place .given .0 .0)) (a .out .now) (c .before .before .before .before .before .print-use .last .1 .1 .1 .0) =
-    subst (λ (l : List ℕ). Followed (useText (a .piece .format) (a .at) l) (a .pos) (Fault (c .before .place .given .0 .0)) (a .out .now) (c .before .before .before .before .before .print-use .last .1 .1 .1 .0)) octets
-    (subst (λ (r : Progress). Followed (useText (a .piece .format) (a .at) (c .before .before .before .before .before .before .before .use-octets .result .now)) (a .pos) r (a .out .now) (c .before .before .before .before .before .print-use .last .1 .1 .1 .0)) (c .before .place .given .1) (c .before .before .before .before .before .print-use .ensures)) in
+    let done : Followed (use-text (a .piece .format) (a .at) s) (a .pos) (Fault (c .before .place .given .0 .0)) (a .out .now) (c .before .before .before .before .before .print-use .last .1 .1 .1 .0) =
+    subst (λ (l : List ℕ). Followed (use-text (a .piece .format) (a .at) l) (a .pos) (Fault (c .before .place .given .0 .0)) (a .out .now) (c .before .before .before .before .before .print-use .last .1 .1 .1 .0)) octets
+    (subst (λ (r : Progress). Followed (use-text (a .piece .format) (a .at) (c .before .before .before .before .before .before .before .use-octets .result .now)) (a .pos) r (a .out .now) (c .before .before .before .before .before .print-use .last .1 .1 .1 .0)) (c .before .place .given .1) (c .before .before .before .before .before .print-use .ensures)) in
     followed-fault (printed (optional (following (a .piece) (a .left) (a .value .now) (a .at + a .piece .size)))) done
 
 pub print-one-spec : {M : Type 1} → statement M

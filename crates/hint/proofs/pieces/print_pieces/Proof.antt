@@ -8,29 +8,32 @@ use mathlib.Core.List.{List}
 use native.Mathlib.Omega.{arith}
 use borrow.Author.Needs.{needs}
 use lib.ListN.{length}
-use Rattle.hint.proofs.PrintingLaws.{Allowed, piecesFrom, printFrom, print-start, print-end, print-turn, pieces-allowed, piece-there, stuck-step, turn-next, turn-last, turn-either, hint-pieces, uses-start-near, uses-octets-small, uses-end-after, uses-end-is}
-use Rattle.hint.proofs.Bounds.{Octets, uses-size, longest-small}
+use Rattle.hint_form.proofs.PieceLaws.{Allowed, pieces-from, pieces-allowed, piece-there, stuck-step, hint-pieces}
+use Rattle.hint.proofs.PrintingLaws.{print-from, print-start, print-end, print-turn, turn-next, turn-last, turn-either, uses-start-near, uses-octets-small, uses-end-after, uses-end-is}
+use Rattle.digit.proofs.Sizes.{Octets}
+use Rattle.hint.proofs.Bounds.{uses-size}
+use Rattle.hint_form.proofs.HintLaws.{longest-small, found-whole, found-nothing, piece-allowed}
 use Rattle.hint.proofs.Outcomes.{followed-none, followed-next, followed-joined, followed-fault}
-use Rattle.hint.proofs.HintLaws.{found-whole, found-nothing, piece-allowed}
-use Rattle.hint.proofs.CutLaws.{from}
-use Rattle.hint.specs.declared.Search.the-variants.{Nowhere}
+use Rattle.character.proofs.CutLaws.{from}
+use Rattle.character.specs.declared.Search.the-variants.{Nowhere}
 use Rattle.hint.specs.declared.Progress.the-variants.{To, Fault}
 use Rattle.hint.specs.declared.Progress.{Progress}
-use Rattle.hint.specs.declared.Piece.{Piece}
-use Rattle.hint.specs.Inner.{Followed, stuckAt, piecesIn}
-use Rattle.hint.specs.Print.{Outcome, uses, repeats, usesStart, usesEnd, turn, printing}
-use Rattle.hint.specs.Hint.{isPiece, pieceAt, pieceEnd, pieceSize, readHint}
+use Rattle.hint_form.specs.declared.Piece.{Piece}
+use Rattle.hint.specs.Followed.{Followed}
+use Rattle.character.specs.Cut.{stuck-at}
+use Rattle.hint_form.specs.Hint.{pieces-in, is-piece, piece-at, piece-end, piece-size, read-hint}
+use Rattle.hint.specs.Print.{Outcome, uses, repeats, uses-start, uses-end, turn, printing}
 use Rattle.hint.proofs.pieces.print_pieces.Statement.{statement}
 use Rattle.hint.proofs.pieces.print_pieces.Tie as tie
 
 abbrev Inv-loop : tie.InvT-loop
 Inv-loop hint value out₀ cursor₀ at₀ pos₀ out cursor at pos =
-    ((r : Progress) (after : List ℕ) → Followed (printFrom value (piecesFrom hint cursor) at) pos r out after
-    → Followed (printing (piecesIn (readHint hint)) value) 0 r out₀ after)
+    ((r : Progress) (after : List ℕ) → Followed (print-from value (pieces-from hint cursor) at) pos r out after
+    → Followed (printing (pieces-in (read-hint hint)) value) 0 r out₀ after)
     × (pos + 4 * (length value - at) ≤ length out)
     × (length out ≡ length out₀)
     × (cursor < length hint)
-    × (stuckAt (from (pieceSize hint) (length hint) cursor) ≡ Nowhere)
+    × (stuck-at (from (piece-size hint) (length hint) cursor) ≡ Nowhere)
 
 abbrev μ-loop : tie.MeasureT-loop
 μ-loop hint value out₀ cursor₀ at₀ pos₀ out cursor at pos = length value - at
@@ -53,7 +56,7 @@ piece d = d .before .piece .given .0 .0
 
 -- it is the piece at the cursor
 there : (d : tie.After-known-told Inv-loop μ-loop)
-    → (isPiece (hint d) (cursor d) ≡ true) × (piece d ≡ pieceAt (hint d) (cursor d)) × (d .before .piece .given .0 .1 .0 ≡ pieceEnd (hint d) (cursor d))
+    → (is-piece (hint d) (cursor d) ≡ true) × (piece d ≡ piece-at (hint d) (cursor d)) × (d .before .piece .given .0 .1 .0 ≡ piece-end (hint d) (cursor d))
 there d = found-whole (hint d) (cursor d) (piece d) (d .before .piece .given .0 .1 .0) (sym (d .before .piece .given .1) ∙ d .before .before .before .piece-at .ensures)
 
 allowed : (d : tie.After-known-told Inv-loop μ-loop) → Allowed (piece d)
@@ -64,11 +67,11 @@ octets d k = omega (arith, d .before .before .before .before .before .before .be
 
 -- where the octets of the piece end, and that the way there is short
 end : (d : tie.After-repeats-of Inv-loop μ-loop)
-    → d .before .uses-start .result + d .repeats-of .result * piece (d .before .before) .size ≡ usesEnd (piece (d .before .before)) (value (d .before .before)) (at (d .before .before))
+    → d .before .uses-start .result + d .repeats-of .result * piece (d .before .before) .size ≡ uses-end (piece (d .before .before)) (value (d .before .before)) (at (d .before .before))
 end d =
     let k = d .before .before in
     ap (λ (n : ℕ). n + d .repeats-of .result * piece k .size) (d .before .uses-start .ensures)
-    ∙ ap (λ (n : ℕ). usesStart (piece k) (at k) + n * piece k .size) (d .repeats-of .ensures)
+    ∙ ap (λ (n : ℕ). uses-start (piece k) (at k) + n * piece k .size) (d .repeats-of .ensures)
     ∙ uses-end-is (piece k) (value k) (at k)
 
 short : (d : tie.After-repeats-of Inv-loop μ-loop) → d .repeats-of .result * piece (d .before .before) .size ≤ 65025
@@ -82,7 +85,7 @@ short d =
 
 -- the uses of the piece were followed, with what they answered
 followed : (d : tie.After-print-uses Inv-loop μ-loop) (r : Progress) → d .print-uses .result ≡ r
-    → Followed (uses (repeats (pieceAt (hint (d .before .before .before .before)) (cursor (d .before .before .before .before))) (value (d .before .before .before .before)) (at (d .before .before .before .before))) (pieceAt (hint (d .before .before .before .before)) (cursor (d .before .before .before .before))) (value (d .before .before .before .before)) (usesStart (pieceAt (hint (d .before .before .before .before)) (cursor (d .before .before .before .before))) (at (d .before .before .before .before))))
+    → Followed (uses (repeats (piece-at (hint (d .before .before .before .before)) (cursor (d .before .before .before .before))) (value (d .before .before .before .before)) (at (d .before .before .before .before))) (piece-at (hint (d .before .before .before .before)) (cursor (d .before .before .before .before))) (value (d .before .before .before .before)) (uses-start (piece-at (hint (d .before .before .before .before)) (cursor (d .before .before .before .before))) (at (d .before .before .before .before))))
     (d .before .before .before .before .before .before .before .before .before .loop .pos) r (d .before .before .before .before .before .before .before .before .before .loop .out) (d .print-uses .last .1 .1 .1 .1 .0)
 followed d r e =
     let k = d .before .before .before .before in
@@ -93,35 +96,35 @@ followed d r e =
     subst (λ (o : Outcome). Followed o (here .pos) r (here .out) last)
     (ap (λ (n : ℕ). uses n (piece k) (value k) (start .result)) (count .ensures)
     ∙ ap (λ (n : ℕ). uses (repeats (piece k) (value k) (at k)) (piece k) (value k) n) (start .ensures)
-    ∙ ap (λ (x : Piece). uses (repeats x (value k) (at k)) x (value k) (usesStart x (at k))) (there k .1))
+    ∙ ap (λ (x : Piece). uses (repeats x (value k) (at k)) x (value k) (uses-start x (at k))) (there k .1))
     (subst (λ (x : Progress). Followed (uses (count .result) (piece k) (value k) (start .result)) (here .pos) x (here .out) last) e (d .print-uses .ensures))
 
 -- after a turn, wherever the next one starts
 again : (d : tie.After-struct-known Inv-loop μ-loop) (next : ℕ)
-    → turn (pieceAt (hint (d .before .before .before .before .before .before .before .before .before .before)) (cursor (d .before .before .before .before .before .before .before .before .before .before))) (piecesFrom (hint (d .before .before .before .before .before .before .before .before .before .before)) (pieceEnd (hint (d .before .before .before .before .before .before .before .before .before .before)) (cursor (d .before .before .before .before .before .before .before .before .before .before)))) ≡ piecesFrom (hint (d .before .before .before .before .before .before .before .before .before .before)) next
-    → next < length (hint (d .before .before .before .before .before .before .before .before .before .before)) → stuckAt (from (pieceSize (hint (d .before .before .before .before .before .before .before .before .before .before))) (length (hint (d .before .before .before .before .before .before .before .before .before .before))) next) ≡ Nowhere
+    → turn (piece-at (hint (d .before .before .before .before .before .before .before .before .before .before)) (cursor (d .before .before .before .before .before .before .before .before .before .before))) (pieces-from (hint (d .before .before .before .before .before .before .before .before .before .before)) (piece-end (hint (d .before .before .before .before .before .before .before .before .before .before)) (cursor (d .before .before .before .before .before .before .before .before .before .before)))) ≡ pieces-from (hint (d .before .before .before .before .before .before .before .before .before .before)) next
+    → next < length (hint (d .before .before .before .before .before .before .before .before .before .before)) → stuck-at (from (piece-size (hint (d .before .before .before .before .before .before .before .before .before .before))) (length (hint (d .before .before .before .before .before .before .before .before .before .before))) next) ≡ Nowhere
     → Inv-loop (hint (d .before .before .before .before .before .before .before .before .before .before)) (value (d .before .before .before .before .before .before .before .before .before .before)) (d .before .before .before .before .before .before .before .before .before .before .before .before .before .before .before .before .before .before .before .args .out .now) 0 0 0 (d .before .before .before .before .before .before .print-uses .last .1 .1 .1 .1 .0) next
     (d .before .before .before .before .before .before .before .before .before .uses-start .result + d .before .before .before .before .before .before .before .before .repeats-of .result * piece (d .before .before .before .before .before .before .before .before .before .before) .size) (d .before .before .n .given .0 .0)
 again d next turned below whole =
     let k = d .before .before .before .before .before .before .before .before .before .before in
     let here = d .before .before .before .before .before .before .before .before .before .before .before .before .before .before .before .loop in
     let inv = here .inv in
-    let P : Piece = pieceAt (hint k) (cursor k) in
+    let P : Piece = piece-at (hint k) (cursor k) in
     let last : List ℕ = d .before .before .before .before .before .before .print-uses .last .1 .1 .1 .1 .0 in
     let done = followed (d .before .before .before .before .before .before) (To (d .before .before .n .given .0 .0)) (d .before .before .n .given .1) in
     let room : here .pos + 4 * (length (value k) - here .at) ≤ length (here .out) = inv .1 in
     let fits : Allowed P = piece-allowed (hint k) (cursor k) (there k .0) in
-    let size = uses-size P (value k) (fits .0) (fits .1) (octets k) (repeats P (value k) (at k)) (usesStart P (at k)) in
+    let size = uses-size P (value k) (fits .0) (fits .1) (octets k) (repeats P (value k) (at k)) (uses-start P (at k)) in
     let place = followed-next done in
     let kept = d .before .before .before .before .before .before .print-uses .kept .1 .1 .1 .1 .0 in
-    let end₁ = end (d .before .before .before .before .before .before .before .before) ∙ ap (λ (x : Piece). usesEnd x (value k) (at k)) (there k .1) in
+    let end₁ = end (d .before .before .before .before .before .before .before .before) ∙ ap (λ (x : Piece). uses-end x (value k) (at k)) (there k .1) in
     let near = uses-start-near P (at k) in
     let is = uses-end-is P (value k) (at k) in
     let step = print-turn (hint k) (value k) (cursor k) (at k) next (inv .3) (inv .4) (d .before .before .before .before .before .before .before .before .before .before .before .before .before .before .loop-test .taken) turned in (
       λ (r : Progress) (after : List ℕ) f. inv .0 r after
           (subst (λ (o : Outcome). Followed o (here .pos) r (here .out) after) (sym step)
           (followed-joined (omega (arith, size)) done
-          (subst (λ (n : ℕ). Followed (printFrom (value k) (piecesFrom (hint k) next) n) (d .before .before .n .given .0 .0) r last after) end₁ f))),
+          (subst (λ (n : ℕ). Followed (print-from (value k) (pieces-from (hint k) next) n) (d .before .before .n .given .0 .0) r last after) end₁ f))),
       omega (arith, size),
       kept ∙ inv .2,
       below,
@@ -141,7 +144,7 @@ loop-holds c =
     let known = hint-pieces (a .hint .now) (q .0) in (
       λ (r : Progress) (after : List ℕ) f.
           subst (λ (o : Outcome). Followed o 0 r (a .out .now) after)
-          (print-start (a .value .now) (piecesFrom (a .hint .now) 0) ∙ sym (ap (λ (ps : List Piece). printing ps (a .value .now)) (known .0))) f,
+          (print-start (a .value .now) (pieces-from (a .hint .now) 0) ∙ sym (ap (λ (ps : List Piece). printing ps (a .value .now)) (known .0))) f,
       omega (arith, q .1),
       refl,
       known .1,
@@ -196,14 +199,14 @@ returns-2 c =
     let k = c .before .before .before .before .before .before .before .before .before in
     let here = c .before .before .before .before .before .before .before .before .before .before .before .before .before .before .loop in
     let inv = here .inv in
-    let P : Piece = pieceAt (hint k) (cursor k) in
+    let P : Piece = piece-at (hint k) (cursor k) in
     let fault = c .before .place .given in
     let last : List ℕ = c .before .before .before .before .before .print-uses .last .1 .1 .1 .1 .0 in
     let turned = turn-either (hint k) (cursor k) (inv .3) (inv .4) in
     let step = print-turn (hint k) (value k) (cursor k) (at k) (turned .0) (inv .3) (inv .4) (c .before .before .before .before .before .before .before .before .before .before .before .before .before .loop-test .taken) (turned .1) in
     inv .0 (Fault (fault .0 .0)) last
     (subst (λ (o : Outcome). Followed o (here .pos) (Fault (fault .0 .0)) (here .out) last) (sym step)
-    (followed-fault (printFrom (value k) (piecesFrom (hint k) (turned .0)) (usesEnd P (value k) (at k))) (followed (c .before .before .before .before .before) (Fault (fault .0 .0)) (fault .1))))
+    (followed-fault (print-from (value k) (pieces-from (hint k) (turned .0)) (uses-end P (value k) (at k))) (followed (c .before .before .before .before .before) (Fault (fault .0 .0)) (fault .1))))
 
 mul-at : tie.Need-mul-at Inv-loop μ-loop
 mul-at c = omega (arith, short (c .before .before .before .before .before .before .before .before))
@@ -221,11 +224,11 @@ loop-again c =
     let k = c .before .before .before .before .before .before .before .before .before .before .before in
     let inv = c .before .before .before .before .before .before .before .before .before .before .before .before .before .before .before .before .loop .inv in
     let next = there k .2 in
-    let below : pieceEnd (hint k) (cursor k) < length (hint k) = omega (arith, next, c .if1 .taken) in
+    let below : piece-end (hint k) (cursor k) < length (hint k) = omega (arith, next, c .if1 .taken) in
     again (c .before) (c .before .before .before .before .before .before .before .before .before .before .before .before .piece .given .0 .1 .0)
-    (turn-next (hint k) (cursor k) (inv .3) (inv .4) below ∙ ap (piecesFrom (hint k)) (sym next))
+    (turn-next (hint k) (cursor k) (inv .3) (inv .4) below ∙ ap (pieces-from (hint k)) (sym next))
     (c .if1 .taken)
-    (ap (λ (n : ℕ). stuckAt (from (pieceSize (hint k)) (length (hint k)) n)) next ∙ stuck-step (hint k) (cursor k) (inv .3) (there k .0) ∙ inv .4)
+    (ap (λ (n : ℕ). stuck-at (from (piece-size (hint k)) (length (hint k)) n)) next ∙ stuck-step (hint k) (cursor k) (inv .3) (there k .0) ∙ inv .4)
 
 loop-less-2 : tie.Need-loop-less-2 Inv-loop μ-loop
 loop-less-2 c = less (c .before .before .before .before .before .before .before .before .before)
@@ -234,7 +237,7 @@ loop-again-2 : tie.Need-loop-again-2 Inv-loop μ-loop
 loop-again-2 c =
     let k = c .before .before .before .before .before .before .before .before .before .before .before in
     let inv = c .before .before .before .before .before .before .before .before .before .before .before .before .before .before .before .before .loop .inv in
-    let past : length (hint k) ≤ pieceEnd (hint k) (cursor k) = omega (arith, there k .2, c .if1 .left) in
+    let past : length (hint k) ≤ piece-end (hint k) (cursor k) = omega (arith, there k .2, c .if1 .left) in
     again (c .before) (cursor k) (turn-last (hint k) (cursor k) (inv .3) (inv .4) past) (inv .3) (inv .4)
 
 same-length-3 : tie.Need-same-length-3 Inv-loop μ-loop
@@ -246,7 +249,7 @@ returns-3 c =
     let here = c .before .loop in
     here .inv .0 (To (here .pos)) (here .out)
     (subst (λ (o : Outcome). Followed o (here .pos) (To (here .pos)) (here .out) (here .out))
-    (sym (print-end (a .value .now) (piecesFrom (a .hint .now) (here .cursor)) (here .at) (pieces-allowed (a .hint .now) (here .cursor)) (c .loop-test .left)))
+    (sym (print-end (a .value .now) (pieces-from (a .hint .now) (here .cursor)) (here .at) (pieces-allowed (a .hint .now) (here .cursor)) (c .loop-test .left)))
     (followed-none (here .pos) (here .out)))
 
 pub print-pieces-spec : {M : Type 1} → statement M

@@ -7,12 +7,17 @@ use mathlib.Core.List.{List}
 use native.Mathlib.Omega.{arith}
 use lib.ListN.{length}
 use borrow.Author.Tests.{not-true, not-false}
-use Rattle.hint.proofs.Bounds.{letters, longest-small, number-short}
-use Rattle.hint.proofs.CutLaws.{passed-stuck, passed-whole, stuck-at, stuck-below}
-use Rattle.hint.specs.Inner.{Wrote, wrote, failed}
-use Rattle.hint.specs.Character.{characterSize}
-use Rattle.hint.specs.Cut.{cut}
-use Rattle.hint.specs.Digits.{digits, baseOf, bigEndian}
+use Rattle.hint.proofs.Bounds.{letters}
+use Rattle.hint_form.proofs.HintLaws.{longest-small}
+use Rattle.digit.proofs.Sizes.{number-short}
+use Rattle.hint.proofs.UsesLaws.{passed-stuck, passed-whole}
+use Rattle.character.proofs.CutLaws.{stuck-there, stuck-below}
+use Rattle.buffer.specs.Buffer.{Wrote}
+use Rattle.hint.specs.Followed.{wrote, failed}
+use Rattle.character.specs.Character.{character-size}
+use Rattle.character.specs.Cut.{cut}
+use Rattle.digit.specs.Digits.{digits, big-endian}
+use Rattle.hint_form.specs.Form.{base-of}
 use Rattle.hint.proofs.pieces.print_use.Statement.{statement}
 use Rattle.hint.proofs.pieces.print_use.Tie as tie
 
@@ -35,9 +40,9 @@ print-digits-requires c κs =
     let p = c .before .before .before .before .before .before .before .pre in
     let known = letters (a .format) (sym (c .before .before .before .before .passes-on .ensures) ∙ not-true _ (c .before .before .before .if1 .taken)) (omega (arith, p)) in
     let base = c .before .base-of .ensures in
-    let short = number-short (baseOf (a .format)) (a .s .now) (known .0) (p .0 .0) (λ (k : ℕ). omega (arith, c .before .before .before .before .before .before .shared-slice-known .given k)) in
-    let same : digits (c .before .base-of .result) (c .before .before .big-endian .result) ≡ digits (baseOf (a .format)) (bigEndian 0 (a .s .now)) =
-    ap (digits (c .before .base-of .result)) (c .before .before .big-endian .ensures) ∙ ap (λ (b : ℕ). digits b (bigEndian 0 (a .s .now))) base in
+    let short = number-short (base-of (a .format)) (a .s .now) (known .0) (p .0 .0) (λ (k : ℕ). omega (arith, c .before .before .before .before .before .before .shared-slice-known .given k)) in
+    let same : digits (c .before .base-of .result) (c .before .before .big-endian .result) ≡ digits (base-of (a .format)) (big-endian 0 (a .s .now)) =
+    ap (digits (c .before .base-of .result)) (c .before .before .big-endian .ensures) ∙ ap (λ (b : ℕ). digits b (big-endian 0 (a .s .now))) base in
     let long = ap length same in
     (omega (arith, known), omega (arith, p))
 
@@ -45,11 +50,11 @@ same-length : tie.Need-same-length
 same-length c = search needs
 
 returns : tie.Need-returns
-unfolding Rattle.hint.specs.Print.useText
+unfolding Rattle.hint.specs.Print.use-text
 returns c =
     let a = c .before .before .before .before .before .before .before .before .before .before .args in
-    let same : digits (c .before .before .before .before .base-of .result) (c .before .before .before .before .before .big-endian .result) ≡ digits (baseOf (a .format)) (bigEndian 0 (a .s .now)) =
-    ap (digits (c .before .before .before .before .base-of .result)) (c .before .before .before .before .before .big-endian .ensures) ∙ ap (λ (b : ℕ). digits b (bigEndian 0 (a .s .now))) (c .before .before .before .before .base-of .ensures) in
+    let same : digits (c .before .before .before .before .base-of .result) (c .before .before .before .before .before .big-endian .result) ≡ digits (base-of (a .format)) (big-endian 0 (a .s .now)) =
+    ap (digits (c .before .before .before .before .base-of .result)) (c .before .before .before .before .before .big-endian .ensures) ∙ ap (λ (b : ℕ). digits b (big-endian 0 (a .s .now))) (c .before .before .before .before .base-of .ensures) in
     simp (sym (c .before .before .before .before .before .before .before .passes-on .ensures) ∙ not-true _ (c .before .before .before .before .before .before .if1 .taken))
     (wrote (subst (λ (l : List ℕ). Wrote l (a .pos) (c .before .before .print-digits .result) (a .out .now) (c .before .before .print-digits .last .1 .1 .0)) same (c .before .before .print-digits .ensures)))
 
@@ -62,16 +67,16 @@ enum-known-i c = search needs
 add-t15 : tie.Need-add-t15
 add-t15 c =
     let a = c .before .before .before .before .before .before .before .before .args in
-    let at = stuck-at (cut (characterSize (a .format) (a .s .now)) (length (a .s .now))) (c .before .i .given .0 .0) (sym (c .before .before .before .first-fault .ensures) ∙ c .before .i .given .1) in
-    let below = stuck-below (characterSize (a .format) (a .s .now)) (length (a .s .now)) (c .before .i .given .0 .0) at in
+    let at = stuck-there (cut (character-size (a .format) (a .s .now)) (length (a .s .now))) (c .before .i .given .0 .0) (sym (c .before .before .before .first-fault .ensures) ∙ c .before .i .given .1) in
+    let below = stuck-below (character-size (a .format) (a .s .now)) (length (a .s .now)) (c .before .i .given .0 .0) at in
     omega (arith, longest-small (a .format), c .before .before .before .before .before .before .before .before .pre)
 
 returns-2 : tie.Need-returns-2
-unfolding Rattle.hint.specs.Print.useText
+unfolding Rattle.hint.specs.Print.use-text
 returns-2 c =
     let a = c .before .before .before .before .before .before .before .before .args in
     let i = c .before .i .given .0 .0 in
-    let at = passed-stuck (a .at) (a .s .now) (cut (characterSize (a .format) (a .s .now)) (length (a .s .now))) i (sym (c .before .before .before .first-fault .ensures) ∙ c .before .i .given .1) in
+    let at = passed-stuck (a .at) (a .s .now) (cut (character-size (a .format) (a .s .now)) (length (a .s .now))) i (sym (c .before .before .before .first-fault .ensures) ∙ c .before .i .given .1) in
     simp (sym (c .before .before .before .before .before .passes-on .ensures) ∙ not-false _ (c .before .before .before .before .if1 .left), at) failed
 
 enum-told : tie.Need-enum-told
@@ -84,10 +89,10 @@ same-length-2 : tie.Need-same-length-2
 same-length-2 c = search needs
 
 returns-3 : tie.Need-returns-3
-unfolding Rattle.hint.specs.Print.useText
+unfolding Rattle.hint.specs.Print.use-text
 returns-3 c =
     let a = c .before .before .before .before .before .before .before .before .before .before .before .args in
-    let at = passed-whole (a .at) (a .s .now) (cut (characterSize (a .format) (a .s .now)) (length (a .s .now))) (sym (c .before .before .before .before .before .before .first-fault .ensures) ∙ c .before .before .before .before .enum-told .given .1) in
+    let at = passed-whole (a .at) (a .s .now) (cut (character-size (a .format) (a .s .now)) (length (a .s .now))) (sym (c .before .before .before .before .before .before .first-fault .ensures) ∙ c .before .before .before .before .enum-told .given .1) in
     simp (sym (c .before .before .before .before .before .before .before .before .passes-on .ensures) ∙ not-false _ (c .before .before .before .before .before .before .before .if1 .left), at) (wrote (c .before .before .copy .ensures))
 
 pub print-use-spec : {M : Type 1} → statement M

@@ -7,13 +7,14 @@ use mathlib.Core.List.{List}
 use native.Mathlib.Omega.{arith}
 use borrow.Author.Needs.{needs}
 use lib.ListN.{length}
-use Rattle.hint.proofs.UsesLaws.{uses-none, uses-end, uses-step}
-use Rattle.hint.proofs.Bounds.{one-size, longest-small}
+use Rattle.hint.proofs.UsesLaws.{uses-none, uses-past, uses-step}
+use Rattle.hint.proofs.Bounds.{one-size}
+use Rattle.hint_form.proofs.HintLaws.{longest-small}
 use Rattle.hint.proofs.Outcomes.{followed-none, followed-next, followed-joined, followed-fault}
 use Rattle.hint.specs.declared.Progress.the-variants.{To, Fault}
 use Rattle.hint.specs.declared.Progress.{Progress}
-use Rattle.hint.specs.Inner.{Followed}
-use Rattle.hint.specs.Print.{Outcome, oneUse, uses}
+use Rattle.hint.specs.Followed.{Followed}
+use Rattle.hint.specs.Print.{Outcome, one-use, uses}
 use Rattle.hint.proofs.pieces.print_uses.Statement.{statement}
 use Rattle.hint.proofs.pieces.print_uses.Tie as tie
 
@@ -40,7 +41,7 @@ returns c =
     let here = c .before .before .loop in
     let inv = here .inv in
     inv .0 (To (here .next)) (here .out)
-    (subst (λ (o : Outcome). Followed o (here .next) (To (here .next)) (here .out) (here .out)) (sym (uses-end (here .left) (a .piece) (a .value .now) (here .at) (c .if1 .taken)))
+    (subst (λ (o : Outcome). Followed o (here .next) (To (here .next)) (here .out) (here .out)) (sym (uses-past (here .left) (a .piece) (a .value .now) (here .at) (c .if1 .taken)))
     (followed-none (here .next) (here .out)))
 
 sub-left : tie.Need-sub-left Inv-loop μ-loop
@@ -69,8 +70,8 @@ returns-2 c =
     let q = c .before .before .before .before .before .before .before .before .before .before .before .before .pre in
     let here = c .before .before .before .before .before .before .before .before .before .loop in
     let inv = here .inv in
-    let done : Followed (oneUse (a .piece) (here .left - 1) (a .value .now) (here .at)) (here .next) (Fault (c .before .place .given .0 .0)) (here .out) (c .before .before .before .before .before .print-one .last .1 .1 .1 .1 .0) =
-    subst (λ (r : Progress). Followed (oneUse (a .piece) (here .left - 1) (a .value .now) (here .at)) (here .next) r (here .out) (c .before .before .before .before .before .print-one .last .1 .1 .1 .1 .0)) (c .before .place .given .1) (c .before .before .before .before .before .print-one .ensures) in
+    let done : Followed (one-use (a .piece) (here .left - 1) (a .value .now) (here .at)) (here .next) (Fault (c .before .place .given .0 .0)) (here .out) (c .before .before .before .before .before .print-one .last .1 .1 .1 .1 .0) =
+    subst (λ (r : Progress). Followed (one-use (a .piece) (here .left - 1) (a .value .now) (here .at)) (here .next) r (here .out) (c .before .before .before .before .before .print-one .last .1 .1 .1 .1 .0)) (c .before .place .given .1) (c .before .before .before .before .before .print-one .ensures) in
     let step = uses-step (here .left) (a .piece) (a .value .now) (here .at) (c .before .before .before .before .before .before .before .before .loop-test .taken) (c .before .before .before .before .before .before .before .if1 .left) in
     inv .0 (Fault (c .before .place .given .0 .0)) (c .before .before .before .before .before .print-one .last .1 .1 .1 .1 .0)
     (subst (λ (o : Outcome). Followed o (here .next) (Fault (c .before .place .given .0 .0)) (here .out) (c .before .before .before .before .before .print-one .last .1 .1 .1 .1 .0)) (sym step)
@@ -93,8 +94,8 @@ loop-again c =
     let q = c .before .before .before .before .before .before .before .before .before .before .before .before .pre in
     let here = c .before .before .before .before .before .before .before .before .before .loop in
     let inv = here .inv in
-    let done : Followed (oneUse (a .piece) (here .left - 1) (a .value .now) (here .at)) (here .next) (To (c .before .n .given .0 .0)) (here .out) (c .before .before .before .before .before .print-one .last .1 .1 .1 .1 .0) =
-    subst (λ (r : Progress). Followed (oneUse (a .piece) (here .left - 1) (a .value .now) (here .at)) (here .next) r (here .out) (c .before .before .before .before .before .print-one .last .1 .1 .1 .1 .0)) (c .before .n .given .1) (c .before .before .before .before .before .print-one .ensures) in
+    let done : Followed (one-use (a .piece) (here .left - 1) (a .value .now) (here .at)) (here .next) (To (c .before .n .given .0 .0)) (here .out) (c .before .before .before .before .before .print-one .last .1 .1 .1 .1 .0) =
+    subst (λ (r : Progress). Followed (one-use (a .piece) (here .left - 1) (a .value .now) (here .at)) (here .next) r (here .out) (c .before .before .before .before .before .print-one .last .1 .1 .1 .1 .0)) (c .before .n .given .1) (c .before .before .before .before .before .print-one .ensures) in
     let step = uses-step (here .left) (a .piece) (a .value .now) (here .at) (c .before .before .before .before .before .before .before .before .loop-test .taken) (c .before .before .before .before .before .before .before .if1 .left) in
     let size = one-size (a .piece) (a .value .now) (q .1 .0 .0) (q .1 .0 .1) (λ (k : ℕ). omega (arith, c .before .before .before .before .before .before .before .before .before .before .before .shared-slice-known .given k)) (here .left - 1) (here .at) (c .before .before .before .before .before .before .before .if1 .left) in
     let place = followed-next done in

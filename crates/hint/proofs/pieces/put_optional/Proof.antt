@@ -8,8 +8,8 @@ use native.Mathlib.Omega.{arith}
 use native.Mathlib.Nat.{add-zero}
 use lib.ListN.{length}
 use Rattle.hint.proofs.UsesLaws.{optional-none, optional-some}
-use Rattle.hint.proofs.Writing.{written-none}
-use Rattle.hint.specs.Inner.{Wrote}
+use Rattle.buffer.proofs.Writing.{written-none}
+use Rattle.buffer.specs.Buffer.{Wrote}
 use Rattle.hint.proofs.pieces.put_optional.Statement.{statement}
 use Rattle.hint.proofs.pieces.put_optional.Tie as tie
 

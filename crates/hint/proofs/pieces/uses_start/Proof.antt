@@ -8,11 +8,11 @@ add-result : tie.Need-add-result
 add-result c = search needs
 
 returns : tie.Need-returns
-unfolding Rattle.hint.specs.Print.usesStart
+unfolding Rattle.hint.specs.Print.uses-start
 returns c = simp (c .if1 .taken)
 
 returns-2 : tie.Need-returns-2
-unfolding Rattle.hint.specs.Print.usesStart
+unfolding Rattle.hint.specs.Print.uses-start
 returns-2 c = simp (c .if1 .left)
 
 pub uses-start-spec : {M : Type 1} → statement M

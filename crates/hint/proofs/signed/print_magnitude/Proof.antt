@@ -7,9 +7,10 @@ use mathlib.Core.List.{List}
 use native.Mathlib.Omega.{arith}
 use native.Mathlib.Nat.{add-zero}
 use lib.ListN.{length}
-use Rattle.hint.proofs.Writing.{written-none}
-use Rattle.hint.specs.declared.Form.{Form}
-use Rattle.hint.specs.Inner.{Wrote, Usable}
+use Rattle.buffer.proofs.Writing.{written-none}
+use Rattle.hint_form.specs.declared.Form.{Form}
+use Rattle.buffer.specs.Buffer.{Wrote}
+use Rattle.hint_form.specs.Form.{Usable}
 use Rattle.hint.specs.Answer.{magnitude}
 use Rattle.hint.proofs.signed.print_magnitude.Statement.{statement}
 use Rattle.hint.proofs.signed.print_magnitude.Tie as tie

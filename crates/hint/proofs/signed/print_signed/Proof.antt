@@ -10,8 +10,8 @@ use lib.Signed.{ltZ}
 use lib.ListN.{length}
 use mir.Facts.{toZ-ofZ}
 use Rattle.hint.proofs.SignedLaws.{magnitude-small, magnitude-size, signed-negative, signed-other}
-use Rattle.hint.proofs.Writing.{wrote-more}
-use Rattle.hint.specs.Inner.{Wrote}
+use Rattle.buffer.proofs.Writing.{wrote-more}
+use Rattle.buffer.specs.Buffer.{Wrote}
 use Rattle.hint.specs.Answer.{magnitude, signed}
 use Rattle.hint.proofs.signed.print_signed.Statement.{statement}
 use Rattle.hint.proofs.signed.print_signed.Tie as tie

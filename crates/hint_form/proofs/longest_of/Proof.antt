@@ -1,0 +1,29 @@
+-- `longest_of` is right: each letter picks its case.
+-- Assumes nothing.
+use mathlib.Core.Logic.{⊎-elim, inl, inr}
+use borrow.Author.Tests.{ne-eqb}
+use Rattle.hint_form.proofs.longest_of.Statement.{statement}
+use Rattle.hint_form.proofs.longest_of.Tie as tie
+
+returns : tie.Need-returns
+unfolding Rattle.hint_form.specs.Hint.longest
+returns c = ⊎-elim (λ e. rw e) (⊎-elim (λ e. rw e) (λ e. rw e)) (c .match .keys1)
+
+returns-2 : tie.Need-returns-2
+unfolding Rattle.hint_form.specs.Hint.longest
+returns-2 c = ⊎-elim (λ e. rw e) (λ e. rw e) (c .match .keys2)
+
+returns-3 : tie.Need-returns-3
+unfolding Rattle.hint_form.specs.Hint.longest
+returns-3 c =
+    let other = c .match .rest in
+    simp (
+      ne-eqb _ 100 (λ e. other .0 .1 (inl e)),
+      ne-eqb _ 111 (λ e. other .0 .1 (inr (inl e))),
+      ne-eqb _ 120 (λ e. other .0 .1 (inr (inr e))),
+      ne-eqb _ 97 (λ e. other .1 (inl e)),
+      ne-eqb _ 116 (λ e. other .1 (inr e)),
+    )
+
+pub longest-of-spec : {M : Type 1} → statement M
+longest-of-spec = tie.close (tie.spec returns returns-2 returns-3)

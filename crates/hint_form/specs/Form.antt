@@ -1,0 +1,43 @@
+-- The grammar of a hint for integers (document 01, "Printing by hint"; RFC 2579, 3.1).
+-- Assumes nothing.
+use Prim.Native.Nat.{ℕ, _≤_}
+use mathlib.Core.Bool.{Bool, true, false, cond, _&&_, _||_}
+use mathlib.Core.List.{List}
+use lib.Dec.{eqb}
+use lib.ListN.{length}
+use Rattle.buffer.specs.Buffer.{byte-at}
+use Rattle.hint_form.specs.declared.Form.{Form}
+use Rattle.hint_form.specs.declared.Form.the-variants.{Base, Point, Bad}
+use Rattle.hint_form.specs.Hint.{number-at, bounded}
+
+-- the base that a format letter means: x 16, o 8, b 2, and d 10
+unfoldable pub base-of : ℕ → ℕ
+base-of format = cond (eqb format 120) 16 (cond (eqb format 111) 8 (cond (eqb format 98) 2 10))
+
+-- d-N: a point before the last N digits, N from 1 to 10
+unfoldable pub read-point : List ℕ → Form
+read-point hint =
+    cond
+    (eqb (byte-at hint 0) 100 && eqb (byte-at hint 1) 45 && bounded hint 2 10 && eqb (number-at hint 2 .next) (length hint))
+    (Point (number-at hint 2 .value))
+    Bad
+
+-- a hint for integers: x, o, b, d or d-N
+unfoldable pub read-form : List ℕ → Form
+read-form hint =
+    cond
+    (eqb (length hint) 1 && (eqb (byte-at hint 0) 120 || eqb (byte-at hint 0) 111 || eqb (byte-at hint 0) 98 || eqb (byte-at hint 0) 100))
+    (Base (base-of (byte-at hint 0)))
+    (read-point hint)
+
+-- a form that can be printed by: a base from 2 to 16, or at most ten places
+abbrev pub Usable : Form → Type 0
+Usable (Base base) = (2 ≤ base) × (base ≤ 16)
+Usable (Point places) = places ≤ 10
+Usable Bad = Unit {0}
+
+-- whether a form is none
+abbrev pub is-bad : Form → Bool
+is-bad (Base base) = false
+is-bad (Point places) = false
+is-bad Bad = true
