@@ -8,7 +8,8 @@ use Rattle.digit.specs.Digits.{glyph, digits-within, digits, pointed, big-endia
 use Rattle.character.specs.Cut.{before, cut-within, cut}
 use Rattle.hint_form.specs.Hint.{digit, mark, mark-at, mark-size, number-after, number-at, allowed, bounded, longest, starred, length-place, format-place, separator-of, terminator-of, is-piece, piece-at, piece-end, piece-size, pieces-of, read-hint}
 use Rattle.character.specs.Character.{between, tail, lead-size, second-low, second-high, tails, sequence-size, character-size}
-use Rattle.hint.specs.Print.{joined, passes, passed, use-text, optional, following, one-use, uses, repeats, uses-start, uses-end, turn, printing-within, printing}
+use Rattle.hint_piece.specs.Use.{joined, passes, passed, use-text, optional, following, one-use, uses, repeats, uses-start, uses-end}
+use Rattle.hint.specs.Print.{turn, printing-within, printing}
 use Rattle.hint.specs.Answer.{text, refusal, of-outcome, by-pieces, octets-verdict, magnitude, signed, in-range, by-form, integer-verdict}
 
 -- P6: 02 0A 0B 05 under `*1d.:1d` is `10.11:5`

@@ -10,14 +10,16 @@ use lib.IntN.{ℤ, pos, negsuc}
 use lib.ListN.{length}
 use Rattle.hint_form.specs.Hint.{pieces, read-hint, is-pieces, pieces-in}
 use Rattle.hint_form.specs.Form.{read-form}
-use Rattle.hint.specs.Print.{printed, uses, repeats, uses-start, uses-end, turn, printing, printing-within}
+use Rattle.hint_piece.specs.Use.{printed, uses, repeats, uses-start, uses-end}
+use Rattle.hint.specs.Print.{turn, printing, printing-within}
 use Rattle.hint.specs.Answer.{in-range, signed}
 use Rattle.hint_form.specs.declared.Piece.{Piece}
-use Rattle.hint.proofs.Outcomes.{size-of, joined-size}
+use Rattle.hint_piece.proofs.Outcomes.{size-of, joined-size}
 use Rattle.digit.proofs.Sizes.{Octets}
-use Rattle.hint.proofs.Bounds.{uses-size}
+use Rattle.hint_piece.proofs.Bounds.{uses-size}
 use Rattle.hint_form.proofs.PieceLaws.{AllAllowed, pieces-from, pieces-allowed, hint-pieces}
-use Rattle.hint.proofs.PrintingLaws.{turn-allowed, uses-start-near, uses-end-is}
+use Rattle.hint.proofs.PrintingLaws.{turn-allowed}
+use Rattle.hint_piece.proofs.UsesLaws.{uses-start-near, uses-end-is}
 use Rattle.hint.proofs.SignedLaws.{magnitude-small, magnitude-size}
 use Rattle.hint_form.proofs.FormLaws.{form-usable}
 

@@ -1,6 +1,3 @@
-pub mod Outcomes
-pub mod Bounds
-pub mod UsesLaws
 pub mod PrintingLaws
 pub mod SignedLaws
 pub mod Answers

@@ -1,41 +1,28 @@
 -- Laws of printing by pieces: the pieces in turn, and printing from any octet on, one step at a time.
 -- Assumes nothing.
-use Prim.Native.Nat.{ℕ, zero, suc, _+_, _-_, _*_, _≤_, _<_}
-use native.Mathlib.Nat.{sub-zero, one-mul, mul-le-mul-right, le-trans, le-of-suc-le-suc}
+use Prim.Native.Nat.{ℕ, zero, suc, _-_, _≤_, _<_}
+use native.Mathlib.Nat.{sub-zero}
 use native.Mathlib.Omega.{arith}
 use mathlib.Core.Path.{_≡_, refl, sym, ap, _∙_, subst}
-use mathlib.Core.Bool.{Bool, true, false, cond}
+use mathlib.Core.Bool.{Bool, true, false}
 use mathlib.Core.List.{List, [], _∷_}
 use lib.Dec.{leb}
 use lib.ListN.{length}
 use borrow.Author.Tests.{le-leb, lt-leb, leb-true, leb-false}
-use Rattle.buffer.specs.Buffer.{byte-at}
 use Rattle.character.specs.Cut.{stuck-at}
 use Rattle.hint_form.specs.Hint.{piece-at, piece-end, piece-size}
-use Rattle.hint.specs.Print.{Outcome, printed, joined, uses, repeats, uses-start, uses-end, turn, printing, printing-within}
+use Rattle.hint_piece.specs.Use.{Outcome, printed, joined, uses, repeats, uses-start, uses-end}
+use Rattle.hint.specs.Print.{turn, printing, printing-within}
 use Rattle.hint_form.specs.declared.Piece.{Piece}
 use Rattle.character.specs.declared.Search.the-variants.{Nowhere}
 use Rattle.character.proofs.CutLaws.{from}
 use Rattle.hint_form.proofs.PieceLaws.{AllAllowed, pieces-from, piece-there, stuck-step, pieces-step, pieces-end, pieces-allowed}
+use Rattle.hint_piece.proofs.UsesLaws.{uses-end-after}
 
 pub turn-allowed : (p : Piece) (ps : List Piece) → AllAllowed (p ∷ ps) → AllAllowed (turn p ps)
 unfolding turn
 turn-allowed p [] h = h
 turn-allowed p (q ∷ ps) h = h .1
-
--- where the octets of a piece end
-pub uses-end-is : (p : Piece) (value : List ℕ) (at : ℕ) → uses-start p at + repeats p value at * p .size ≡ uses-end p value at
-unfolding uses-end
-uses-end-is p value at = refl
-
--- a piece takes an octet at least
-pub uses-end-after : (p : Piece) (value : List ℕ) (at : ℕ) → 0 < p .size → at < uses-end p value at
-unfolding uses-end uses-start repeats
-uses-end-after p value at some = go (p .starred)
-  where
-    go : (t : Bool) → at < cond t (at + 1) at + cond t (byte-at value at) 1 * p .size
-    go true = omega arith
-    go false = omega (arith, one-mul (p .size))
 
 module _ (value : List ℕ) where
   -- as many steps as are enough print the same
@@ -121,21 +108,3 @@ print-turn hint value cursor at next h s l t =
     ap (λ (ps : List Piece). print-from value ps at) these
     ∙ print-step value p (pieces-from hint (piece-end hint cursor)) at allowed l
     ∙ ap (λ (ps : List Piece). joined (uses (repeats p value at) p value (uses-start p at)) (print-from value ps (uses-end p value at))) t
-
--- where the uses of a piece start
-pub uses-start-near : (p : Piece) (at : ℕ) → (at ≤ uses-start p at) × (uses-start p at ≤ at + 1)
-unfolding uses-start
-uses-start-near p at = go (p .starred)
-  where
-    go : (t : Bool) → (at ≤ cond t (at + 1) at) × (cond t (at + 1) at ≤ at + 1)
-    go true = omega arith
-    go false = omega arith
-
--- how many octets they take
-pub uses-octets-small : (p : Piece) (value : List ℕ) (at : ℕ) → byte-at value at < 256 → p .size ≤ 255 → repeats p value at * p .size ≤ 65025
-unfolding repeats
-uses-octets-small p value at octet small = go (p .starred)
-  where
-    go : (t : Bool) → cond t (byte-at value at) 1 * p .size ≤ 65025
-    go true = le-trans (mul-le-mul-right (p .size) (le-of-suc-le-suc octet)) (omega (arith))
-    go false = omega (arith, one-mul (p .size))

@@ -15,8 +15,7 @@ use Rattle.hint_form.specs.Form.{Usable}
 use Rattle.hint.specs.Answer.{in-range, magnitude, signed}
 use Rattle.hint_form.specs.declared.Form.{Form}
 use Rattle.hint_form.specs.declared.Form.the-variants.{Base, Point, Bad}
-use Rattle.digit.proofs.Sizes.{digits-short}
-use Rattle.digit.proofs.Sizes.{pointed-size}
+use Rattle.digit.proofs.Sizes.{digits-short, pointed-size}
 
 -- the two tests of the range
 pub range-high : (z : ℤ) → leZ (negsuc 2147483647) z ≡ true → leZ z (pos 4294967295) ≡ in-range z

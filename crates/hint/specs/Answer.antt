@@ -10,7 +10,8 @@ use lib.IntN.{ℤ, pos, negsuc}
 use Rattle.digit.specs.Digits.{digits, pointed}
 use Rattle.hint_form.specs.Hint.{Reading, pieces, none, read-hint}
 use Rattle.hint_form.specs.Form.{read-form}
-use Rattle.hint.specs.Print.{Outcome, printed, fault, printing}
+use Rattle.hint_piece.specs.Use.{Outcome, printed, fault}
+use Rattle.hint.specs.Print.{printing}
 use Rattle.hint_form.specs.declared.Form.{Form}
 use Rattle.hint_form.specs.declared.Form.the-variants.{Base, Point, Bad}
 use Rattle.hint.specs.declared.Answer.{Answer}

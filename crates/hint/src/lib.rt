@@ -9,6 +9,7 @@ ghost use lib.ListN.{length};
 use buffer::clear;
 use hint_form::form_of;
 use hint_form::is_hint;
+use hint_piece::Progress;
 use pieces::print_pieces;
 use signed::in_range;
 use signed::is_bad;
@@ -70,12 +71,6 @@ impl Answer {
             Answer::OutOfRange => 0,
         }
     }
-}
-
-// Printing has come to this place of the output, or found this octet at fault.
-pub enum Progress {
-    To(usize),
-    Fault(usize),
 }
 
 // Prints octets by a hint for octets. Works on the first 4,096 bytes of the output: the text, then zeros. A refusal zeroes

@@ -6,11 +6,11 @@ use native.Mathlib.Omega.{arith}
 use borrow.Author.Tests.{not-true, not-false}
 use lib.ListN.{length, take, length-take}
 use Rattle.hint.proofs.Answers.{answered-short, answered-refusal, answered-printed, zeros-again, fault-refusal, octets-short, octets-long, octets-hint, octets-printed}
-use Rattle.hint.specs.declared.Progress.the-variants.{To, Fault}
-use Rattle.hint.specs.declared.Progress.{Progress}
+use Rattle.hint_piece.specs.declared.Progress.the-variants.{To, Fault}
+use Rattle.hint_piece.specs.declared.Progress.{Progress}
 use Rattle.hint.specs.declared.Answer.the-variants.{LongValue, BadHint, BadOctet}
 use Rattle.hint.specs.Answer.{octets-verdict}
-use Rattle.hint.specs.Followed.{Followed}
+use Rattle.hint_piece.specs.Followed.{Followed}
 use Rattle.hint_form.specs.Hint.{pieces-in, read-hint}
 use Rattle.hint.specs.Print.{printing}
 use Rattle.hint.proofs.octets.Statement.{statement}

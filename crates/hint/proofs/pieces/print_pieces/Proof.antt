@@ -9,20 +9,22 @@ use native.Mathlib.Omega.{arith}
 use borrow.Author.Needs.{needs}
 use lib.ListN.{length}
 use Rattle.hint_form.proofs.PieceLaws.{Allowed, pieces-from, pieces-allowed, piece-there, stuck-step, hint-pieces}
-use Rattle.hint.proofs.PrintingLaws.{print-from, print-start, print-end, print-turn, turn-next, turn-last, turn-either, uses-start-near, uses-octets-small, uses-end-after, uses-end-is}
+use Rattle.hint.proofs.PrintingLaws.{print-from, print-start, print-end, print-turn, turn-next, turn-last, turn-either}
+use Rattle.hint_piece.proofs.UsesLaws.{uses-start-near, uses-octets-small, uses-end-after, uses-end-is}
 use Rattle.digit.proofs.Sizes.{Octets}
-use Rattle.hint.proofs.Bounds.{uses-size}
+use Rattle.hint_piece.proofs.Bounds.{uses-size}
 use Rattle.hint_form.proofs.HintLaws.{longest-small, found-whole, found-nothing, piece-allowed}
-use Rattle.hint.proofs.Outcomes.{followed-none, followed-next, followed-joined, followed-fault}
+use Rattle.hint_piece.proofs.Outcomes.{followed-none, followed-next, followed-joined, followed-fault}
 use Rattle.character.proofs.CutLaws.{from}
 use Rattle.character.specs.declared.Search.the-variants.{Nowhere}
-use Rattle.hint.specs.declared.Progress.the-variants.{To, Fault}
-use Rattle.hint.specs.declared.Progress.{Progress}
+use Rattle.hint_piece.specs.declared.Progress.the-variants.{To, Fault}
+use Rattle.hint_piece.specs.declared.Progress.{Progress}
 use Rattle.hint_form.specs.declared.Piece.{Piece}
-use Rattle.hint.specs.Followed.{Followed}
+use Rattle.hint_piece.specs.Followed.{Followed}
 use Rattle.character.specs.Cut.{stuck-at}
 use Rattle.hint_form.specs.Hint.{pieces-in, is-piece, piece-at, piece-end, piece-size, read-hint}
-use Rattle.hint.specs.Print.{Outcome, uses, repeats, uses-start, uses-end, turn, printing}
+use Rattle.hint_piece.specs.Use.{Outcome, uses, repeats, uses-start, uses-end}
+use Rattle.hint.specs.Print.{turn, printing}
 use Rattle.hint.proofs.pieces.print_pieces.Statement.{statement}
 use Rattle.hint.proofs.pieces.print_pieces.Tie as tie
 

@@ -1,15 +1,15 @@
 -- `passes_on` is right: it is the definition, test by test.
 -- Assumes nothing.
 use borrow.Author.Tests.{eq-eqb, ne-eqb}
-use Rattle.hint.proofs.pieces.passes_on.Statement.{statement}
-use Rattle.hint.proofs.pieces.passes_on.Tie as tie
+use Rattle.hint_piece.proofs.passes_on.Statement.{statement}
+use Rattle.hint_piece.proofs.passes_on.Tie as tie
 
 returns : tie.Need-returns
-unfolding Rattle.hint.specs.Print.passes
+unfolding Rattle.hint_piece.specs.Use.passes
 returns c = simp (eq-eqb _ _ (c .if1 .taken))
 
 returns-2 : tie.Need-returns-2
-unfolding Rattle.hint.specs.Print.passes
+unfolding Rattle.hint_piece.specs.Use.passes
 returns-2 c = simp (ne-eqb _ _ (c .if1 .left))
 
 pub passes-on-spec : {M : Type 1} → statement M

@@ -6,8 +6,8 @@ use mathlib.Core.Path.{ap, sym, _∙_, _≡_}
 use native.Mathlib.Omega.{arith}
 use lib.ListN.{take, drop, length, length-drop}
 use lib.Seq.{take-all}
-use Rattle.hint.proofs.pieces.use_octets.Statement.{statement}
-use Rattle.hint.proofs.pieces.use_octets.Tie as tie
+use Rattle.hint_piece.proofs.use_octets.Statement.{statement}
+use Rattle.hint_piece.proofs.use_octets.Tie as tie
 
 sub-if1 : tie.Need-sub-if1
 sub-if1 c = search needs

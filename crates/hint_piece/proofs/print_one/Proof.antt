@@ -6,17 +6,17 @@ use mathlib.Core.Path.{_≡_, ap, subst, _∙_}
 use mathlib.Core.List.{List}
 use native.Mathlib.Omega.{arith}
 use lib.ListN.{length, take, drop, length-take, length-drop}
-use Rattle.hint.proofs.Bounds.{use-size, optional-size}
+use Rattle.hint_piece.proofs.Bounds.{use-size, optional-size}
 use Rattle.digit.proofs.Sizes.{octets-take, octets-drop}
 use Rattle.hint_form.proofs.HintLaws.{longest-small}
-use Rattle.hint.proofs.Outcomes.{followed-next, followed-joined, followed-fault}
-use Rattle.hint.specs.declared.Progress.the-variants.{To, Fault}
-use Rattle.hint.specs.declared.Progress.{Progress}
+use Rattle.hint_piece.proofs.Outcomes.{followed-next, followed-joined, followed-fault}
+use Rattle.hint_piece.specs.declared.Progress.the-variants.{To, Fault}
+use Rattle.hint_piece.specs.declared.Progress.{Progress}
 use Rattle.buffer.specs.Buffer.{Wrote}
-use Rattle.hint.specs.Followed.{Followed, wrote}
-use Rattle.hint.specs.Print.{use-text, optional, following, printed}
-use Rattle.hint.proofs.pieces.print_one.Statement.{statement}
-use Rattle.hint.proofs.pieces.print_one.Tie as tie
+use Rattle.hint_piece.specs.Followed.{Followed, wrote}
+use Rattle.hint_piece.specs.Use.{use-text, optional, following, printed}
+use Rattle.hint_piece.proofs.print_one.Statement.{statement}
+use Rattle.hint_piece.proofs.print_one.Tie as tie
 
 use-octets-requires : tie.Need-use-octets-requires
 use-octets-requires c κs = search needs
@@ -67,7 +67,7 @@ same-length : tie.Need-same-length
 same-length c = search needs
 
 returns : tie.Need-returns
-unfolding Rattle.hint.specs.Print.one-use
+unfolding Rattle.hint_piece.specs.Use.one-use
 returns c =
     let a = c .before .before .before .before .before .before .before .before .before .before .before .before .before .before .before .args in
     let q = c .before .before .before .before .before .before .before .before .before .before .before .before .before .before .before .pre in
@@ -88,7 +88,7 @@ same-length-2 : tie.Need-same-length-2
 same-length-2 c = search needs
 
 returns-2 : tie.Need-returns-2
-unfolding Rattle.hint.specs.Print.one-use
+unfolding Rattle.hint_piece.specs.Use.one-use
 returns-2 c =
     let a = c .before .before .before .before .before .before .before .before .before .before .args in
     let q = c .before .before .before .before .before .before .before .before .before .before .pre in

@@ -3,9 +3,9 @@
 use Prim.Native.Nat.{ℕ}
 use mathlib.Core.List.{List}
 use Rattle.buffer.specs.Buffer.{Wrote}
-use Rattle.hint.specs.Print.{Outcome, printed, fault}
-use Rattle.hint.specs.declared.Progress.{Progress}
-use Rattle.hint.specs.declared.Progress.the-variants.{To, Fault}
+use Rattle.hint_piece.specs.Use.{Outcome, printed, fault}
+use Rattle.hint_piece.specs.declared.Progress.{Progress}
+use Rattle.hint_piece.specs.declared.Progress.the-variants.{To, Fault}
 
 -- an outcome's bytes are written at a place and the place after them is answered, or its fault is answered
 pub data Followed : Outcome → ℕ → Progress → List ℕ → List ℕ → Type 0 where

@@ -14,9 +14,9 @@ use Rattle.hint_form.specs.Form.{base-of}
 use Rattle.character.specs.Cut.{Cut, whole, stuck, cut}
 use Rattle.character.specs.Character.{character-size}
 use Rattle.hint_form.specs.Hint.{longest}
-use Rattle.hint.specs.Print.{printed, passes, passed, use-text, optional, following, one-use, uses}
+use Rattle.hint_piece.specs.Use.{printed, passes, passed, use-text, optional, following, one-use, uses}
 use Rattle.hint_form.specs.declared.Piece.{Piece}
-use Rattle.hint.proofs.Outcomes.{size-of, joined-size}
+use Rattle.hint_piece.proofs.Outcomes.{size-of, joined-size}
 use Rattle.digit.proofs.Sizes.{Octets, octets-drop, octets-take, number-short}
 
 -- a format that allows a length and doesn't pass characters on is x, d or o: its base is 8 at least, and its length 8 at most

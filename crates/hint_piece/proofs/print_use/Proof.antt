@@ -7,19 +7,19 @@ use mathlib.Core.List.{List}
 use native.Mathlib.Omega.{arith}
 use lib.ListN.{length}
 use borrow.Author.Tests.{not-true, not-false}
-use Rattle.hint.proofs.Bounds.{letters}
+use Rattle.hint_piece.proofs.Bounds.{letters}
 use Rattle.hint_form.proofs.HintLaws.{longest-small}
 use Rattle.digit.proofs.Sizes.{number-short}
-use Rattle.hint.proofs.UsesLaws.{passed-stuck, passed-whole}
+use Rattle.hint_piece.proofs.UsesLaws.{passed-stuck, passed-whole}
 use Rattle.character.proofs.CutLaws.{stuck-there, stuck-below}
 use Rattle.buffer.specs.Buffer.{Wrote}
-use Rattle.hint.specs.Followed.{wrote, failed}
+use Rattle.hint_piece.specs.Followed.{wrote, failed}
 use Rattle.character.specs.Character.{character-size}
 use Rattle.character.specs.Cut.{cut}
 use Rattle.digit.specs.Digits.{digits, big-endian}
 use Rattle.hint_form.specs.Form.{base-of}
-use Rattle.hint.proofs.pieces.print_use.Statement.{statement}
-use Rattle.hint.proofs.pieces.print_use.Tie as tie
+use Rattle.hint_piece.proofs.print_use.Statement.{statement}
+use Rattle.hint_piece.proofs.print_use.Tie as tie
 
 passes-on-requires : tie.Need-passes-on-requires
 passes-on-requires c κs = search needs
@@ -50,7 +50,7 @@ same-length : tie.Need-same-length
 same-length c = search needs
 
 returns : tie.Need-returns
-unfolding Rattle.hint.specs.Print.use-text
+unfolding Rattle.hint_piece.specs.Use.use-text
 returns c =
     let a = c .before .before .before .before .before .before .before .before .before .before .args in
     let same : digits (c .before .before .before .before .base-of .result) (c .before .before .before .before .before .big-endian .result) ≡ digits (base-of (a .format)) (big-endian 0 (a .s .now)) =
@@ -72,7 +72,7 @@ add-t15 c =
     omega (arith, longest-small (a .format), c .before .before .before .before .before .before .before .before .pre)
 
 returns-2 : tie.Need-returns-2
-unfolding Rattle.hint.specs.Print.use-text
+unfolding Rattle.hint_piece.specs.Use.use-text
 returns-2 c =
     let a = c .before .before .before .before .before .before .before .before .args in
     let i = c .before .i .given .0 .0 in
@@ -89,7 +89,7 @@ same-length-2 : tie.Need-same-length-2
 same-length-2 c = search needs
 
 returns-3 : tie.Need-returns-3
-unfolding Rattle.hint.specs.Print.use-text
+unfolding Rattle.hint_piece.specs.Use.use-text
 returns-3 c =
     let a = c .before .before .before .before .before .before .before .before .before .before .before .args in
     let at = passed-whole (a .at) (a .s .now) (cut (character-size (a .format) (a .s .now)) (length (a .s .now))) (sym (c .before .before .before .before .before .before .first-fault .ensures) ∙ c .before .before .before .before .enum-told .given .1) in

@@ -1,4 +1,4 @@
--- Laws of the uses of a piece and of printing by pieces: one step at a time, from any place.
+-- Laws of the uses of a piece: one step at a time, from any place; and where they start and end.
 -- Assumes nothing.
 use Prim.Native.Nat.{ℕ, zero, suc, _+_, _-_, _≤_, _<_}
 use native.Mathlib.Nat.{not-suc-le-zero}
@@ -7,12 +7,21 @@ use mathlib.Core.Path.{_≡_, refl}
 use mathlib.Core.List.{List, [], _∷_}
 use lib.ListN.{length}
 use borrow.Author.Tests.{le-leb, lt-leb, eq-eqb, ne-eqb}
-use Rattle.hint.specs.Print.{printed, joined, optional, one-use, uses, fault, passed}
+use Rattle.hint_piece.specs.Use.{printed, joined, optional, one-use, uses, fault, passed, repeats, uses-start, uses-end}
 use Rattle.hint_form.specs.declared.Piece.{Piece}
 use native.Mathlib.Omega.{arith}
 use Rattle.character.specs.Cut.{Cut, whole, stuck, stuck-at}
 use Rattle.character.specs.declared.Search.the-variants.{At, Nowhere}
 use mathlib.Core.Path.{ap}
+use Prim.Native.Nat.{ℕ, zero, suc, _+_, _-_, _*_, _≤_, _<_}
+use native.Mathlib.Nat.{one-mul, mul-le-mul-right, le-trans, le-of-suc-le-suc}
+use native.Mathlib.Omega.{arith}
+use mathlib.Core.Path.{_≡_, refl, ap}
+use mathlib.Core.Bool.{Bool, true, false, cond}
+use mathlib.Core.List.{List, [], _∷_}
+use lib.ListN.{length}
+use borrow.Author.Tests.{le-leb, lt-leb}
+use Rattle.buffer.specs.Buffer.{byte-at}
 
 pub optional-none : (b : ℕ) → b ≡ 0 → optional b ≡ []
 unfolding optional
@@ -47,3 +56,35 @@ pub passed-whole : (at : ℕ) (s : List ℕ) (c : Cut) → stuck-at c ≡ Nowher
 unfolding stuck-at passed
 passed-whole at s (whole places) h = refl
 passed-whole at s (stuck j) h = let z : _≡_ {A = ℕ} 0 1 = cc in absurd (omega arith)
+
+-- where the octets of a piece end
+pub uses-end-is : (p : Piece) (value : List ℕ) (at : ℕ) → uses-start p at + repeats p value at * p .size ≡ uses-end p value at
+unfolding uses-end
+uses-end-is p value at = refl
+
+-- a piece takes an octet at least
+pub uses-end-after : (p : Piece) (value : List ℕ) (at : ℕ) → 0 < p .size → at < uses-end p value at
+unfolding uses-end uses-start repeats
+uses-end-after p value at some = go (p .starred)
+  where
+    go : (t : Bool) → at < cond t (at + 1) at + cond t (byte-at value at) 1 * p .size
+    go true = omega arith
+    go false = omega (arith, one-mul (p .size))
+
+-- where the uses of a piece start
+pub uses-start-near : (p : Piece) (at : ℕ) → (at ≤ uses-start p at) × (uses-start p at ≤ at + 1)
+unfolding uses-start
+uses-start-near p at = go (p .starred)
+  where
+    go : (t : Bool) → (at ≤ cond t (at + 1) at) × (cond t (at + 1) at ≤ at + 1)
+    go true = omega arith
+    go false = omega arith
+
+-- how many octets they take
+pub uses-octets-small : (p : Piece) (value : List ℕ) (at : ℕ) → byte-at value at < 256 → p .size ≤ 255 → repeats p value at * p .size ≤ 65025
+unfolding repeats
+uses-octets-small p value at octet small = go (p .starred)
+  where
+    go : (t : Bool) → cond t (byte-at value at) 1 * p .size ≤ 65025
+    go true = le-trans (mul-le-mul-right (p .size) (le-of-suc-le-suc octet)) (omega (arith))
+    go false = omega (arith, one-mul (p .size))

@@ -7,11 +7,11 @@ use mathlib.Core.List.{List}
 use native.Mathlib.Omega.{arith}
 use native.Mathlib.Nat.{add-zero}
 use lib.ListN.{length}
-use Rattle.hint.proofs.UsesLaws.{optional-none, optional-some}
+use Rattle.hint_piece.proofs.UsesLaws.{optional-none, optional-some}
 use Rattle.buffer.proofs.Writing.{written-none}
 use Rattle.buffer.specs.Buffer.{Wrote}
-use Rattle.hint.proofs.pieces.put_optional.Statement.{statement}
-use Rattle.hint.proofs.pieces.put_optional.Tie as tie
+use Rattle.hint_piece.proofs.put_optional.Statement.{statement}
+use Rattle.hint_piece.proofs.put_optional.Tie as tie
 
 returns : tie.Need-returns
 returns c =

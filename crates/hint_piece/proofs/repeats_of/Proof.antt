@@ -2,8 +2,8 @@
 -- Assumes nothing.
 use borrow.Author.Needs.{needs}
 use native.Mathlib.Omega.{arith}
-use Rattle.hint.proofs.pieces.repeats_of.Statement.{statement}
-use Rattle.hint.proofs.pieces.repeats_of.Tie as tie
+use Rattle.hint_piece.proofs.repeats_of.Statement.{statement}
+use Rattle.hint_piece.proofs.repeats_of.Tie as tie
 
 shared-slice-read-result : tie.Need-shared-slice-read-result
 shared-slice-read-result c = search needs
@@ -12,11 +12,11 @@ cast-result : tie.Need-cast-result
 cast-result c = omega (arith, c .shared-slice-known .given (c .before .before .args .at))
 
 returns : tie.Need-returns
-unfolding Rattle.hint.specs.Print.repeats
+unfolding Rattle.hint_piece.specs.Use.repeats
 returns c = simp (c .before .if1 .taken)
 
 returns-2 : tie.Need-returns-2
-unfolding Rattle.hint.specs.Print.repeats
+unfolding Rattle.hint_piece.specs.Use.repeats
 returns-2 c = simp (c .if1 .left)
 
 pub repeats-of-spec : {M : Type 1} → statement M

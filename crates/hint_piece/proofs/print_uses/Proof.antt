@@ -7,16 +7,16 @@ use mathlib.Core.List.{List}
 use native.Mathlib.Omega.{arith}
 use borrow.Author.Needs.{needs}
 use lib.ListN.{length}
-use Rattle.hint.proofs.UsesLaws.{uses-none, uses-past, uses-step}
-use Rattle.hint.proofs.Bounds.{one-size}
+use Rattle.hint_piece.proofs.UsesLaws.{uses-none, uses-past, uses-step}
+use Rattle.hint_piece.proofs.Bounds.{one-size}
 use Rattle.hint_form.proofs.HintLaws.{longest-small}
-use Rattle.hint.proofs.Outcomes.{followed-none, followed-next, followed-joined, followed-fault}
-use Rattle.hint.specs.declared.Progress.the-variants.{To, Fault}
-use Rattle.hint.specs.declared.Progress.{Progress}
-use Rattle.hint.specs.Followed.{Followed}
-use Rattle.hint.specs.Print.{Outcome, one-use, uses}
-use Rattle.hint.proofs.pieces.print_uses.Statement.{statement}
-use Rattle.hint.proofs.pieces.print_uses.Tie as tie
+use Rattle.hint_piece.proofs.Outcomes.{followed-none, followed-next, followed-joined, followed-fault}
+use Rattle.hint_piece.specs.declared.Progress.the-variants.{To, Fault}
+use Rattle.hint_piece.specs.declared.Progress.{Progress}
+use Rattle.hint_piece.specs.Followed.{Followed}
+use Rattle.hint_piece.specs.Use.{Outcome, one-use, uses}
+use Rattle.hint_piece.proofs.print_uses.Statement.{statement}
+use Rattle.hint_piece.proofs.print_uses.Tie as tie
 
 abbrev Inv-loop : tie.InvT-loop
 Inv-loop value start piece count out₀ pos size left₀ at₀ next₀ out left at next =

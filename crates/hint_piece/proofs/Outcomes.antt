@@ -6,10 +6,10 @@ use native.Mathlib.Omega.{arith}
 use mathlib.Core.Path.{_≡_, sym}
 use mathlib.Core.List.{List, []}
 use lib.ListN.{length, length-append}
-use Rattle.hint.specs.Print.{Outcome, printed, fault, joined}
-use Rattle.hint.specs.Followed.{Followed, wrote, failed}
-use Rattle.hint.specs.declared.Progress.{Progress}
-use Rattle.hint.specs.declared.Progress.the-variants.{To, Fault}
+use Rattle.hint_piece.specs.Use.{Outcome, printed, fault, joined}
+use Rattle.hint_piece.specs.Followed.{Followed, wrote, failed}
+use Rattle.hint_piece.specs.declared.Progress.{Progress}
+use Rattle.hint_piece.specs.declared.Progress.the-variants.{To, Fault}
 use Rattle.buffer.proofs.Writing.{written-none, wrote-more}
 
 -- how many bytes an outcome prints
