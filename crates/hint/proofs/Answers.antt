@@ -17,7 +17,8 @@ use Rattle.hint_form.specs.Form.{read-form, is-bad}
 use Rattle.hint_piece.specs.Use.{Outcome}
 use Rattle.hint.specs.Print.{printing}
 use Rattle.hint_piece.specs.Followed.{Followed, wrote, failed}
-use Rattle.hint.specs.Answer.{Verdict, text, refusal, Answered, number, place, size, buffer, number-of, place-of, length-of, of-outcome, by-pieces, octets-verdict, by-form, in-range, signed, integer-verdict}
+use Rattle.hint.specs.Answer.{Verdict, text, refusal, Answered, number, place, size, buffer, number-of, place-of, length-of, of-outcome, by-pieces, octets-verdict, by-form, integer-verdict}
+use Rattle.hint_integer.specs.Signed.{in-range, signed}
 use Rattle.hint_form.specs.declared.Form.{Form}
 use Rattle.hint_form.specs.declared.Form.the-variants.{Base, Point, Bad}
 use Rattle.hint.specs.declared.Answer.{Answer}

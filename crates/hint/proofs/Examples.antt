@@ -10,7 +10,8 @@ use Rattle.hint_form.specs.Hint.{digit, mark, mark-at, mark-size, number-after,
 use Rattle.character.specs.Character.{between, tail, lead-size, second-low, second-high, tails, sequence-size, character-size}
 use Rattle.hint_piece.specs.Use.{joined, passes, passed, use-text, optional, following, one-use, uses, repeats, uses-start, uses-end}
 use Rattle.hint.specs.Print.{turn, printing-within, printing}
-use Rattle.hint.specs.Answer.{text, refusal, of-outcome, by-pieces, octets-verdict, magnitude, signed, in-range, by-form, integer-verdict}
+use Rattle.hint.specs.Answer.{text, refusal, of-outcome, by-pieces, octets-verdict, by-form, integer-verdict}
+use Rattle.hint_integer.specs.Signed.{magnitude, signed, in-range}
 
 -- P6: 02 0A 0B 05 under `*1d.:1d` is `10.11:5`
 pub P6 : octets-verdict 4096 (42 ∷ 49 ∷ 100 ∷ 46 ∷ 58 ∷ 49 ∷ 100 ∷ []) (2 ∷ 10 ∷ 11 ∷ 5 ∷ []) ≡ text (49 ∷ 48 ∷ 46 ∷ 49 ∷ 49 ∷ 58 ∷ 53 ∷ [])

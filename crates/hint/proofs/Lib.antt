@@ -1,5 +1,4 @@
 pub mod PrintingLaws
-pub mod SignedLaws
 pub mod Answers
 pub mod Laws
 pub mod Examples

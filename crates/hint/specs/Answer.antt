@@ -1,13 +1,12 @@
 -- What the two calls answer and leave in the output buffer (document 01, "Printing by hint"): number, place, length, and every byte.
 -- Assumes nothing.
-use Prim.Native.Nat.{ℕ, suc, _+_, _-_}
+use Prim.Native.Nat.{ℕ, _+_, _-_}
 use mathlib.Core.Path.{_≡_}
-use mathlib.Core.Bool.{Bool, cond}
-use mathlib.Core.List.{List, [], _∷_, _++_}
-use lib.Dec.{leb, ltb, eqb}
+use mathlib.Core.Bool.{cond}
+use mathlib.Core.List.{List, _++_}
+use lib.Dec.{ltb, eqb}
 use lib.ListN.{length, drop, replicate}
-use lib.IntN.{ℤ, pos, negsuc}
-use Rattle.digit.specs.Digits.{digits, pointed}
+use lib.IntN.{ℤ}
 use Rattle.hint_form.specs.Hint.{Reading, pieces, none, read-hint}
 use Rattle.hint_form.specs.Form.{read-form}
 use Rattle.hint_piece.specs.Use.{Outcome, printed, fault}
@@ -16,6 +15,7 @@ use Rattle.hint_form.specs.declared.Form.{Form}
 use Rattle.hint_form.specs.declared.Form.the-variants.{Base, Point, Bad}
 use Rattle.hint.specs.declared.Answer.{Answer}
 use Rattle.hint.specs.declared.Answer.the-variants.{Printed, ShortBuffer, LongValue, BadHint, BadOctet, OutOfRange}
+use Rattle.hint_integer.specs.Signed.{signed, in-range}
 
 -- what a value comes to under a hint: its text, or a refusal with number and place
 pub data Verdict : Type 0 where
@@ -44,22 +44,6 @@ unfoldable pub octets-verdict : ℕ → List ℕ → List ℕ → Verdict
 octets-verdict room hint value =
     cond (ltb room octets-part) (refusal 30 0)
     (cond (ltb 1024 (length value)) (refusal 31 0) (by-pieces (read-hint hint) value))
-
--- the digits of a number that isn't negative
-unfoldable pub magnitude : Form → ℕ → List ℕ
-magnitude (Base base) n = digits base n
-magnitude (Point places) n = pointed places n
-magnitude Bad n = []
-
--- below zero a minus and then the magnitude
-unfoldable pub signed : Form → ℤ → List ℕ
-signed form (pos n) = magnitude form n
-signed form (negsuc n) = 45 ∷ magnitude form (suc n)
-
--- from -2147483648 to 4294967295; `negsuc n` is -(n + 1)
-unfoldable pub in-range : ℤ → Bool
-in-range (pos n) = leb n 4294967295
-in-range (negsuc n) = ltb n 2147483648
 
 -- refusal 32, then 34, or the text
 unfoldable pub by-form : Form → ℤ → Verdict

@@ -1,7 +1,6 @@
 // Prints a value by its DISPLAY-HINT: octets by octet-format pieces, integers by one integer format (RFC 2579, 3.1).
 // The caller lends the output buffer. Nothing is asked of the arguments: what cannot be printed is refused.
 mod pieces;
-mod signed;
 
 ghost use mathlib.Core.Path.{_≡_};
 ghost use Rattle.hint.specs.Answer.{number-of, place-of, length-of, Answered, octets-verdict, integer-verdict, octets-part, integer-part};
@@ -9,11 +8,11 @@ ghost use lib.ListN.{length};
 use buffer::clear;
 use hint_form::form_of;
 use hint_form::is_hint;
+use hint_integer::in_range;
+use hint_integer::is_bad;
+use hint_integer::print_signed;
 use hint_piece::Progress;
 use pieces::print_pieces;
-use signed::in_range;
-use signed::is_bad;
-use signed::print_signed;
 
 // What a call answers. Answer.antt gives the number, place and length of each case.
 pub enum Answer {

@@ -15,7 +15,8 @@ use Rattle.hint_form.proofs.FormLaws.{form-usable}
 use Rattle.hint.proofs.Answers.{answered-short, answered-refusal, answered-text, integer-short, integer-hint, integer-range, integer-text}
 use Rattle.hint.specs.declared.Answer.the-variants.{Printed, BadHint, OutOfRange}
 use Rattle.hint_form.specs.declared.Form.{Form}
-use Rattle.hint.specs.Answer.{Verdict, Answered, integer-verdict, in-range, signed}
+use Rattle.hint.specs.Answer.{Verdict, Answered, integer-verdict}
+use Rattle.hint_integer.specs.Signed.{in-range, signed}
 use Rattle.buffer.specs.Buffer.{Wrote}
 use Rattle.hint_form.specs.Form.{Usable, is-bad, read-form}
 use Rattle.hint.proofs.integer.Statement.{statement}

@@ -4,7 +4,7 @@ ghost use mathlib.Core.Bool.{true};
 ghost use Prim.Native.Nat.{_+_, _≤_};
 ghost use lib.IntN.{natAbs};
 ghost use lib.ListN.{length};
-ghost use Rattle.hint.specs.Answer.{in-range, magnitude, signed};
+ghost use Rattle.hint_integer.specs.Signed.{in-range, magnitude, signed};
 ghost use Rattle.buffer.specs.Buffer.{Wrote};
 ghost use Rattle.hint_form.specs.Form.{Usable, is-bad};
 use buffer::put;

@@ -4,9 +4,9 @@ use mathlib.Core.Path.{ap, sym, _∙_}
 use lib.IntN.{ℤ, pos, negsuc}
 use lib.Signed.{leZ}
 use mir.Facts.{toZ-ofZ}
-use Rattle.hint.proofs.SignedLaws.{range-high, range-low}
-use Rattle.hint.proofs.signed.in_range.Statement.{statement}
-use Rattle.hint.proofs.signed.in_range.Tie as tie
+use Rattle.hint_integer.proofs.SignedLaws.{range-high, range-low}
+use Rattle.hint_integer.proofs.in_range.Statement.{statement}
+use Rattle.hint_integer.proofs.in_range.Tie as tie
 
 returns : tie.Need-returns
 returns c =

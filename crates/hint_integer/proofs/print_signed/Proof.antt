@@ -9,12 +9,12 @@ use lib.IntN.{ℤ, pos, natAbs}
 use lib.Signed.{ltZ}
 use lib.ListN.{length}
 use mir.Facts.{toZ-ofZ}
-use Rattle.hint.proofs.SignedLaws.{magnitude-small, magnitude-size, signed-negative, signed-other}
+use Rattle.hint_integer.proofs.SignedLaws.{magnitude-small, magnitude-size, signed-negative, signed-other}
 use Rattle.buffer.proofs.Writing.{wrote-more}
 use Rattle.buffer.specs.Buffer.{Wrote}
-use Rattle.hint.specs.Answer.{magnitude, signed}
-use Rattle.hint.proofs.signed.print_signed.Statement.{statement}
-use Rattle.hint.proofs.signed.print_signed.Tie as tie
+use Rattle.hint_integer.specs.Signed.{magnitude, signed}
+use Rattle.hint_integer.proofs.print_signed.Statement.{statement}
+use Rattle.hint_integer.proofs.print_signed.Tie as tie
 
 magnitude-of-requires : tie.Need-magnitude-of-requires
 magnitude-of-requires c κs = search needs

@@ -11,15 +11,15 @@ use Rattle.buffer.proofs.Writing.{written-none}
 use Rattle.hint_form.specs.declared.Form.{Form}
 use Rattle.buffer.specs.Buffer.{Wrote}
 use Rattle.hint_form.specs.Form.{Usable}
-use Rattle.hint.specs.Answer.{magnitude}
-use Rattle.hint.proofs.signed.print_magnitude.Statement.{statement}
-use Rattle.hint.proofs.signed.print_magnitude.Tie as tie
+use Rattle.hint_integer.specs.Signed.{magnitude}
+use Rattle.hint_integer.proofs.print_magnitude.Statement.{statement}
+use Rattle.hint_integer.proofs.print_magnitude.Tie as tie
 
 enum-known-form : tie.Need-enum-known-form
 enum-known-form c = search needs
 
 print-digits-requires : tie.Need-print-digits-requires
-unfolding Rattle.hint.specs.Answer.magnitude
+unfolding Rattle.hint_integer.specs.Signed.magnitude
 print-digits-requires c κs =
     let a = c .before .before .before .before .before .args in
     let is = c .before .before .form .given .1 in
@@ -31,7 +31,7 @@ enum-known-form-2 : tie.Need-enum-known-form-2
 enum-known-form-2 c = search needs
 
 print-pointed-requires : tie.Need-print-pointed-requires
-unfolding Rattle.hint.specs.Answer.magnitude
+unfolding Rattle.hint_integer.specs.Signed.magnitude
 print-pointed-requires c κs =
     let a = c .before .before .before .before .before .args in
     let is = c .before .before .form2 .given .1 in
@@ -46,7 +46,7 @@ same-length : tie.Need-same-length
 same-length c = search needs
 
 returns : tie.Need-returns
-unfolding Rattle.hint.specs.Answer.magnitude
+unfolding Rattle.hint_integer.specs.Signed.magnitude
 returns c =
     let a = c .before .before .before .before .before .before .before .before .args in
     let is = c .before .before .before .before .before .form .given .1 in
@@ -57,7 +57,7 @@ same-length-2 : tie.Need-same-length-2
 same-length-2 c = search needs
 
 returns-2 : tie.Need-returns-2
-unfolding Rattle.hint.specs.Answer.magnitude
+unfolding Rattle.hint_integer.specs.Signed.magnitude
 returns-2 c =
     let a = c .before .before .before .before .before .before .before .before .args in
     let is = c .before .before .before .before .before .form2 .given .1 in
@@ -65,7 +65,7 @@ returns-2 c =
     subst (λ (l : List ℕ). Wrote l (a .at) (c .before .before .print-pointed .result) (a .out .now) (c .before .before .print-pointed .last .1 .1 .0)) (sym same) (c .before .before .print-pointed .ensures)
 
 returns-3 : tie.Need-returns-3
-unfolding Rattle.hint.specs.Answer.magnitude
+unfolding Rattle.hint_integer.specs.Signed.magnitude
 returns-3 c =
     let a = c .before .before .before .args in
     let same = ap (λ (f : Form). magnitude f (a .n)) (c .enum-told .given .1) in

@@ -9,9 +9,9 @@ use lib.Signed.{ltZ, nonNeg}
 use mir.Syntax.{w64}
 use mir.Val.{Fits, SFits, toZ, ofZ}
 use mir.Facts.{toZ-ofZ}
-use Rattle.hint.proofs.SignedLaws.{negated, not-negative, magnitude-small}
-use Rattle.hint.proofs.signed.magnitude_of.Statement.{statement}
-use Rattle.hint.proofs.signed.magnitude_of.Tie as tie
+use Rattle.hint_integer.proofs.SignedLaws.{negated, not-negative, magnitude-small}
+use Rattle.hint_integer.proofs.magnitude_of.Statement.{statement}
+use Rattle.hint_integer.proofs.magnitude_of.Tie as tie
 
 sub-result : tie.Need-sub-result
 sub-result c =
