@@ -1,6 +1,7 @@
 -- A character has four octets at most.
 -- Assumes nothing.
 use Prim.Native.Nat.{ℕ, _≤_}
+use Prim.Native.Char.{code}
 use mathlib.Core.Bool.{Bool, true, false, cond}
 use mathlib.Core.List.{List}
 use lib.Dec.{ltb, eqb, lit≤}
@@ -20,7 +21,7 @@ lead-small b = go (ltb b 0x80) (between 0xC2 0xDF b) (between 0xE0 0xEF b) (betw
 
 pub character-small : (format : ℕ) (octets : List ℕ) (i : ℕ) → character-size format octets i ≤ 4
 unfolding character-size sequence-size
-character-small format octets i = go (eqb format 97) (ltb (byte-at octets i) 0x80) (tails octets i)
+character-small format octets i = go (eqb format (code "a")) (ltb (byte-at octets i) 0x80) (tails octets i)
   where
     go : (ascii low whole : Bool) → cond ascii (cond low 1 0) (cond whole (lead-size (byte-at octets i)) 0) ≤ 4
     go true true whole = lit≤ tt

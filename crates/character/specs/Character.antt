@@ -1,6 +1,7 @@
 -- Characters among octets: of format a one octet from 0 to 127, of format t a well-formed sequence of UTF-8 (RFC 3629, section 4).
 -- Assumes nothing.
 use Prim.Native.Nat.{ℕ, _+_}
+use Prim.Native.Char.{code}
 use mathlib.Core.Bool.{Bool, cond, _&&_, _||_}
 use mathlib.Core.List.{List}
 use lib.Dec.{leb, ltb, eqb}
@@ -44,4 +45,4 @@ sequence-size octets i = cond (tails octets i) (lead-size (byte-at octets i)) 0
 -- how many octets the character at i has under a format, 0 where there is none
 unfoldable pub character-size : ℕ → List ℕ → ℕ → ℕ
 character-size format octets i =
-    cond (eqb format 97) (cond (ltb (byte-at octets i) 0x80) 1 0) (sequence-size octets i)
+    cond (eqb format (code "a")) (cond (ltb (byte-at octets i) 0x80) 1 0) (sequence-size octets i)

@@ -1,6 +1,7 @@
 -- Laws of digits, each over the base.
 -- Assumes nothing.
 use Prim.Native.Nat.{ℕ, zero, suc, _+_, _-_, _/_, _%_, _^_, _≤_, _<_}
+use Prim.Native.Char.{code}
 use native.Mathlib.Nat.{div-lt-self, not-suc-le-zero, pow-le-pow-right}
 use native.Mathlib.Numerals.{sub-one}
 use native.Mathlib.Omega.{arith}
@@ -42,7 +43,7 @@ digits-step base n h l =
     rw (le-ltb n base l, digits-within) (ap (λ (ds : List ℕ). ds ++ (glyph (n % base) ∷ [])) (within-enough n (suc (n / base)) base (n / base) h less (omega arith)))
 
 -- the point comes after all digits where no places are left
-pub pointed-none : (places n : ℕ) → places ≡ 0 → pointed places n ≡ digits 10 n ++ (46 ∷ [])
+pub pointed-none : (places n : ℕ) → places ≡ 0 → pointed places n ≡ digits 10 n ++ (code "." ∷ [])
 unfolding pointed
 pointed-none places n e = rw e
 

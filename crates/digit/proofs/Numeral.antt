@@ -1,6 +1,7 @@
 -- Digits read back are the number, at any base from 2 to 16.
 -- Assumes nothing.
 use Prim.Native.Nat.{ℕ, zero, suc, _+_, _-_, _*_, _/_, _%_, _≤_, _<_}
+use Prim.Native.Char.{code}
 use native.Mathlib.Nat.{mod-lt, div-add-mod', not-suc-le-zero}
 use native.Mathlib.Omega.{arith}
 use mathlib.Core.Path.{_≡_, refl, ap, _∙_}
@@ -13,7 +14,7 @@ use Rattle.digit.proofs.DigitLaws.{quotient-less}
 
 -- the value of a digit's byte
 digit-value : ℕ → ℕ
-digit-value b = cond (leb b 57) (b - 48) (b - 87)
+digit-value b = cond (leb b (code "9")) (b - code "0") (b - code "a" + 10)
 
 -- the number that digits write at a base, most significant first, after digits that were worth n
 unfoldable pub numeral : ℕ → ℕ → List ℕ → ℕ
@@ -25,9 +26,9 @@ value-glyph : (d : ℕ) → d < 16 → digit-value (glyph d) ≡ d
 unfolding digit-value glyph
 value-glyph d h = go (ltb d 10) refl
   where
-    go : (t : Bool) → ltb d 10 ≡ t → digit-value (cond t (48 + d) (87 + d)) ≡ d
-    go true e = rw (le-leb (48 + d) 57 (omega (arith, ltb-true d 10 e))) (omega arith)
-    go false e = rw (lt-leb (87 + d) 57 (omega arith)) (omega arith)
+    go : (t : Bool) → ltb d 10 ≡ t → digit-value (cond t (code "0" + d) (code "a" + (d - 10))) ≡ d
+    go true e = rw (le-leb (code "0" + d) (code "9") (omega (arith, ltb-true d 10 e))) (omega arith)
+    go false e = rw (lt-leb (code "a" + (d - 10)) (code "9") (omega arith)) (omega (arith, ltb-false d 10 e))
 
 numeral-last : (base n : ℕ) (ds : List ℕ) (d : ℕ) → numeral base n (ds ++ (d ∷ [])) ≡ numeral base n ds * base + digit-value d
 unfolding numeral

@@ -1,6 +1,7 @@
 -- How many digits a number has: one law over the base, and what follows of numbers of so many octets.
 -- Assumes nothing.
 use Prim.Native.Nat.{ℕ, zero, suc, _+_, _-_, _*_, _/_, _^_, _≤_, _<_}
+use Prim.Native.Char.{code}
 use native.Mathlib.Nat.{mul-le-mul-right, mul-le-mul-left, mul-assoc, mul-comm, pow-suc, pow-zero, div-lt-iff-lt-mul, one-mul}
 use native.Mathlib.Omega.{arith}
 use mathlib.Core.Path.{_≡_, refl, sym, ap, _∙_, subst}
@@ -75,5 +76,5 @@ number-short base (b ∷ bs) large some h =
 
 pub pointed-size : (places n : ℕ) → n < 2 ^ 32 → length (pointed places n) ≤ 33 + places
 unfolding pointed
-pointed-size zero n h = omega (arith, digits-short 2 10 31 n (lit≤ tt) (lit≤ tt) h, length-append (digits 10 n) (46 ∷ []))
+pointed-size zero n h = omega (arith, digits-short 2 10 31 n (lit≤ tt) (lit≤ tt) h, length-append (digits 10 n) (code "." ∷ []))
 pointed-size (suc places) n h = omega (arith, pointed-size places (n / 10) (omega arith), length-append (pointed places (n / 10)) (glyph (n % 10) ∷ []))

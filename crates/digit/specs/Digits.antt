@@ -1,13 +1,14 @@
 -- Digits of a number at a base, one definition for the bases 2, 8, 10 and 16; and the implied decimal point.
 -- Assumes nothing.
-use Prim.Native.Nat.{ℕ, zero, suc, _+_, _*_, _/_, _%_}
+use Prim.Native.Nat.{ℕ, zero, suc, _+_, _-_, _*_, _/_, _%_}
+use Prim.Native.Char.{code}
 use mathlib.Core.Bool.{true, false, cond}
 use mathlib.Core.List.{List, [], _∷_, _++_}
 use lib.Dec.{ltb}
 
 -- the byte of one digit: 0 to 9, then lower-case a to f
 unfoldable pub glyph : ℕ → ℕ
-glyph d = cond (ltb d 10) (48 + d) (87 + d)
+glyph d = cond (ltb d 10) (code "0" + d) (code "a" + (d - 10))
 
 -- the digits, in a number of steps at most
 unfoldable pub digits-within : ℕ → ℕ → ℕ → List ℕ
@@ -22,7 +23,7 @@ digits base n = digits-within (suc n) base n
 
 -- the decimal digits of n with a point before the last ones, as many as said, and at least one digit before the point
 unfoldable pub pointed : ℕ → ℕ → List ℕ
-pointed zero n = digits 10 n ++ (46 ∷ [])
+pointed zero n = digits 10 n ++ (code "." ∷ [])
 pointed (suc places) n = pointed places (n / 10) ++ (glyph (n % 10) ∷ [])
 
 -- octets as a big-endian unsigned number, after octets that were worth n

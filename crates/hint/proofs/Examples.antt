@@ -1,7 +1,10 @@
 -- The paper's worked examples P6, P7 and P8, from the definitions.
 -- Assumes nothing.
 use mathlib.Core.Path.{_≡_, refl}
-use mathlib.Core.List.{[], _∷_}
+use Prim.Native.Nat.{ℕ}
+use Prim.Native.Char.{code}
+use Prim.Native.String.{String, [] as none, _∷_ as char-and}
+use mathlib.Core.List.{List, [], _∷_}
 use lib.IntN.{negsuc}
 use Rattle.hint_form.specs.Form.{base-of, read-point, read-form}
 use Rattle.digit.specs.Digits.{glyph, digits-within, digits, pointed, big-endian}
@@ -13,21 +16,25 @@ use Rattle.hint.specs.Print.{turn, printing-within, printing}
 use Rattle.hint.specs.Answer.{text, refusal, of-outcome, by-pieces, octets-verdict, by-form, integer-verdict}
 use Rattle.hint_integer.specs.Signed.{magnitude, signed, in-range}
 
--- P6: 02 0A 0B 05 under `*1d.:1d` is `10.11:5`
-pub P6 : octets-verdict 4096 (42 ∷ 49 ∷ 100 ∷ 46 ∷ 58 ∷ 49 ∷ 100 ∷ []) (2 ∷ 10 ∷ 11 ∷ 5 ∷ []) ≡ text (49 ∷ 48 ∷ 46 ∷ 49 ∷ 49 ∷ 58 ∷ 53 ∷ [])
-unfolding octets-verdict by-pieces of-outcome read-hint pieces-of cut cut-within before piece-size piece-end piece-at is-piece terminator-of separator-of format-place length-place starred longest bounded allowed number-at number-after mark-size mark-at mark digit printing printing-within turn uses-end uses-start repeats uses one-use following optional use-text passed passes joined character-size sequence-size tails second-high second-low lead-size tail between big-endian digits digits-within glyph base-of
-P6 = refl
+-- the bytes of a text
+unfoldable pub bytes : String → List ℕ
+bytes none = []
+bytes (char-and c cs) = code c ∷ bytes cs
 
--- P7: -5 under d-2 is `-0.05`
-pub P7 : integer-verdict 64 (100 ∷ 45 ∷ 50 ∷ []) (negsuc 4) ≡ text (45 ∷ 48 ∷ 46 ∷ 48 ∷ 53 ∷ [])
-unfolding integer-verdict by-form in-range signed magnitude read-form read-point bounded allowed number-at number-after digit pointed digits digits-within glyph base-of
-P7 = refl
+-- what the paper prints
+pub record Examples : Type 0 where
+  -- 02 0A 0B 05 under `*1d.:1d` is `10.11:5`
+  pub P6 : octets-verdict 4096 (bytes "*1d.:1d") (0x02 ∷ 0x0A ∷ 0x0B ∷ 0x05 ∷ []) ≡ text (bytes "10.11:5")
+  -- -5 under d-2 is `-0.05`
+  pub P7 : integer-verdict 64 (bytes "d-2") (negsuc 4) ≡ text (bytes "-0.05")
+  -- C3 A9 under 255t is both octets, and under 255a refusal 33 at place 0
+  pub P8-text : octets-verdict 4096 (bytes "255t") (0xC3 ∷ 0xA9 ∷ []) ≡ text (0xC3 ∷ 0xA9 ∷ [])
+  pub P8-ascii : octets-verdict 4096 (bytes "255a") (0xC3 ∷ 0xA9 ∷ []) ≡ refusal 33 0
 
--- P8: C3 A9 under 255t is both octets, and under 255a refusal 33 at place 0
-pub P8-text : octets-verdict 4096 (50 ∷ 53 ∷ 53 ∷ 116 ∷ []) (0xC3 ∷ 0xA9 ∷ []) ≡ text (0xC3 ∷ 0xA9 ∷ [])
-unfolding octets-verdict by-pieces of-outcome read-hint pieces-of cut cut-within before piece-size piece-end piece-at is-piece terminator-of separator-of format-place length-place starred longest bounded allowed number-at number-after mark-size mark-at mark digit printing printing-within turn uses-end uses-start repeats uses one-use following optional use-text passed passes joined character-size sequence-size tails second-high second-low lead-size tail between big-endian digits digits-within glyph base-of
-P8-text = refl
-
-pub P8-ascii : octets-verdict 4096 (50 ∷ 53 ∷ 53 ∷ 97 ∷ []) (0xC3 ∷ 0xA9 ∷ []) ≡ refusal 33 0
-unfolding octets-verdict by-pieces of-outcome read-hint pieces-of cut cut-within before piece-size piece-end piece-at is-piece terminator-of separator-of format-place length-place starred longest bounded allowed number-at number-after mark-size mark-at mark digit printing printing-within turn uses-end uses-start repeats uses one-use following optional use-text passed passes joined character-size sequence-size tails second-high second-low lead-size tail between big-endian digits digits-within glyph base-of
-P8-ascii = refl
+pub examples : Examples
+unfolding bytes octets-verdict by-pieces of-outcome read-hint pieces-of cut cut-within before piece-size piece-end piece-at is-piece
+    terminator-of separator-of format-place length-place starred longest bounded allowed number-at number-after mark-size mark-at mark digit
+    printing printing-within turn uses-end uses-start repeats uses one-use following optional use-text passed passes joined
+    character-size sequence-size tails second-high second-low lead-size tail between big-endian digits digits-within glyph base-of
+    integer-verdict by-form in-range signed magnitude read-form read-point pointed
+examples = record { P6 = refl; P7 = refl; P8-text = refl; P8-ascii = refl }

@@ -1,6 +1,7 @@
 -- The form that a hint for integers asks can be printed by.
 -- Assumes nothing.
 use Prim.Native.Nat.{ℕ, _≤_}
+use Prim.Native.Char.{code}
 use mathlib.Core.Path.{_≡_, refl}
 use mathlib.Core.Bool.{Bool, true, false, cond, not, _&&_, _||_}
 use mathlib.Core.List.{List}
@@ -16,7 +17,7 @@ use Rattle.hint_form.proofs.HintLaws.{and-left, and-right}
 -- a hint's form is usable
 base-usable : (letter : ℕ) → (2 ≤ base-of letter) × (base-of letter ≤ 16)
 unfolding base-of
-base-usable letter = go (eqb letter 120) (eqb letter 111) (eqb letter 98)
+base-usable letter = go (eqb letter (code "x")) (eqb letter (code "o")) (eqb letter (code "b"))
   where
     go : (x o b : Bool) → (2 ≤ cond x 16 (cond o 8 (cond b 2 10))) × (cond x 16 (cond o 8 (cond b 2 10)) ≤ 16)
     go true o b = (lit≤ tt, lit≤ tt)
@@ -29,10 +30,10 @@ unfolding read-point bounded allowed
 point-usable hint = go (front && (leading && least) && end) refl
   where
     front : Bool
-    front = eqb (byte-at hint 0) 100 && eqb (byte-at hint 1) 45
+    front = eqb (byte-at hint 0) (code "d") && eqb (byte-at hint 1) (code "-")
 
     leading : Bool
-    leading = not (eqb (byte-at hint 2) 48) && ltb 0 (number-at hint 2 .value)
+    leading = not (eqb (byte-at hint 2) (code "0")) && ltb 0 (number-at hint 2 .value)
 
     least : Bool
     least = leb (number-at hint 2 .value) 10
@@ -46,7 +47,7 @@ point-usable hint = go (front && (leading && least) && end) refl
 
 pub form-usable : (hint : List ℕ) → Usable (read-form hint)
 unfolding read-form
-form-usable hint = go (eqb (length hint) 1 && (eqb (byte-at hint 0) 120 || eqb (byte-at hint 0) 111 || eqb (byte-at hint 0) 98 || eqb (byte-at hint 0) 100))
+form-usable hint = go (eqb (length hint) 1 && (eqb (byte-at hint 0) (code "x") || eqb (byte-at hint 0) (code "o") || eqb (byte-at hint 0) (code "b") || eqb (byte-at hint 0) (code "d")))
   where
     go : (t : Bool) → Usable (cond t (Base (base-of (byte-at hint 0))) (read-point hint))
     go true = base-usable (byte-at hint 0)

@@ -1,6 +1,7 @@
 -- Laws of the hint's grammar: what a digit is, and that a piece ends after it starts.
 -- Assumes nothing.
 use Prim.Native.Nat.{ℕ, zero, suc, _+_, _-_, _*_, _≤_, _<_}
+use Prim.Native.Char.{code}
 use native.Mathlib.Omega.{arith}
 use mathlib.Core.Path.{_≡_, refl}
 use mathlib.Core.Bool.{Bool, true, false, cond, not, _&&_}
@@ -31,23 +32,23 @@ and-right false b e = let z : _≡_ {A = ℕ} 0 1 = cc in absurd (omega arith)
 pub number-is : {v v₁ n n₁ : ℕ} → v ≡ v₁ → n ≡ n₁ → _≡_ {A = Number} (record { value = v; next = n }) (record { value = v₁; next = n₁ })
 number-is p q = λ i. record { value = p i; next = q i }
 
-pub digit-low : (b : ℕ) → digit b ≡ true → 48 ≤ b
+pub digit-low : (b : ℕ) → digit b ≡ true → code "0" ≤ b
 unfolding digit
-digit-low b e = leb-true 48 b (and-left (leb 48 b) (leb b 57) e)
+digit-low b e = leb-true (code "0") b (and-left (leb (code "0") b) (leb b (code "9")) e)
 
-pub digit-high : (b : ℕ) → digit b ≡ true → b ≤ 57
+pub digit-high : (b : ℕ) → digit b ≡ true → b ≤ code "9"
 unfolding digit
-digit-high b e = leb-true b 57 (and-right (leb 48 b) (leb b 57) e)
+digit-high b e = leb-true b (code "9") (and-right (leb (code "0") b) (leb b (code "9")) e)
 
 -- a number has so many bytes at most
 number-after-next : (more n : ℕ) (hint : List ℕ) (i : ℕ) → (i ≤ number-after more n hint i .next) × (number-after more n hint i .next ≤ i + more)
 unfolding number-after
 number-after-next zero n hint i = omega arith
-number-after-next (suc more) n hint i = go (digit (byte-at hint i)) (number-after-next more (n * 10 + (byte-at hint i - 48)) hint (i + 1))
+number-after-next (suc more) n hint i = go (digit (byte-at hint i)) (number-after-next more (n * 10 + (byte-at hint i - code "0")) hint (i + 1))
   where
-    go : (t : Bool) → (i + 1 ≤ number-after more (n * 10 + (byte-at hint i - 48)) hint (i + 1) .next) × (number-after more (n * 10 + (byte-at hint i - 48)) hint (i + 1) .next ≤ i + 1 + more)
-        → (i ≤ (cond t (number-after more (n * 10 + (byte-at hint i - 48)) hint (i + 1)) (record { value = n; next = i })) .next)
-        × ((cond t (number-after more (n * 10 + (byte-at hint i - 48)) hint (i + 1)) (record { value = n; next = i })) .next ≤ i + suc more)
+    go : (t : Bool) → (i + 1 ≤ number-after more (n * 10 + (byte-at hint i - code "0")) hint (i + 1) .next) × (number-after more (n * 10 + (byte-at hint i - code "0")) hint (i + 1) .next ≤ i + 1 + more)
+        → (i ≤ (cond t (number-after more (n * 10 + (byte-at hint i - code "0")) hint (i + 1)) (record { value = n; next = i })) .next)
+        × ((cond t (number-after more (n * 10 + (byte-at hint i - code "0")) hint (i + 1)) (record { value = n; next = i })) .next ≤ i + suc more)
     go true h = omega arith
     go false h = omega arith
 
@@ -105,7 +106,7 @@ found-nothing hint i h = go (is-piece hint i) h
 pub piece-allowed : (hint : List ℕ) (i : ℕ) → is-piece hint i ≡ true → (0 < piece-at hint i .size) × (piece-at hint i .size ≤ longest (piece-at hint i .format))
 unfolding is-piece bounded allowed piece-at
 piece-allowed hint i e =
-    let first : Bool = not (eqb (byte-at hint (length-place hint i)) 48) in
+    let first : Bool = not (eqb (byte-at hint (length-place hint i)) (code "0")) in
     let some : Bool = ltb 0 (number-at hint (length-place hint i) .value) in
     let least : Bool = leb (number-at hint (length-place hint i) .value) (longest (byte-at hint (format-place hint i))) in
     (ltb-true 0 _ (and-right first some (and-left (first && some) least e)), leb-true _ _ (and-right (first && some) least e))
@@ -126,7 +127,7 @@ pieces-whole hint low high = simp (le-leb 1 (length hint) low, le-leb (length hi
 
 pub longest-small : (format : ℕ) → longest format ≤ 255
 unfolding longest
-longest-small format = go (eqb format 120 || eqb format 100 || eqb format 111) (eqb format 97 || eqb format 116)
+longest-small format = go (eqb format (code "x") || eqb format (code "d") || eqb format (code "o")) (eqb format (code "a") || eqb format (code "t"))
   where
     go : (number character : Bool) → cond number 8 (cond character 255 0) ≤ 255
     go true character = lit≤ tt

@@ -1,6 +1,7 @@
 -- The grammar of a hint for integers (document 01, "Printing by hint"; RFC 2579, 3.1).
 -- Assumes nothing.
 use Prim.Native.Nat.{ℕ, _≤_}
+use Prim.Native.Char.{code}
 use mathlib.Core.Bool.{Bool, true, false, cond, _&&_, _||_}
 use mathlib.Core.List.{List}
 use lib.Dec.{eqb}
@@ -12,13 +13,13 @@ use Rattle.hint_form.specs.Hint.{number-at, bounded}
 
 -- the base that a format letter means: x 16, o 8, b 2, and d 10
 unfoldable pub base-of : ℕ → ℕ
-base-of format = cond (eqb format 120) 16 (cond (eqb format 111) 8 (cond (eqb format 98) 2 10))
+base-of format = cond (eqb format (code "x")) 16 (cond (eqb format (code "o")) 8 (cond (eqb format (code "b")) 2 10))
 
 -- d-N: a point before the last N digits, N from 1 to 10
 unfoldable pub read-point : List ℕ → Form
 read-point hint =
     cond
-    (eqb (byte-at hint 0) 100 && eqb (byte-at hint 1) 45 && bounded hint 2 10 && eqb (number-at hint 2 .next) (length hint))
+    (eqb (byte-at hint 0) (code "d") && eqb (byte-at hint 1) (code "-") && bounded hint 2 10 && eqb (number-at hint 2 .next) (length hint))
     (Point (number-at hint 2 .value))
     Bad
 
@@ -26,7 +27,7 @@ read-point hint =
 unfoldable pub read-form : List ℕ → Form
 read-form hint =
     cond
-    (eqb (length hint) 1 && (eqb (byte-at hint 0) 120 || eqb (byte-at hint 0) 111 || eqb (byte-at hint 0) 98 || eqb (byte-at hint 0) 100))
+    (eqb (length hint) 1 && (eqb (byte-at hint 0) (code "x") || eqb (byte-at hint 0) (code "o") || eqb (byte-at hint 0) (code "b") || eqb (byte-at hint 0) (code "d")))
     (Base (base-of (byte-at hint 0)))
     (read-point hint)
 

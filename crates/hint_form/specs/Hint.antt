@@ -2,6 +2,7 @@
 -- A piece begins with a digit or `*`, and a separator or terminator is neither, so each hint reads in one way at most.
 -- Assumes nothing.
 use Prim.Native.Nat.{ℕ, zero, suc, _+_, _-_, _*_}
+use Prim.Native.Char.{code}
 use mathlib.Core.Bool.{Bool, true, false, cond, not, _&&_, _||_}
 use mathlib.Core.List.{List, [], map}
 use lib.Dec.{leb, ltb, eqb}
@@ -15,11 +16,11 @@ use Rattle.hint_form.specs.declared.Found.the-variants.{Whole, Nothing}
 
 -- a decimal digit
 unfoldable pub digit : ℕ → Bool
-digit b = leb 48 b && leb b 57
+digit b = leb (code "0") b && leb b (code "9")
 
 -- a byte that may be a separator or a terminator: 32 to 126, no digit and no `*`
 unfoldable pub mark : ℕ → Bool
-mark b = leb 32 b && leb b 126 && not (digit b) && not (eqb b 42)
+mark b = leb 32 b && leb b 126 && not (digit b) && not (eqb b (code "*"))
 
 -- the separator or terminator at a place, or 0 where there is none
 unfoldable pub mark-at : List ℕ → ℕ → ℕ
@@ -33,7 +34,7 @@ mark-size b = cond (eqb b 0) 0 1
 unfoldable pub number-after : ℕ → ℕ → List ℕ → ℕ → Number
 number-after zero n hint i = record { value = n; next = i }
 number-after (suc more) n hint i =
-    cond (digit (byte-at hint i)) (number-after more (n * 10 + (byte-at hint i - 48)) hint (i + 1)) (record { value = n; next = i })
+    cond (digit (byte-at hint i)) (number-after more (n * 10 + (byte-at hint i - code "0")) hint (i + 1)) (record { value = n; next = i })
 
 -- the number at a place. No number of a hint is over 255, so three digits are read; a fourth can't be the format that follows
 unfoldable pub number-at : List ℕ → ℕ → Number
@@ -41,7 +42,7 @@ number-at hint i = number-after 3 0 hint i
 
 -- a number with this first byte has no leading zero and is from 1 to a bound
 unfoldable pub allowed : ℕ → ℕ → ℕ → Bool
-allowed first value most = not (eqb first 48) && ltb 0 value && leb value most
+allowed first value most = not (eqb first (code "0")) && ltb 0 value && leb value most
 
 -- such a number stands at a place
 unfoldable pub bounded : List ℕ → ℕ → ℕ → Bool
@@ -50,11 +51,11 @@ bounded hint i most = allowed (byte-at hint i) (number-at hint i .value) most
 -- the greatest length that a format allows: 8 for x d o, 255 for a t; no other byte is a format
 unfoldable pub longest : ℕ → ℕ
 longest format =
-    cond (eqb format 120 || eqb format 100 || eqb format 111) 8 (cond (eqb format 97 || eqb format 116) 255 0)
+    cond (eqb format (code "x") || eqb format (code "d") || eqb format (code "o")) 8 (cond (eqb format (code "a") || eqb format (code "t")) 255 0)
 
 -- the repeat indicator `*` at a place
 unfoldable pub starred : List ℕ → ℕ → Bool
-starred hint i = eqb (byte-at hint i) 42
+starred hint i = eqb (byte-at hint i) (code "*")
 
 -- where the length of the piece at i starts, and where its format stands
 unfoldable pub length-place : List ℕ → ℕ → ℕ

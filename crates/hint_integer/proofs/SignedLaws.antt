@@ -1,6 +1,7 @@
 -- Laws of integers: the range, the magnitude, and how long a text is.
 -- Assumes nothing.
 use Prim.Native.Nat.{ℕ, _^_, _≤_, _<_}
+use Prim.Native.Char.{code}
 use native.Mathlib.Nat.{not-suc-le-zero}
 use native.Mathlib.Omega.{arith}
 use mathlib.Core.Path.{_≡_, refl, sym, ap, _∙_}
@@ -44,7 +45,7 @@ not-negative (pos n) h = refl
 not-negative (negsuc n) h = let z : _≡_ {A = ℕ} 0 1 = cc in absurd (omega arith)
 
 -- below zero a minus and then the magnitude
-pub signed-negative : (form : Form) (z : ℤ) → ltZ z (pos 0) ≡ true → signed form z ≡ 45 ∷ magnitude form (natAbs z)
+pub signed-negative : (form : Form) (z : ℤ) → ltZ z (pos 0) ≡ true → signed form z ≡ code "-" ∷ magnitude form (natAbs z)
 unfolding signed
 signed-negative form (pos n) h = absurd (not-suc-le-zero (ltb-true n 0 h))
 signed-negative form (negsuc n) h = refl

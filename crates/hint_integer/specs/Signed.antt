@@ -1,6 +1,7 @@
 -- Printing integers by a form (document 01, "Printing by hint").
 -- Assumes nothing.
 use Prim.Native.Nat.{ℕ, suc, _-_}
+use Prim.Native.Char.{code}
 use mathlib.Core.Bool.{Bool}
 use mathlib.Core.List.{List, [], _∷_}
 use lib.Dec.{leb, ltb}
@@ -18,7 +19,7 @@ magnitude Bad n = []
 -- below zero a minus and then the magnitude
 unfoldable pub signed : Form → ℤ → List ℕ
 signed form (pos n) = magnitude form n
-signed form (negsuc n) = 45 ∷ magnitude form (suc n)
+signed form (negsuc n) = code "-" ∷ magnitude form (suc n)
 
 -- from -2147483648 to 4294967295; `negsuc n` is -(n + 1)
 unfoldable pub in-range : ℤ → Bool

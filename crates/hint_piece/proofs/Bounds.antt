@@ -1,6 +1,7 @@
 -- An accepted value prints four bytes for each octet at most.
 -- Assumes nothing.
 use Prim.Native.Nat.{ℕ, zero, suc, _+_, _-_, _*_, _≤_, _<_, min}
+use Prim.Native.Char.{code}
 use native.Mathlib.Nat.{suc-mul}
 use native.Mathlib.Omega.{arith}
 use mathlib.Core.Path.{_≡_, refl, ap, _∙_}
@@ -22,14 +23,14 @@ use Rattle.digit.proofs.Sizes.{Octets, octets-drop, octets-take, number-short}
 -- a format that allows a length and doesn't pass characters on is x, d or o: its base is 8 at least, and its length 8 at most
 pub letters : (format : ℕ) → passes format ≡ false → 0 < longest format → (8 ≤ base-of format) × (base-of format ≤ 16) × (longest format ≤ 8)
 unfolding passes longest base-of
-letters format p l = go (eqb format 120) (eqb format 111) (eqb format 98) (eqb format 100) refl refl refl refl
+letters format p l = go (eqb format (code "x")) (eqb format (code "o")) (eqb format (code "b")) (eqb format (code "d")) refl refl refl refl
   where
-    go : (x o b d : Bool) → eqb format 120 ≡ x → eqb format 111 ≡ o → eqb format 98 ≡ b → eqb format 100 ≡ d
+    go : (x o b d : Bool) → eqb format (code "x") ≡ x → eqb format (code "o") ≡ o → eqb format (code "b") ≡ b → eqb format (code "d") ≡ d
         → (8 ≤ base-of format) × (base-of format ≤ 16) × (longest format ≤ 8)
-    go true o b d ex eo eb ed = rw (eqb-true format 120 ex) (lit≤ tt, lit≤ tt, lit≤ tt)
-    go false true b d ex eo eb ed = rw (eqb-true format 111 eo) (lit≤ tt, lit≤ tt, lit≤ tt)
-    go false false true d ex eo eb ed = absurd (omega (arith, ap longest (eqb-true format 98 eb)))
-    go false false false true ex eo eb ed = rw (eqb-true format 100 ed) (lit≤ tt, lit≤ tt, lit≤ tt)
+    go true o b d ex eo eb ed = rw (eqb-true format (code "x") ex) (lit≤ tt, lit≤ tt, lit≤ tt)
+    go false true b d ex eo eb ed = rw (eqb-true format (code "o") eo) (lit≤ tt, lit≤ tt, lit≤ tt)
+    go false false true d ex eo eb ed = absurd (omega (arith, ap longest (eqb-true format (code "b") eb)))
+    go false false false true ex eo eb ed = rw (eqb-true format (code "d") ed) (lit≤ tt, lit≤ tt, lit≤ tt)
     go false false false false ex eo eb ed = let none : longest format ≡ 0 = simp (ex, eo, ed, p) in absurd (omega arith)
 
 passed-size : (at : ℕ) (s : List ℕ) (c : Cut) → size-of (passed at s c) ≤ length s

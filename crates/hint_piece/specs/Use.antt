@@ -1,6 +1,7 @@
 -- Printing octets by one piece (document 01, "Printing by hint"): its uses, the octets of a use.
 -- Assumes nothing.
 use Prim.Native.Nat.{ℕ, zero, suc, _+_, _*_}
+use Prim.Native.Char.{code}
 use mathlib.Core.Bool.{Bool, true, false, cond, not, _&&_, _||_}
 use mathlib.Core.List.{List, [], _∷_, _++_}
 use lib.Dec.{leb, eqb}
@@ -25,7 +26,7 @@ joined (fault place) o = fault place
 
 -- the formats that pass characters on
 unfoldable pub passes : ℕ → Bool
-passes format = eqb format 97 || eqb format 116
+passes format = eqb format (code "a") || eqb format (code "t")
 
 -- octets that were cut into characters are printed as they are; the place of a fault counts from the value's start
 unfoldable pub passed : ℕ → List ℕ → Cut → Outcome

@@ -1,6 +1,7 @@
 -- `print_pointed` is right: it writes what stands before the last digit, by a call of itself, and then that digit; the places fall.
 -- Assumes nothing.
 use Prim.Native.Nat.{ℕ, _/_, _-_, _≤_, _<_}
+use Prim.Native.Char.{code}
 use borrow.Fn.Kinds.{In}
 use borrow.Fn.PlainCycle.{Measures, is, falls, and}
 use native.Mathlib.Omega.{arith}
@@ -49,7 +50,7 @@ print-pointed-print-digits-requires : (t : ℕ) → print-pointed-lts.Need-print
 print-pointed-print-digits-requires t c κs =
     let a = c .before .before .before .args in
     let none = ap length (pointed-none (a .places) (a .n) (c .before .if1 .taken)) in
-    let more = length-append (digits 10 (a .n)) (46 ∷ []) in
+    let more = length-append (digits 10 (a .n)) (code "." ∷ []) in
     ((lit≤ tt, lit≤ tt), omega (arith, c .before .before .before .pre))
 
 print-pointed-put-requires : (t : ℕ) → print-pointed-lts.Need-put-requires (
@@ -65,7 +66,7 @@ print-pointed-put-requires : (t : ℕ) → print-pointed-lts.Need-put-requires (
 print-pointed-put-requires t c κs =
     let a = c .before .before .before .before .before .before .before .args in
     let none = ap length (pointed-none (a .places) (a .n) (c .before .before .before .before .before .if1 .taken)) in
-    let more = length-append (digits 10 (a .n)) (46 ∷ []) in
+    let more = length-append (digits 10 (a .n)) (code "." ∷ []) in
     let next = c .before .before .before .print-digits .ensures .next-is in
     let kept = c .before .before .before .print-digits .kept .1 .1 .0 in
     omega (arith, c .before .before .before .before .before .before .before .pre)
@@ -96,7 +97,7 @@ print-pointed-returns t c =
     let a = c .before .before .before .before .before .before .before .before .before .before .args in
     let none = pointed-none (a .places) (a .n) (c .before .before .before .before .before .before .before .before .if1 .taken) in
     let long = ap length none in
-    let more = length-append (digits 10 (a .n)) (46 ∷ []) in
+    let more = length-append (digits 10 (a .n)) (code "." ∷ []) in
     subst (λ (l : List ℕ). Wrote l (a .at) (c .before .before .put .result) (a .out .now) (c .before .before .put .last .0)) (sym none)
     (wrote-more (omega (arith, c .before .before .before .before .before .before .before .before .before .before .pre)) (c .before .before .before .before .before .before .print-digits .ensures) (c .before .before .put .ensures))
 

@@ -1,6 +1,7 @@
 -- `glyph_of` is right: the test picks the case.
 -- Assumes nothing.
 use borrow.Author.Needs.{needs}
+use native.Mathlib.Omega.{arith}
 use borrow.Author.Tests.{lt-ltb, le-ltb}
 use Rattle.digit.proofs.glyph_of.Statement.{statement}
 use Rattle.digit.proofs.glyph_of.Tie as tie
@@ -23,7 +24,7 @@ returns c = simp (lt-ltb _ _ (c .if1 .taken))
 
 returns-2 : tie.Need-returns-2
 unfolding Rattle.digit.specs.Digits.glyph
-returns-2 c = simp (le-ltb _ _ (c .if1 .left))
+returns-2 c = simp (le-ltb _ _ (c .if1 .left)) (omega arith)
 
 pub glyph-of-spec : {M : Type 1} → statement M
 glyph-of-spec =

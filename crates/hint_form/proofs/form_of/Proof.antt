@@ -2,6 +2,7 @@
 -- Assumes nothing.
 use borrow.Author.Needs.{needs}
 use Prim.Native.Nat.{ℕ}
+use Prim.Native.Char.{code}
 use mathlib.Core.Path.{_≡_, sym, ap, _∙_}
 use mathlib.Core.Bool.{true, false, _||_}
 use mathlib.Core.Logic.{⊎-elim, inl, inr}
@@ -31,9 +32,9 @@ unfolding Rattle.hint_form.specs.Form.read-form
 returns-2 c =
     let h = c .before .before .before .before .before .args .hint .now in
     let letter = c .before .before .byte-at .ensures in
-    let one : (eqb (c .before .before .byte-at .result) 120 || eqb (c .before .before .byte-at .result) 111 || eqb (c .before .before .byte-at .result) 98 || eqb (c .before .before .byte-at .result) 100) ≡ true =
+    let one : (eqb (c .before .before .byte-at .result) (code "x") || eqb (c .before .before .byte-at .result) (code "o") || eqb (c .before .before .byte-at .result) (code "b") || eqb (c .before .before .byte-at .result) (code "d")) ≡ true =
     ⊎-elim (λ e. rw e) (⊎-elim (λ e. rw e) (⊎-elim (λ e. rw e) (λ e. rw e))) (c .before .match .keys1) in
-    let known = ap (λ (b : ℕ). eqb b 120 || eqb b 111 || eqb b 98 || eqb b 100) (sym letter) ∙ one in
+    let known = ap (λ (b : ℕ). eqb b (code "x") || eqb b (code "o") || eqb b (code "b") || eqb b (code "d")) (sym letter) ∙ one in
     simp (eq-eqb _ _ (c .before .before .before .if1 .left), known) (ap Base (c .base-of .ensures ∙ ap base-of letter))
 
 returns-3 : tie.Need-returns-3
@@ -42,10 +43,10 @@ returns-3 c =
     let h = c .before .before .before .before .args .hint .now in
     let letter = c .before .byte-at .ensures in
     let other = c .match .rest in
-    let x : eqb (byte-at h 0) 120 ≡ false = ap (λ (b : ℕ). eqb b 120) (sym letter) ∙ ne-eqb _ 120 (λ e. other .1 (inr (inr (inr e)))) in
-    let o : eqb (byte-at h 0) 111 ≡ false = ap (λ (b : ℕ). eqb b 111) (sym letter) ∙ ne-eqb _ 111 (λ e. other .1 (inr (inr (inl e)))) in
-    let d : eqb (byte-at h 0) 100 ≡ false = ap (λ (b : ℕ). eqb b 100) (sym letter) ∙ ne-eqb _ 100 (λ e. other .1 (inr (inl e))) in
-    let b : eqb (byte-at h 0) 98 ≡ false = ap (λ (b : ℕ). eqb b 98) (sym letter) ∙ ne-eqb _ 98 (λ e. other .1 (inl e)) in
+    let x : eqb (byte-at h 0) (code "x") ≡ false = ap (λ (b : ℕ). eqb b (code "x")) (sym letter) ∙ ne-eqb _ (code "x") (λ e. other .1 (inr (inr (inr e)))) in
+    let o : eqb (byte-at h 0) (code "o") ≡ false = ap (λ (b : ℕ). eqb b (code "o")) (sym letter) ∙ ne-eqb _ (code "o") (λ e. other .1 (inr (inr (inl e)))) in
+    let d : eqb (byte-at h 0) (code "d") ≡ false = ap (λ (b : ℕ). eqb b (code "d")) (sym letter) ∙ ne-eqb _ (code "d") (λ e. other .1 (inr (inl e))) in
+    let b : eqb (byte-at h 0) (code "b") ≡ false = ap (λ (b : ℕ). eqb b (code "b")) (sym letter) ∙ ne-eqb _ (code "b") (λ e. other .1 (inl e)) in
     simp (eq-eqb _ _ (c .before .before .if1 .left), x, o, b, d)
 
 pub form-of-spec : {M : Type 1} → statement M

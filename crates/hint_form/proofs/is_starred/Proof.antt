@@ -2,6 +2,7 @@
 -- Assumes nothing.
 use borrow.Author.Needs.{needs}
 use Prim.Native.Nat.{ℕ}
+use Prim.Native.Char.{code}
 use mathlib.Core.Path.{ap}
 use lib.Dec.{eqb}
 use Rattle.hint_form.proofs.is_starred.Statement.{statement}
@@ -12,7 +13,7 @@ byte-at-requires c κs = search needs
 
 returns : tie.Need-returns
 unfolding Rattle.hint_form.specs.Hint.starred
-returns c = ap (λ (b : ℕ). eqb b 42) (c .byte-at .ensures)
+returns c = ap (λ (b : ℕ). eqb b (code "*")) (c .byte-at .ensures)
 
 pub is-starred-spec : {M : Type 1} → statement M
 is-starred-spec = tie.close (tie.spec byte-at-requires returns)

@@ -1,5 +1,6 @@
 -- `longest_of` is right: each letter picks its case.
 -- Assumes nothing.
+use Prim.Native.Char.{code}
 use mathlib.Core.Logic.{⊎-elim, inl, inr}
 use borrow.Author.Tests.{ne-eqb}
 use Rattle.hint_form.proofs.longest_of.Statement.{statement}
@@ -18,11 +19,11 @@ unfolding Rattle.hint_form.specs.Hint.longest
 returns-3 c =
     let other = c .match .rest in
     simp (
-      ne-eqb _ 100 (λ e. other .0 .1 (inl e)),
-      ne-eqb _ 111 (λ e. other .0 .1 (inr (inl e))),
-      ne-eqb _ 120 (λ e. other .0 .1 (inr (inr e))),
-      ne-eqb _ 97 (λ e. other .1 (inl e)),
-      ne-eqb _ 116 (λ e. other .1 (inr e)),
+      ne-eqb _ (code "d") (λ e. other .0 .1 (inl e)),
+      ne-eqb _ (code "o") (λ e. other .0 .1 (inr (inl e))),
+      ne-eqb _ (code "x") (λ e. other .0 .1 (inr (inr e))),
+      ne-eqb _ (code "a") (λ e. other .1 (inl e)),
+      ne-eqb _ (code "t") (λ e. other .1 (inr e)),
     )
 
 pub longest-of-spec : {M : Type 1} → statement M

@@ -2,6 +2,7 @@
 -- Assumes nothing.
 use borrow.Author.Needs.{needs}
 use Prim.Native.Nat.{ℕ}
+use Prim.Native.Char.{code}
 use mathlib.Core.Path.{_≡_, sym, ap, _∙_}
 use mathlib.Core.Bool.{true, false}
 use lib.Dec.{eqb, lit<}
@@ -21,7 +22,7 @@ returns : tie.Need-returns
 unfolding Rattle.hint_form.specs.Form.read-point Rattle.hint_form.specs.Hint.bounded
 returns c =
     let h = c .before .before .before .args .hint .now in
-    let d : eqb (byte-at h 0) 100 ≡ false = ap (λ (b : ℕ). eqb b 100) (sym (c .before .byte-at .ensures)) ∙ ne-eqb _ _ (c .if1 .taken) in
+    let d : eqb (byte-at h 0) (code "d") ≡ false = ap (λ (b : ℕ). eqb b (code "d")) (sym (c .before .byte-at .ensures)) ∙ ne-eqb _ _ (c .if1 .taken) in
     simp (d)
 
 byte-at-requires-2 : tie.Need-byte-at-requires-2
@@ -31,8 +32,8 @@ returns-2 : tie.Need-returns-2
 unfolding Rattle.hint_form.specs.Form.read-point Rattle.hint_form.specs.Hint.bounded
 returns-2 c =
     let h = c .before .before .before .before .before .args .hint .now in
-    let d : eqb (byte-at h 0) 100 ≡ true = ap (λ (b : ℕ). eqb b 100) (sym (c .before .before .before .byte-at .ensures)) ∙ eq-eqb _ _ (c .before .before .if1 .left) in
-    let m : eqb (byte-at h 1) 45 ≡ false = ap (λ (b : ℕ). eqb b 45) (sym (c .before .byte-at2 .ensures)) ∙ ne-eqb _ _ (c .if2 .taken) in
+    let d : eqb (byte-at h 0) (code "d") ≡ true = ap (λ (b : ℕ). eqb b (code "d")) (sym (c .before .before .before .byte-at .ensures)) ∙ eq-eqb _ _ (c .before .before .if1 .left) in
+    let m : eqb (byte-at h 1) (code "-") ≡ false = ap (λ (b : ℕ). eqb b (code "-")) (sym (c .before .byte-at2 .ensures)) ∙ ne-eqb _ _ (c .if2 .taken) in
     simp (d, m)
 
 number-at-requires : tie.Need-number-at-requires
@@ -48,8 +49,8 @@ returns-3 : tie.Need-returns-3
 unfolding Rattle.hint_form.specs.Form.read-point Rattle.hint_form.specs.Hint.bounded
 returns-3 c =
     let h = c .before .before .before .before .before .before .before .before .before .args .hint .now in
-    let d : eqb (byte-at h 0) 100 ≡ true = ap (λ (b : ℕ). eqb b 100) (sym (c .before .before .before .before .before .before .before .byte-at .ensures)) ∙ eq-eqb _ _ (c .before .before .before .before .before .before .if1 .left) in
-    let m : eqb (byte-at h 1) 45 ≡ true = ap (λ (b : ℕ). eqb b 45) (sym (c .before .before .before .before .before .byte-at2 .ensures)) ∙ eq-eqb _ _ (c .before .before .before .before .if2 .left) in
+    let d : eqb (byte-at h 0) (code "d") ≡ true = ap (λ (b : ℕ). eqb b (code "d")) (sym (c .before .before .before .before .before .before .before .byte-at .ensures)) ∙ eq-eqb _ _ (c .before .before .before .before .before .before .if1 .left) in
+    let m : eqb (byte-at h 1) (code "-") ≡ true = ap (λ (b : ℕ). eqb b (code "-")) (sym (c .before .before .before .before .before .byte-at2 .ensures)) ∙ eq-eqb _ _ (c .before .before .before .before .if2 .left) in
     let number = c .before .before .before .number-at .ensures in
     let n : allowed (byte-at h 2) (number-at h 2 .value) 10 ≡ false =
     ap (λ (v : Number). allowed (byte-at h 2) (v .value) 10) (sym number) ∙ ap (λ (b : ℕ). allowed b (c .before .before .before .number-at .result .value) 10) (sym (c .before .before .byte-at3 .ensures))
@@ -60,8 +61,8 @@ returns-4 : tie.Need-returns-4
 unfolding Rattle.hint_form.specs.Form.read-point Rattle.hint_form.specs.Hint.bounded
 returns-4 c =
     let h = c .before .before .before .before .before .before .before .before .before .before .before .args .hint .now in
-    let d : eqb (byte-at h 0) 100 ≡ true = ap (λ (b : ℕ). eqb b 100) (sym (c .before .before .before .before .before .before .before .before .before .byte-at .ensures)) ∙ eq-eqb _ _ (c .before .before .before .before .before .before .before .before .if1 .left) in
-    let m : eqb (byte-at h 1) 45 ≡ true = ap (λ (b : ℕ). eqb b 45) (sym (c .before .before .before .before .before .before .before .byte-at2 .ensures)) ∙ eq-eqb _ _ (c .before .before .before .before .before .before .if2 .left) in
+    let d : eqb (byte-at h 0) (code "d") ≡ true = ap (λ (b : ℕ). eqb b (code "d")) (sym (c .before .before .before .before .before .before .before .before .before .byte-at .ensures)) ∙ eq-eqb _ _ (c .before .before .before .before .before .before .before .before .if1 .left) in
+    let m : eqb (byte-at h 1) (code "-") ≡ true = ap (λ (b : ℕ). eqb b (code "-")) (sym (c .before .before .before .before .before .before .before .byte-at2 .ensures)) ∙ eq-eqb _ _ (c .before .before .before .before .before .before .if2 .left) in
     let number = c .before .before .before .before .before .number-at .ensures in
     let n : allowed (byte-at h 2) (number-at h 2 .value) 10 ≡ true =
     ap (λ (v : Number). allowed (byte-at h 2) (v .value) 10) (sym number) ∙ ap (λ (b : ℕ). allowed b (c .before .before .before .before .before .number-at .result .value) 10) (sym (c .before .before .before .before .byte-at3 .ensures))
@@ -73,8 +74,8 @@ returns-5 : tie.Need-returns-5
 unfolding Rattle.hint_form.specs.Form.read-point Rattle.hint_form.specs.Hint.bounded
 returns-5 c =
     let h = c .before .before .before .before .before .before .before .before .before .before .before .args .hint .now in
-    let d : eqb (byte-at h 0) 100 ≡ true = ap (λ (b : ℕ). eqb b 100) (sym (c .before .before .before .before .before .before .before .before .before .byte-at .ensures)) ∙ eq-eqb _ _ (c .before .before .before .before .before .before .before .before .if1 .left) in
-    let m : eqb (byte-at h 1) 45 ≡ true = ap (λ (b : ℕ). eqb b 45) (sym (c .before .before .before .before .before .before .before .byte-at2 .ensures)) ∙ eq-eqb _ _ (c .before .before .before .before .before .before .if2 .left) in
+    let d : eqb (byte-at h 0) (code "d") ≡ true = ap (λ (b : ℕ). eqb b (code "d")) (sym (c .before .before .before .before .before .before .before .before .before .byte-at .ensures)) ∙ eq-eqb _ _ (c .before .before .before .before .before .before .before .before .if1 .left) in
+    let m : eqb (byte-at h 1) (code "-") ≡ true = ap (λ (b : ℕ). eqb b (code "-")) (sym (c .before .before .before .before .before .before .before .byte-at2 .ensures)) ∙ eq-eqb _ _ (c .before .before .before .before .before .before .if2 .left) in
     let number = c .before .before .before .before .before .number-at .ensures in
     let n : allowed (byte-at h 2) (number-at h 2 .value) 10 ≡ true =
     ap (λ (v : Number). allowed (byte-at h 2) (v .value) 10) (sym number) ∙ ap (λ (b : ℕ). allowed b (c .before .before .before .before .before .number-at .result .value) 10) (sym (c .before .before .before .before .byte-at3 .ensures))

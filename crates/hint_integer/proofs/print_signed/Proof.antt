@@ -2,6 +2,7 @@
 -- Assumes nothing.
 use borrow.Author.Needs.{needs}
 use Prim.Native.Nat.{ℕ}
+use Prim.Native.Char.{code}
 use mathlib.Core.Path.{_≡_, ap, sym, subst, _∙_}
 use mathlib.Core.List.{List, [], _∷_, _++_}
 use native.Mathlib.Omega.{arith}
@@ -46,8 +47,8 @@ returns c =
     let digits = ap (magnitude (a .form)) n in
     let long = ap length digits in
     let below = ap (λ (z : ℤ). ltZ z (pos 0)) (sym same) ∙ c .before .before .before .before .before .before .before .before .if1 .taken in
-    let all : (45 ∷ []) ++ magnitude (a .form) (c .before .before .before .before .before .before .before .before .before .magnitude-of .result) ≡ signed (a .form) (a .value) =
-    ap (λ (l : List ℕ). 45 ∷ l) digits ∙ sym (signed-negative (a .form) (a .value) below) in
+    let all : (code "-" ∷ []) ++ magnitude (a .form) (c .before .before .before .before .before .before .before .before .before .magnitude-of .result) ≡ signed (a .form) (a .value) =
+    ap (λ (l : List ℕ). code "-" ∷ l) digits ∙ sym (signed-negative (a .form) (a .value) below) in
     subst (λ (l : List ℕ). Wrote l 0 (c .before .before .print-magnitude .result) (a .out .now) (c .before .before .print-magnitude .last .1 .1 .0)) all
     (wrote-more (omega (arith, q .1)) (c .before .before .before .before .before .before .put .ensures) (c .before .before .print-magnitude .ensures))
 
