@@ -20,8 +20,9 @@ pub fn glyph_of(d: u64) -> u8
 
 // Writes the digits of n: those of the quotient by the base, then the remainder's. Answers the place after them.
 pub fn print_digits(n: u64, base: u64, out: &mut [u8], at: usize) -> usize
-    requires { ⌜ (2 ≤ base) × (base ≤ 16) ⌝ }
-    requires { ⌜ at + length (digits base n) ≤ length (now out) ⌝ }
+    requires least { ⌜ 2 ≤ base ⌝ }
+    requires most { ⌜ base ≤ 16 ⌝ }
+    requires room { ⌜ at + length (digits base n) ≤ length (now out) ⌝ }
     ensures { λ r. ⌜ Wrote (digits base n) at r (now (out .entry)) (now (out .exit)) ⌝ }
 {
     if n < base {

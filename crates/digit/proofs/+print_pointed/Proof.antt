@@ -5,13 +5,12 @@ use Prim.Native.Char.{code}
 use borrow.Fn.Kinds.{In}
 use borrow.Fn.PlainCycle.{Measures, is, falls, and}
 use native.Mathlib.Omega.{arith}
-use mathlib.Core.Path.{_≡_, sym, ap, subst, _∙_}
+use mathlib.Core.Path.{_≡_, sym, ap, _∙_}
 use mathlib.Core.List.{List, [], _∷_, _++_}
 use lib.ListN.{length, length-append}
 use lib.Dec.{lit≤}
 use Rattle.digit.proofs.DigitLaws.{pointed-none, pointed-step, pointed-longer}
-use Rattle.buffer.proofs.Writing.{wrote-more}
-use Rattle.buffer.specs.Buffer.{Wrote}
+use Rattle.buffer.proofs.Writing.{wrote-more, wrote-as}
 use Rattle.digit.specs.Digits.{digits, pointed}
 use Rattle.digit.proofs.print_pointed.Reads as print-pointed
 use Rattle.digit.proofs.print_pointed.Kinds as print-pointed-kinds
@@ -37,161 +36,9 @@ print-pointed-below t =
     (falls 1 print-pointed-kinds.ps _<_ μ-print-pointed t)
     print-pointed.Pre
 
-print-pointed-print-digits-requires : (t : ℕ) → print-pointed-lts.Need-print-digits-requires (
-  print-digits-reads.Asked,
-  print-digits-reads.Learnt,
-  put-reads.Asked,
-  put-reads.Learnt,
-  print-pointed-below t,
-  print-pointed.Post,
-  glyph-of-reads.Asked,
-  glyph-of-reads.Learnt,
-) (print-pointed-at t) print-pointed.Post
-print-pointed-print-digits-requires t c κs =
-    let a = c .before .before .before .args in
-    let none = ap length (pointed-none (a .places) (a .n) (c .before .if1 .taken)) in
-    let more = length-append (digits 10 (a .n)) (code "." ∷ []) in
-    ((lit≤ tt, lit≤ tt), omega (arith, c .before .before .before .pre))
-
-print-pointed-put-requires : (t : ℕ) → print-pointed-lts.Need-put-requires (
-  print-digits-reads.Asked,
-  print-digits-reads.Learnt,
-  put-reads.Asked,
-  put-reads.Learnt,
-  print-pointed-below t,
-  print-pointed.Post,
-  glyph-of-reads.Asked,
-  glyph-of-reads.Learnt,
-) (print-pointed-at t) print-pointed.Post
-print-pointed-put-requires t c κs =
-    let a = c .before .before .before .before .before .before .before .args in
-    let none = ap length (pointed-none (a .places) (a .n) (c .before .before .before .before .before .if1 .taken)) in
-    let more = length-append (digits 10 (a .n)) (code "." ∷ []) in
-    let next = c .before .before .before .print-digits .ensures .next-is in
-    let kept = c .before .before .before .print-digits .kept .1 .1 .0 in
-    omega (arith, c .before .before .before .before .before .before .before .pre)
-
-print-pointed-same-length : (t : ℕ) → print-pointed-lts.Need-same-length (
-  print-digits-reads.Asked,
-  print-digits-reads.Learnt,
-  put-reads.Asked,
-  put-reads.Learnt,
-  print-pointed-below t,
-  print-pointed.Post,
-  glyph-of-reads.Asked,
-  glyph-of-reads.Learnt,
-) (print-pointed-at t) print-pointed.Post
-print-pointed-same-length t c = c .before .before .put .kept .0 ∙ c .before .before .before .before .before .before .print-digits .kept .1 .1 .0
-
-print-pointed-returns : (t : ℕ) → print-pointed-lts.Need-returns (
-  print-digits-reads.Asked,
-  print-digits-reads.Learnt,
-  put-reads.Asked,
-  put-reads.Learnt,
-  print-pointed-below t,
-  print-pointed.Post,
-  glyph-of-reads.Asked,
-  glyph-of-reads.Learnt,
-) (print-pointed-at t) print-pointed.Post
-print-pointed-returns t c =
-    let a = c .before .before .before .before .before .before .before .before .before .before .args in
-    let none = pointed-none (a .places) (a .n) (c .before .before .before .before .before .before .before .before .if1 .taken) in
-    let long = ap length none in
-    let more = length-append (digits 10 (a .n)) (code "." ∷ []) in
-    subst (λ (l : List ℕ). Wrote l (a .at) (c .before .before .put .result) (a .out .now) (c .before .before .put .last .0)) (sym none)
-    (wrote-more (omega (arith, c .before .before .before .before .before .before .before .before .before .before .pre)) (c .before .before .before .before .before .before .print-digits .ensures) (c .before .before .put .ensures))
-
-print-pointed-sub-print-pointed : (t : ℕ) → print-pointed-lts.Need-sub-print-pointed (
-  print-digits-reads.Asked,
-  print-digits-reads.Learnt,
-  put-reads.Asked,
-  put-reads.Learnt,
-  print-pointed-below t,
-  print-pointed.Post,
-  glyph-of-reads.Asked,
-  glyph-of-reads.Learnt,
-) (print-pointed-at t) print-pointed.Post
-print-pointed-sub-print-pointed t c = omega arith
-
-print-pointed-print-pointed-requires : (t : ℕ) → print-pointed-lts.Need-print-pointed-requires (
-  print-digits-reads.Asked,
-  print-digits-reads.Learnt,
-  put-reads.Asked,
-  put-reads.Learnt,
-  print-pointed-below t,
-  print-pointed.Post,
-  glyph-of-reads.Asked,
-  glyph-of-reads.Learnt,
-) (print-pointed-at t) print-pointed.Post
-print-pointed-print-pointed-requires t c κs =
-    let a = c .before .before .before .args in
-    let some : 1 ≤ a .places = omega (arith, c .before .if1 .left) in
-    let longer = pointed-longer (a .places) (a .n) some in
-    (omega (arith, c .before .before .before .pre), omega (arith, c .before .before .before .pre))
-
-print-pointed-glyph-of-requires : (t : ℕ) → print-pointed-lts.Need-glyph-of-requires (
-  print-digits-reads.Asked,
-  print-digits-reads.Learnt,
-  put-reads.Asked,
-  put-reads.Learnt,
-  print-pointed-below t,
-  print-pointed.Post,
-  glyph-of-reads.Asked,
-  glyph-of-reads.Learnt,
-) (print-pointed-at t) print-pointed.Post
-print-pointed-glyph-of-requires t c κs = omega arith
-
-print-pointed-put-requires-2 : (t : ℕ) → print-pointed-lts.Need-put-requires-2 (
-  print-digits-reads.Asked,
-  print-digits-reads.Learnt,
-  put-reads.Asked,
-  put-reads.Learnt,
-  print-pointed-below t,
-  print-pointed.Post,
-  glyph-of-reads.Asked,
-  glyph-of-reads.Learnt,
-) (print-pointed-at t) print-pointed.Post
-print-pointed-put-requires-2 t c κs =
-    let a = c .before .before .before .before .before .before .before .before .args in
-    let some : 1 ≤ a .places = omega (arith, c .before .before .before .before .before .before .if1 .left) in
-    let longer = pointed-longer (a .places) (a .n) some in
-    let next = c .before .before .before .before .print-pointed .ensures .next-is in
-    let kept = c .before .before .before .before .print-pointed .kept .1 .1 .0 in
-    omega (arith, c .before .before .before .before .before .before .before .before .pre)
-
-print-pointed-same-length-2 : (t : ℕ) → print-pointed-lts.Need-same-length-2 (
-  print-digits-reads.Asked,
-  print-digits-reads.Learnt,
-  put-reads.Asked,
-  put-reads.Learnt,
-  print-pointed-below t,
-  print-pointed.Post,
-  glyph-of-reads.Asked,
-  glyph-of-reads.Learnt,
-) (print-pointed-at t) print-pointed.Post
-print-pointed-same-length-2 t c = c .before .before .put2 .kept .0 ∙ c .before .before .before .before .before .before .before .print-pointed .kept .1 .1 .0
-
-print-pointed-returns-2 : (t : ℕ) → print-pointed-lts.Need-returns-2 (
-  print-digits-reads.Asked,
-  print-digits-reads.Learnt,
-  put-reads.Asked,
-  put-reads.Learnt,
-  print-pointed-below t,
-  print-pointed.Post,
-  glyph-of-reads.Asked,
-  glyph-of-reads.Learnt,
-) (print-pointed-at t) print-pointed.Post
-print-pointed-returns-2 t c =
-    let a = c .before .before .before .before .before .before .before .before .before .before .before .args in
-    let some : 1 ≤ a .places = omega (arith, c .before .before .before .before .before .before .before .before .before .if1 .left) in
-    let longer = pointed-longer (a .places) (a .n) some in
-    let all : pointed (a .places - 1) (a .n / 10) ++ (c .before .before .before .glyph-of .result ∷ []) ≡ pointed (a .places) (a .n) =
-    ap (λ (b : ℕ). pointed (a .places - 1) (a .n / 10) ++ (b ∷ [])) (c .before .before .before .glyph-of .ensures) ∙ sym (pointed-step (a .places) (a .n) some) in
-    subst (λ (l : List ℕ). Wrote l (a .at) (c .before .before .put2 .result) (a .out .now) (c .before .before .put2 .last .0)) all
-    (wrote-more (omega (arith, c .before .before .before .before .before .before .before .before .before .before .before .pre)) (c .before .before .before .before .before .before .before .print-pointed .ensures) (c .before .before .put2 .ensures))
-
-pub +print-pointed-spec : {M : Type 1} → statement M
-+print-pointed-spec = close μ-print-pointed λ t. print-pointed-lts.spec (
+-- what the calls ask and give: those of itself for fewer places
+abbrev claims : ℕ → print-pointed-lts.Claims
+claims t = (
   print-digits-reads.Asked,
   print-digits-reads.Learnt,
   put-reads.Asked,
@@ -201,6 +48,84 @@ pub +print-pointed-spec : {M : Type 1} → statement M
   glyph-of-reads.Asked,
   glyph-of-reads.Learnt,
 )
+
+print-pointed-print-digits-requires : (t : ℕ) → print-pointed-lts.Need-print-digits-requires (claims t) (print-pointed-at t) print-pointed.Post
+print-pointed-print-digits-requires t c κs =
+    let start = c .before .before .before in
+    let a = start .args in
+    let none = ap length (pointed-none (a .places) (a .n) (c .before .if1 .taken)) in
+    let more = length-append (digits 10 (a .n)) (code "." ∷ []) in
+    (lit≤ tt, (lit≤ tt, omega (arith, start .pre)))
+
+print-pointed-put-requires : (t : ℕ) → print-pointed-lts.Need-put-requires (claims t) (print-pointed-at t) print-pointed.Post
+print-pointed-put-requires t c κs =
+    let start = c .before .before .before .before .before .before .before in
+    let a = start .args in
+    let none = ap length (pointed-none (a .places) (a .n) (c .before .before .before .before .before .if1 .taken)) in
+    let more = length-append (digits 10 (a .n)) (code "." ∷ []) in
+    let first = c .before .before .before .print-digits in
+    let next = first .ensures .next-is in
+    let kept = first .kept .1 .1 .0 in
+    omega (arith, start .pre)
+
+print-pointed-same-length : (t : ℕ) → print-pointed-lts.Need-same-length (claims t) (print-pointed-at t) print-pointed.Post
+print-pointed-same-length t c =
+    c .before .before .put .kept .0 ∙ c .before .before .before .before .before .before .print-digits .kept .1 .1 .0
+
+print-pointed-returns : (t : ℕ) → print-pointed-lts.Need-returns (claims t) (print-pointed-at t) print-pointed.Post
+print-pointed-returns t c =
+    let start = c .before .before .before .before .before .before .before .before .before .before in
+    let a = start .args in
+    let none = pointed-none (a .places) (a .n) (c .before .before .before .before .before .before .before .before .if1 .taken) in
+    let long = ap length none in
+    let more = length-append (digits 10 (a .n)) (code "." ∷ []) in
+    let first = c .before .before .before .before .before .before .print-digits in
+    wrote-as (sym none) (wrote-more (omega (arith, start .pre)) (first .ensures) (c .before .before .put .ensures))
+
+print-pointed-sub-print-pointed : (t : ℕ) → print-pointed-lts.Need-sub-print-pointed (claims t) (print-pointed-at t) print-pointed.Post
+print-pointed-sub-print-pointed t c = omega arith
+
+print-pointed-print-pointed-requires : (t : ℕ) → print-pointed-lts.Need-print-pointed-requires (claims t) (print-pointed-at t) print-pointed.Post
+print-pointed-print-pointed-requires t c κs =
+    let start = c .before .before .before in
+    let a = start .args in
+    let some : 1 ≤ a .places = omega (arith, c .before .if1 .left) in
+    let longer = pointed-longer (a .places) (a .n) some in
+    (omega (arith, start .pre), omega (arith, start .pre))
+
+print-pointed-glyph-of-requires : (t : ℕ) → print-pointed-lts.Need-glyph-of-requires (claims t) (print-pointed-at t) print-pointed.Post
+print-pointed-glyph-of-requires t c κs = omega arith
+
+print-pointed-put-requires-2 : (t : ℕ) → print-pointed-lts.Need-put-requires-2 (claims t) (print-pointed-at t) print-pointed.Post
+print-pointed-put-requires-2 t c κs =
+    let start = c .before .before .before .before .before .before .before .before in
+    let a = start .args in
+    let some : 1 ≤ a .places = omega (arith, c .before .before .before .before .before .before .if1 .left) in
+    let longer = pointed-longer (a .places) (a .n) some in
+    let first = c .before .before .before .before .print-pointed in
+    let next = first .ensures .next-is in
+    let kept = first .kept .1 .1 .0 in
+    omega (arith, start .pre)
+
+print-pointed-same-length-2 : (t : ℕ) → print-pointed-lts.Need-same-length-2 (claims t) (print-pointed-at t) print-pointed.Post
+print-pointed-same-length-2 t c =
+    c .before .before .put2 .kept .0 ∙ c .before .before .before .before .before .before .before .print-pointed .kept .1 .1 .0
+
+print-pointed-returns-2 : (t : ℕ) → print-pointed-lts.Need-returns-2 (claims t) (print-pointed-at t) print-pointed.Post
+print-pointed-returns-2 t c =
+    let start = c .before .before .before .before .before .before .before .before .before .before .before in
+    let a = start .args in
+    let some : 1 ≤ a .places = omega (arith, c .before .before .before .before .before .before .before .before .before .if1 .left) in
+    let longer = pointed-longer (a .places) (a .n) some in
+    let first = c .before .before .before .before .before .before .before .print-pointed in
+    let glyph-of = c .before .before .before .glyph-of in
+    let front : List ℕ = pointed (a .places - 1) (a .n / 10) in
+    let all : front ++ (glyph-of .result ∷ []) ≡ pointed (a .places) (a .n) =
+    ap (λ (b : ℕ). front ++ (b ∷ [])) (glyph-of .ensures) ∙ sym (pointed-step (a .places) (a .n) some) in
+    wrote-as all (wrote-more (omega (arith, start .pre)) (first .ensures) (c .before .before .put2 .ensures))
+
+pub +print-pointed-spec : {M : Type 1} → statement M
++print-pointed-spec = close μ-print-pointed λ t. print-pointed-lts.spec (claims t)
     (print-pointed-at t)
     print-pointed.Post
     (print-pointed-print-digits-requires t)
