@@ -29,7 +29,8 @@ module _ (size : ℕ → ℕ) (end : ℕ) where
   within-enough (suc j) (suc k) i p q =
       go (λ (m : ℕ) (r : end - m ≤ j) (s : end - m ≤ k). within-enough j k m r s) (leb end i) (size i) refl refl
     where
-      go : ((m : ℕ) → end - m ≤ j → end - m ≤ k → cut-within j size end m ≡ cut-within k size end m) → (t : Bool) (n : ℕ) → leb end i ≡ t → size i ≡ n → cut-within (suc j) size end i ≡ cut-within (suc k) size end i
+      go : ((m : ℕ) → end - m ≤ j → end - m ≤ k → cut-within j size end m ≡ cut-within k size end m)
+          → (t : Bool) (n : ℕ) → leb end i ≡ t → size i ≡ n → cut-within (suc j) size end i ≡ cut-within (suc k) size end i
       go same true n e f = rw (e, cut-within)
       go same false zero e f = rw (e, f, cut-within)
       go same false (suc n) e f = rw (e, f, cut-within) (ap (before i) (same (i + suc n) (omega arith) (omega arith)))
@@ -58,13 +59,15 @@ module _ (size : ℕ → ℕ) (end : ℕ) where
       go zero e = absurd (omega arith)
       go (suc n) e =
           within-enough (end - i) (suc end) i (omega arith) (omega arith)
-          ∙ rw (lt-leb end i h, e, cut-within) (ap (before i) (within-enough end (end - (i + suc n)) (i + suc n) (omega arith) (omega arith)))
+          ∙ rw (lt-leb end i h, e, cut-within)
+          (ap (before i) (within-enough end (end - (i + suc n)) (i + suc n) (omega arith) (omega arith)))
 
   -- a cut is stuck before the end
   within-below : (k i j : ℕ) → cut-within k size end i ≡ stuck j → j < end
   unfolding cut-within
   within-below zero i j h = absurd (whole-not-stuck [] j h)
-  within-below (suc k) i j h = go (λ (m : ℕ) (r : cut-within k size end m ≡ stuck j). within-below k m j r) (leb end i) (size i) refl refl
+  within-below (suc k) i j h =
+      go (λ (m : ℕ) (r : cut-within k size end m ≡ stuck j). within-below k m j r) (leb end i) (size i) refl refl
     where
       go : ((m : ℕ) → cut-within k size end m ≡ stuck j → j < end) → (t : Bool) (n : ℕ) → leb end i ≡ t → size i ≡ n → j < end
       go deeper true n e f = absurd (whole-not-stuck [] j (sym (rw (e, cut-within)) ∙ h))

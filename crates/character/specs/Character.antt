@@ -1,4 +1,5 @@
--- Characters among octets: of format a one octet from 0 to 127, of format t a well-formed sequence of UTF-8 (RFC 3629, section 4).
+-- Characters among octets: of format a one octet from 0 to 127, of format t a well-formed sequence of UTF-8 (RFC 3629,
+-- section 4).
 -- Assumes nothing.
 use Prim.Native.Nat.{ℕ, _+_}
 use Prim.Native.Char.{code}
@@ -31,10 +32,12 @@ second-low lead = cond (eqb lead 0xE0) 0xA0 (cond (eqb lead 0xF0) 0x90 0x80)
 unfoldable pub second-high : ℕ → ℕ
 second-high lead = cond (eqb lead 0xED) 0x9F (cond (eqb lead 0xF4) 0x8F 0xBF)
 
--- the octets after the first are as the first asks. An octet past the end reads as 0, which is no tail: a sequence that isn't whole fails
+-- the octets after the first are as the first asks. An octet past the end reads as 0, which is no tail: a sequence that
+-- isn't whole fails
 unfoldable pub tails : List ℕ → ℕ → Bool
 tails octets i =
-    (leb (lead-size (byte-at octets i)) 1 || between (second-low (byte-at octets i)) (second-high (byte-at octets i)) (byte-at octets (i + 1)))
+    (leb (lead-size (byte-at octets i)) 1
+    || between (second-low (byte-at octets i)) (second-high (byte-at octets i)) (byte-at octets (i + 1)))
     && (leb (lead-size (byte-at octets i)) 2 || tail (byte-at octets (i + 2)))
     && (leb (lead-size (byte-at octets i)) 3 || tail (byte-at octets (i + 3)))
 

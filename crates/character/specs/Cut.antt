@@ -17,7 +17,8 @@ unfoldable pub before : ℕ → Cut → Cut
 before place (whole places) = whole (place ∷ places)
 before place (stuck i) = stuck i
 
--- the cut from place i up to the end, in a number of steps at most; `size i` is how many bytes the item at i has, 0 where none starts
+-- the cut from place i up to the end, in a number of steps at most; `size i` is how many bytes the item at i has, 0 where
+-- none starts
 unfoldable pub cut-within : ℕ → (ℕ → ℕ) → ℕ → ℕ → Cut
 cut-within zero size end i = whole []
 cut-within (suc steps) size end i =

@@ -13,6 +13,7 @@ use lib.ListN.{length, length-append}
 use borrow.Author.Tests.{lt-ltb, le-ltb, ltb-false}
 use Rattle.digit.specs.Digits.{digits, digits-within, glyph, pointed}
 
+-- a quotient is less than the number
 pub quotient-less : (base n : ℕ) → 2 ≤ base → base ≤ n → n / base < n
 quotient-less base n h l = div-lt-self (omega arith) h
 
@@ -21,9 +22,11 @@ within-enough : (j k base n : ℕ) → 2 ≤ base → n < j → n < k → digits
 unfolding digits-within
 within-enough zero k base n h p q = absurd (not-suc-le-zero p)
 within-enough (suc j) zero base n h p q = absurd (not-suc-le-zero q)
-within-enough (suc j) (suc k) base n h p q = go (λ (m : ℕ) (r : m < j) (s : m < k). within-enough j k base m h r s) (ltb n base) refl
+within-enough (suc j) (suc k) base n h p q =
+    go (λ (m : ℕ) (r : m < j) (s : m < k). within-enough j k base m h r s) (ltb n base) refl
   where
-    go : ((m : ℕ) → m < j → m < k → digits-within j base m ≡ digits-within k base m) → (t : Bool) → ltb n base ≡ t → digits-within (suc j) base n ≡ digits-within (suc k) base n
+    go : ((m : ℕ) → m < j → m < k → digits-within j base m ≡ digits-within k base m)
+        → (t : Bool) → ltb n base ≡ t → digits-within (suc j) base n ≡ digits-within (suc k) base n
     go same true e = rw (e, digits-within)
     go same false e =
         let l : base ≤ n = ltb-false n base e in
@@ -40,25 +43,28 @@ pub digits-step : (base n : ℕ) → 2 ≤ base → base ≤ n → digits base n
 unfolding digits digits-within
 digits-step base n h l =
     let less : n / base < n = quotient-less base n h l in
-    rw (le-ltb n base l, digits-within) (ap (λ (ds : List ℕ). ds ++ (glyph (n % base) ∷ [])) (within-enough n (suc (n / base)) base (n / base) h less (omega arith)))
+    let same = within-enough n (suc (n / base)) base (n / base) h less (omega arith) in
+    rw (le-ltb n base l, digits-within) (ap (λ (ds : List ℕ). ds ++ (glyph (n % base) ∷ [])) same)
 
 -- the point comes after all digits where no places are left
 pub pointed-none : (places n : ℕ) → places ≡ 0 → pointed places n ≡ digits 10 n ++ (code "." ∷ [])
 unfolding pointed
 pointed-none places n e = rw e
 
--- the same of the decimal point, where digits are left after it
+-- where places are left the last digit comes last
 pub pointed-step : (places n : ℕ) → 1 ≤ places → pointed places n ≡ pointed (places - 1) (n / 10) ++ (glyph (n % 10) ∷ [])
 unfolding pointed
 pointed-step zero n h = absurd (not-suc-le-zero h)
 pointed-step (suc places) n h = rw (sub-one (suc places))
 
+-- so it has one digit more than its quotient
 pub digits-longer : (base n : ℕ) → 2 ≤ base → base ≤ n → length (digits base n) ≡ length (digits base (n / base)) + 1
 digits-longer base n h l = ap length (digits-step base n h l) ∙ length-append (digits base (n / base)) (glyph (n % base) ∷ [])
 
--- the digits before the last, and the point, where places are left
+-- so it has one byte more than its quotient with a place less
 pub pointed-longer : (places n : ℕ) → 1 ≤ places → length (pointed places n) ≡ length (pointed (places - 1) (n / 10)) + 1
-pointed-longer places n h = ap length (pointed-step places n h) ∙ length-append (pointed (places - 1) (n / 10)) (glyph (n % 10) ∷ [])
+pointed-longer places n h =
+    ap length (pointed-step places n h) ∙ length-append (pointed (places - 1) (n / 10)) (glyph (n % 10) ∷ [])
 
 -- eight octets fit 64 bits
 pub power-fits : (i : ℕ) → i < 8 → 256 ^ suc i ≤ 2 ^ 64

@@ -37,9 +37,10 @@ big-endian-below n [] h = omega (arith, pow-zero 256)
 big-endian-below n (b ∷ bs) h =
     let rest = big-endian-below (n * 256 + b) bs (λ k. h (suc k)) in
     let first : b < 256 = h 0 in
-    let more : suc (n * 256 + b) * 256 ^ length bs ≤ (suc n * 256) * 256 ^ length bs = mul-le-mul-right (256 ^ length bs) (omega arith) in
-    let same : (suc n * 256) * 256 ^ length bs ≡ suc n * 256 ^ suc (length bs) =
-    mul-assoc (suc n) 256 (256 ^ length bs) ∙ ap (λ (k : ℕ). suc n * k) (mul-comm 256 (256 ^ length bs) ∙ sym (pow-suc 256 (length bs))) in
+    let power : ℕ = 256 ^ length bs in
+    let more : suc (n * 256 + b) * power ≤ (suc n * 256) * power = mul-le-mul-right power (omega arith) in
+    let same : (suc n * 256) * power ≡ suc n * 256 ^ suc (length bs) =
+    mul-assoc (suc n) 256 power ∙ ap (λ (k : ℕ). suc n * k) (mul-comm 256 power ∙ sym (pow-suc 256 (length bs))) in
     omega arith
 
 -- one law for every base: a number below c ^ m has m digits at most, at any base from c on
@@ -47,9 +48,11 @@ pub digits-short : (c base m n : ℕ) → 2 ≤ c → c ≤ base → n < c ^ suc
 digits-short c base zero n two large h =
     let one : c ^ 1 ≡ c = pow-suc c 0 ∙ ap (λ (k : ℕ). k * c) (pow-zero c) ∙ one-mul c in
     omega (arith, ap length (digits-last base n (omega arith)))
-digits-short c base (suc m) n two large h = go (λ (q : ℕ) (l : q < c ^ suc m). digits-short c base m q two large l) (ltb n base) refl
+digits-short c base (suc m) n two large h =
+    go (λ (q : ℕ) (l : q < c ^ suc m). digits-short c base m q two large l) (ltb n base) refl
   where
-    go : ((q : ℕ) → q < c ^ suc m → length (digits base q) ≤ suc m) → (t : Bool) → ltb n base ≡ t → length (digits base n) ≤ suc (suc m)
+    go : ((q : ℕ) → q < c ^ suc m → length (digits base q) ≤ suc m)
+        → (t : Bool) → ltb n base ≡ t → length (digits base n) ≤ suc (suc m)
     go deeper true e = omega (arith, ap length (digits-last base n (ltb-true n base e)))
     go deeper false e =
         let more : c ^ suc m * c ≤ c ^ suc m * base = mul-le-mul-left (c ^ suc m) large in
@@ -64,17 +67,22 @@ octal (suc k) =
     let split : 8 ^ (3 * suc k) ≡ 8 ^ (3 * k) * 512 = ap (λ (e : ℕ). 8 ^ e) (omega arith) ∙ pow-add 8 (3 * k) 3 in
     omega (arith, octal k, pow-suc 256 k)
 
--- a number of so many octets, at a base from 8 on
-pub number-short : (base : ℕ) (s : List ℕ) → 8 ≤ base → 0 < length s → Octets s → length (digits base (big-endian 0 s)) ≤ 3 * length s
+-- a number of so many octets has three digits for each at most, at a base from 8 on
+pub number-short : (base : ℕ) (s : List ℕ) → 8 ≤ base → 0 < length s → Octets s
+    → length (digits base (big-endian 0 s)) ≤ 3 * length s
 number-short base [] large some h = absurd (omega arith)
 number-short base (b ∷ bs) large some h =
     let k : ℕ = length (b ∷ bs) in
     let value : big-endian 0 (b ∷ bs) < 1 * 256 ^ k = big-endian-below 0 (b ∷ bs) h in
     let exponent : 3 * k ≡ suc (3 * length bs + 2) = omega arith in
-    let below : big-endian 0 (b ∷ bs) < 8 ^ suc (3 * length bs + 2) = subst (λ (e : ℕ). big-endian 0 (b ∷ bs) < 8 ^ e) exponent (omega (arith, octal k)) in
-    omega (arith, digits-short 8 base (3 * length bs + 2) (big-endian 0 (b ∷ bs)) (lit≤ tt) large below)
+    let n : ℕ = big-endian 0 (b ∷ bs) in
+    let below : n < 8 ^ suc (3 * length bs + 2) = subst (λ (e : ℕ). n < 8 ^ e) exponent (omega (arith, octal k)) in
+    omega (arith, digits-short 8 base (3 * length bs + 2) n (lit≤ tt) large below)
 
+-- a number below 2 ^ 32 has 32 digits at most, and the point
 pub pointed-size : (places n : ℕ) → n < 2 ^ 32 → length (pointed places n) ≤ 33 + places
 unfolding pointed
 pointed-size zero n h = omega (arith, digits-short 2 10 31 n (lit≤ tt) (lit≤ tt) h, length-append (digits 10 n) (code "." ∷ []))
-pointed-size (suc places) n h = omega (arith, pointed-size places (n / 10) (omega arith), length-append (pointed places (n / 10)) (glyph (n % 10) ∷ []))
+pointed-size (suc places) n h =
+    let more = length-append (pointed places (n / 10)) (glyph (n % 10) ∷ []) in
+    omega (arith, pointed-size places (n / 10) (omega arith))

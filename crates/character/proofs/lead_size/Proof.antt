@@ -25,15 +25,37 @@ returns-2 c = simp (le-ltb _ _ (c .before .before .if1 .left), sym (c .before .i
 
 returns-3 : tie.Need-returns-3
 unfolding Rattle.character.specs.Character.lead-size
-returns-3 c = simp (le-ltb _ _ (c .before .before .before .before .if1 .left), sym (c .before .before .before .is-between .ensures) ∙ c .before .before .if2 .left, sym (c .before .is-between2 .ensures) ∙ c .if3 .taken)
+returns-3 c =
+    let second = c .before .before in
+    simp (
+      le-ltb _ _ (second .before .before .if1 .left),
+      sym (second .before .is-between .ensures) ∙ second .if2 .left,
+      sym (c .before .is-between2 .ensures) ∙ c .if3 .taken,
+    )
 
 returns-4 : tie.Need-returns-4
 unfolding Rattle.character.specs.Character.lead-size
-returns-4 c = simp (le-ltb _ _ (c .before .before .before .before .before .before .if1 .left), sym (c .before .before .before .before .before .is-between .ensures) ∙ c .before .before .before .before .if2 .left, sym (c .before .before .before .is-between2 .ensures) ∙ c .before .before .if3 .left, sym (c .before .is-between3 .ensures) ∙ c .if4 .taken)
+returns-4 c =
+    let third = c .before .before in
+    let second = third .before .before in
+    simp (
+      le-ltb _ _ (second .before .before .if1 .left),
+      sym (second .before .is-between .ensures) ∙ second .if2 .left,
+      sym (third .before .is-between2 .ensures) ∙ third .if3 .left,
+      sym (c .before .is-between3 .ensures) ∙ c .if4 .taken,
+    )
 
 returns-5 : tie.Need-returns-5
 unfolding Rattle.character.specs.Character.lead-size
-returns-5 c = simp (le-ltb _ _ (c .before .before .before .before .before .before .if1 .left), sym (c .before .before .before .before .before .is-between .ensures) ∙ c .before .before .before .before .if2 .left, sym (c .before .before .before .is-between2 .ensures) ∙ c .before .before .if3 .left, sym (c .before .is-between3 .ensures) ∙ c .if4 .left)
+returns-5 c =
+    let third = c .before .before in
+    let second = third .before .before in
+    simp (
+      le-ltb _ _ (second .before .before .if1 .left),
+      sym (second .before .is-between .ensures) ∙ second .if2 .left,
+      sym (third .before .is-between2 .ensures) ∙ third .if3 .left,
+      sym (c .before .is-between3 .ensures) ∙ c .if4 .left,
+    )
 
 pub lead-size-spec : {M : Type 1} → statement M
 lead-size-spec =
