@@ -6,7 +6,7 @@ use Prim.Native.Char.{code}
 use Prim.Native.String.{String, [] as none, _∷_ as char-and}
 use mathlib.Core.List.{List, [], _∷_}
 use lib.IntN.{negsuc}
-use Rattle.hint_form.specs.Form.{base-of, read-point, read-form}
+use Rattle.hint_form.specs.Form.{base-of, integer-format, read-point, read-form}
 use Rattle.digit.specs.Digits.{glyph, digits-within, digits, pointed, big-endian}
 use Rattle.character.specs.Cut.{before, cut-within, cut}
 use Rattle.hint_form.specs.Hint.{digit, mark, mark-at, mark-size, number-after, number-at, allowed, bounded, longest, starred, length-place, format-place, separator-of, terminator-of, is-piece, piece-at, piece-end, piece-size, pieces-of, read-hint}
@@ -36,5 +36,5 @@ unfolding bytes octets-verdict by-pieces of-outcome read-hint pieces-of cut cut-
     terminator-of separator-of format-place length-place starred longest bounded allowed number-at number-after mark-size mark-at mark digit
     printing printing-within turn uses-end uses-start repeats uses one-use following optional use-text passed passes joined
     character-size sequence-size tails second-high second-low lead-size tail between big-endian digits digits-within glyph base-of
-    integer-verdict by-form in-range signed magnitude read-form read-point pointed
+    integer-verdict by-form in-range signed magnitude integer-format read-form read-point pointed
 examples = record { P6 = refl; P7 = refl; P8-text = refl; P8-ascii = refl }

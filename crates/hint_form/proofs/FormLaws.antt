@@ -9,7 +9,7 @@ use lib.Dec.{leb, ltb, eqb, lit≤}
 use lib.ListN.{length}
 use borrow.Author.Tests.{leb-true}
 use Rattle.buffer.specs.Buffer.{byte-at}
-use Rattle.hint_form.specs.Form.{base-of, read-form, read-point, Usable}
+use Rattle.hint_form.specs.Form.{base-of, integer-format, read-form, read-point, Usable}
 use Rattle.hint_form.specs.Hint.{number-at, allowed, bounded}
 use Rattle.hint_form.specs.declared.Form.the-variants.{Base, Point, Bad}
 use Rattle.hint_form.proofs.HintLaws.{and-left, and-right}
@@ -42,12 +42,14 @@ point-usable hint = go (front && (leading && least) && end) refl
     end = eqb (number-at hint 2 .next) (length hint)
 
     go : (t : Bool) → (front && (leading && least) && end) ≡ t → Usable (cond t (Point (number-at hint 2 .value)) Bad)
-    go true e = leb-true (number-at hint 2 .value) 10 (and-right leading least (and-right front (leading && least) (and-left (front && (leading && least)) end e)))
+    go true e =
+        let number = and-right front (leading && least) (and-left (front && (leading && least)) end e) in
+        leb-true (number-at hint 2 .value) 10 (and-right leading least number)
     go false e = tt
 
 pub form-usable : (hint : List ℕ) → Usable (read-form hint)
 unfolding read-form
-form-usable hint = go (eqb (length hint) 1 && (eqb (byte-at hint 0) (code "x") || eqb (byte-at hint 0) (code "o") || eqb (byte-at hint 0) (code "b") || eqb (byte-at hint 0) (code "d")))
+form-usable hint = go (eqb (length hint) 1 && integer-format (byte-at hint 0))
   where
     go : (t : Bool) → Usable (cond t (Base (base-of (byte-at hint 0))) (read-point hint))
     go true = base-usable (byte-at hint 0)

@@ -19,17 +19,21 @@ base-of format = cond (eqb format (code "x")) 16 (cond (eqb format (code "o")) 8
 unfoldable pub read-point : List ℕ → Form
 read-point hint =
     cond
-    (eqb (byte-at hint 0) (code "d") && eqb (byte-at hint 1) (code "-") && bounded hint 2 10 && eqb (number-at hint 2 .next) (length hint))
+    (eqb (byte-at hint 0) (code "d")
+    && eqb (byte-at hint 1) (code "-")
+    && bounded hint 2 10
+    && eqb (number-at hint 2 .next) (length hint))
     (Point (number-at hint 2 .value))
     Bad
+
+-- the formats of integers
+unfoldable pub integer-format : ℕ → Bool
+integer-format b = eqb b (code "x") || eqb b (code "o") || eqb b (code "b") || eqb b (code "d")
 
 -- a hint for integers: x, o, b, d or d-N
 unfoldable pub read-form : List ℕ → Form
 read-form hint =
-    cond
-    (eqb (length hint) 1 && (eqb (byte-at hint 0) (code "x") || eqb (byte-at hint 0) (code "o") || eqb (byte-at hint 0) (code "b") || eqb (byte-at hint 0) (code "d")))
-    (Base (base-of (byte-at hint 0)))
-    (read-point hint)
+    cond (eqb (length hint) 1 && integer-format (byte-at hint 0)) (Base (base-of (byte-at hint 0))) (read-point hint)
 
 -- a form that can be printed by: a base from 2 to 16, or at most ten places
 abbrev pub Usable : Form → Type 0

@@ -9,7 +9,7 @@ use mathlib.Core.Logic.{⊎-elim, inl, inr}
 use lib.Dec.{eqb}
 use borrow.Author.Tests.{eq-eqb, ne-eqb}
 use Rattle.hint_form.specs.declared.Form.the-variants.{Base}
-use Rattle.hint_form.specs.Form.{base-of}
+use Rattle.hint_form.specs.Form.{base-of, integer-format}
 use Rattle.buffer.specs.Buffer.{byte-at}
 use Rattle.hint_form.proofs.form_of.Statement.{statement}
 use Rattle.hint_form.proofs.form_of.Tie as tie
@@ -28,26 +28,25 @@ base-of-requires : tie.Need-base-of-requires
 base-of-requires c κs = search needs
 
 returns-2 : tie.Need-returns-2
-unfolding Rattle.hint_form.specs.Form.read-form
+unfolding Rattle.hint_form.specs.Form.read-form Rattle.hint_form.specs.Form.integer-format
 returns-2 c =
-    let h = c .before .before .before .before .before .args .hint .now in
-    let letter = c .before .before .byte-at .ensures in
-    let one : (eqb (c .before .before .byte-at .result) (code "x") || eqb (c .before .before .byte-at .result) (code "o") || eqb (c .before .before .byte-at .result) (code "b") || eqb (c .before .before .byte-at .result) (code "d")) ≡ true =
+    let letter = c .before .before .byte-at in
+    let one : integer-format (letter .result) ≡ true =
     ⊎-elim (λ e. rw e) (⊎-elim (λ e. rw e) (⊎-elim (λ e. rw e) (λ e. rw e))) (c .before .match .keys1) in
-    let known = ap (λ (b : ℕ). eqb b (code "x") || eqb b (code "o") || eqb b (code "b") || eqb b (code "d")) (sym letter) ∙ one in
-    simp (eq-eqb _ _ (c .before .before .before .if1 .left), known) (ap Base (c .base-of .ensures ∙ ap base-of letter))
+    let known = ap integer-format (sym (letter .ensures)) ∙ one in
+    simp (eq-eqb _ _ (c .before .before .before .if1 .left), known) (ap Base (c .base-of .ensures ∙ ap base-of (letter .ensures)))
 
 returns-3 : tie.Need-returns-3
-unfolding Rattle.hint_form.specs.Form.read-form Rattle.hint_form.specs.Form.read-point
+unfolding Rattle.hint_form.specs.Form.read-form Rattle.hint_form.specs.Form.read-point Rattle.hint_form.specs.Form.integer-format
 returns-3 c =
     let h = c .before .before .before .before .args .hint .now in
-    let letter = c .before .byte-at .ensures in
-    let other = c .match .rest in
-    let x : eqb (byte-at h 0) (code "x") ≡ false = ap (λ (b : ℕ). eqb b (code "x")) (sym letter) ∙ ne-eqb _ (code "x") (λ e. other .1 (inr (inr (inr e)))) in
-    let o : eqb (byte-at h 0) (code "o") ≡ false = ap (λ (b : ℕ). eqb b (code "o")) (sym letter) ∙ ne-eqb _ (code "o") (λ e. other .1 (inr (inr (inl e)))) in
-    let d : eqb (byte-at h 0) (code "d") ≡ false = ap (λ (b : ℕ). eqb b (code "d")) (sym letter) ∙ ne-eqb _ (code "d") (λ e. other .1 (inr (inl e))) in
-    let b : eqb (byte-at h 0) (code "b") ≡ false = ap (λ (b : ℕ). eqb b (code "b")) (sym letter) ∙ ne-eqb _ (code "b") (λ e. other .1 (inl e)) in
-    simp (eq-eqb _ _ (c .before .before .if1 .left), x, o, b, d)
+    let letter = sym (c .before .byte-at .ensures) in
+    let other = c .match .rest .1 in
+    let not-b : eqb (byte-at h 0) (code "b") ≡ false = rw letter (ne-eqb _ (code "b") (λ e. other (inl e))) in
+    let not-d : eqb (byte-at h 0) (code "d") ≡ false = rw letter (ne-eqb _ (code "d") (λ e. other (inr (inl e)))) in
+    let not-o : eqb (byte-at h 0) (code "o") ≡ false = rw letter (ne-eqb _ (code "o") (λ e. other (inr (inr (inl e))))) in
+    let not-x : eqb (byte-at h 0) (code "x") ≡ false = rw letter (ne-eqb _ (code "x") (λ e. other (inr (inr (inr e))))) in
+    simp (eq-eqb _ _ (c .before .before .if1 .left), not-x, not-o, not-b, not-d)
 
 pub form-of-spec : {M : Type 1} → statement M
 form-of-spec =

@@ -4,13 +4,49 @@ use borrow.Author.Needs.{needs}
 use mathlib.Core.Path.{sym, ap, _∙_, _≡_}
 use borrow.Author.Tests.{not-true, not-false}
 use native.Mathlib.Omega.{arith}
-use Prim.Native.Nat.{_+_}
+use Prim.Native.Nat.{ℕ, _+_}
 use mathlib.Core.Bool.{true, false}
+use mathlib.Core.List.{List}
 use Rattle.hint_form.proofs.HintLaws.{digit-low, number-is}
 use Rattle.buffer.specs.Buffer.{byte-at}
 use Rattle.hint_form.specs.Hint.{digit}
 use Rattle.hint_form.proofs.number_at.Statement.{statement}
 use Rattle.hint_form.proofs.number_at.Tie as tie
+
+-- the hint and the place, and where the tests of the second and third byte come from
+abbrev text : tie.After-is-digit → List ℕ
+text d = d .before .before .before .args .hint .now
+
+abbrev place : tie.After-is-digit → ℕ
+place d = d .before .before .before .args .i
+
+abbrev from-second : tie.After-is-digit2 → tie.After-is-digit
+from-second d = d .before .before .before
+
+abbrev from-third : tie.After-is-digit3 → tie.After-is-digit
+from-third d = from-second (d .before .before .before)
+
+-- what the tests of the bytes say
+first-test : (d : tie.After-is-digit) → digit (byte-at (text d) (place d)) ≡ d .is-digit .result
+first-test d = ap digit (sym (d .before .byte-at .ensures)) ∙ sym (d .is-digit .ensures)
+
+second-test : (d : tie.After-is-digit2) → digit (byte-at (text (from-second d)) (place (from-second d) + 1)) ≡ d .is-digit2 .result
+second-test d = ap digit (sym (d .before .byte-at2 .ensures)) ∙ sym (d .is-digit2 .ensures)
+
+third-byte : (d : tie.After-is-digit3) → d .before .byte-at3 .result ≡ byte-at (text (from-third d)) (place (from-third d) + 1 + 1)
+third-byte d = d .before .byte-at3 .ensures ∙ ap (byte-at (text (from-third d))) (omega arith)
+
+third-test : (d : tie.After-is-digit3)
+    → digit (byte-at (text (from-third d)) (place (from-third d) + 1 + 1)) ≡ d .is-digit3 .result
+third-test d = ap digit (sym (third-byte d)) ∙ sym (d .is-digit3 .ensures)
+
+-- past the first test the first byte is a digit, past the second the second
+first-digit : (d : tie.Else1) → digit (byte-at (text (d .before)) (place (d .before))) ≡ true
+first-digit d = first-test (d .before) ∙ not-false _ (d .if1 .left)
+
+second-digit : (d : tie.Else2)
+    → digit (byte-at (text (from-second (d .before))) (place (from-second (d .before)) + 1)) ≡ true
+second-digit d = second-test (d .before) ∙ not-false _ (d .if2 .left)
 
 byte-at-requires : tie.Need-byte-at-requires
 byte-at-requires c κs = search needs
@@ -20,10 +56,7 @@ is-digit-requires c κs = search needs
 
 returns : tie.Need-returns
 unfolding Rattle.hint_form.specs.Hint.number-at Rattle.hint_form.specs.Hint.number-after
-returns c =
-    let a = c .before .before .before .before .args in
-    let d₁ : digit (byte-at (a .hint .now) (a .i)) ≡ false = ap digit (sym (c .before .before .byte-at .ensures)) ∙ sym (c .before .is-digit .ensures) ∙ not-true _ (c .if1 .taken) in
-    simp (d₁) (number-is (omega arith) (omega arith))
+returns c = simp (first-test (c .before) ∙ not-true _ (c .if1 .taken)) (number-is (omega arith) (omega arith))
 
 sub-one : tie.Need-sub-one
 sub-one c = digit-low _ (sym (c .before .is-digit .ensures) ∙ not-false _ (c .if1 .left))
@@ -46,10 +79,8 @@ add-t12 c = search needs
 returns-2 : tie.Need-returns-2
 unfolding Rattle.hint_form.specs.Hint.number-at Rattle.hint_form.specs.Hint.number-after
 returns-2 c =
-    let a = c .before .before .before .before .before .before .before .args in
-    let d₁ : digit (byte-at (a .hint .now) (a .i)) ≡ true = ap digit (sym (c .before .before .before .before .before .byte-at .ensures)) ∙ sym (c .before .before .before .before .is-digit .ensures) ∙ not-false _ (c .before .before .before .if1 .left) in
-    let d₂ : digit (byte-at (a .hint .now) (a .i + 1)) ≡ false = ap digit (sym (c .before .before .byte-at2 .ensures)) ∙ sym (c .before .is-digit2 .ensures) ∙ not-true _ (c .if2 .taken) in
-    simp (d₁, d₂) (number-is (omega arith) (omega arith))
+    simp (first-digit (c .before .before .before), second-test (c .before) ∙ not-true _ (c .if2 .taken))
+    (number-is (omega arith) (omega arith))
 
 mul-two : tie.Need-mul-two
 mul-two c = search needs
@@ -78,12 +109,13 @@ add-t14 c = search needs
 returns-3 : tie.Need-returns-3
 unfolding Rattle.hint_form.specs.Hint.number-at Rattle.hint_form.specs.Hint.number-after
 returns-3 c =
-    let a = c .before .before .before .before .before .before .before .before .before .before .args in
-    let d₁ : digit (byte-at (a .hint .now) (a .i)) ≡ true = ap digit (sym (c .before .before .before .before .before .before .before .before .byte-at .ensures)) ∙ sym (c .before .before .before .before .before .before .before .is-digit .ensures) ∙ not-false _ (c .before .before .before .before .before .before .if1 .left) in
-    let d₂ : digit (byte-at (a .hint .now) (a .i + 1)) ≡ true = ap digit (sym (c .before .before .before .before .before .byte-at2 .ensures)) ∙ sym (c .before .before .before .before .is-digit2 .ensures) ∙ not-false _ (c .before .before .before .if2 .left) in
-    let e₃ : c .before .before .byte-at3 .result ≡ byte-at (a .hint .now) (a .i + 1 + 1) = c .before .before .byte-at3 .ensures ∙ ap (byte-at (a .hint .now)) (omega arith) in
-    let d₃ : digit (byte-at (a .hint .now) (a .i + 1 + 1)) ≡ false = ap digit (sym (e₃)) ∙ sym (c .before .is-digit3 .ensures) ∙ not-true _ (c .if3 .taken) in
-    simp (d₁, d₂, d₃) (number-is (omega arith) (omega arith))
+    let second = c .before .before .before in
+    let byte = third-byte (c .before) in
+    simp (
+      first-digit (second .before .before .before),
+      second-digit second,
+      third-test (c .before) ∙ not-true _ (c .if3 .taken),
+    ) (number-is (omega arith) (omega arith))
 
 mul-t11 : tie.Need-mul-t11
 mul-t11 c = search needs
@@ -103,12 +135,13 @@ add-t16 c = search needs
 returns-4 : tie.Need-returns-4
 unfolding Rattle.hint_form.specs.Hint.number-at Rattle.hint_form.specs.Hint.number-after
 returns-4 c =
-    let a = c .before .before .before .before .before .before .before .before .before .before .args in
-    let d₁ : digit (byte-at (a .hint .now) (a .i)) ≡ true = ap digit (sym (c .before .before .before .before .before .before .before .before .byte-at .ensures)) ∙ sym (c .before .before .before .before .before .before .before .is-digit .ensures) ∙ not-false _ (c .before .before .before .before .before .before .if1 .left) in
-    let d₂ : digit (byte-at (a .hint .now) (a .i + 1)) ≡ true = ap digit (sym (c .before .before .before .before .before .byte-at2 .ensures)) ∙ sym (c .before .before .before .before .is-digit2 .ensures) ∙ not-false _ (c .before .before .before .if2 .left) in
-    let e₃ : c .before .before .byte-at3 .result ≡ byte-at (a .hint .now) (a .i + 1 + 1) = c .before .before .byte-at3 .ensures ∙ ap (byte-at (a .hint .now)) (omega arith) in
-    let d₃ : digit (byte-at (a .hint .now) (a .i + 1 + 1)) ≡ true = ap digit (sym (e₃)) ∙ sym (c .before .is-digit3 .ensures) ∙ not-false _ (c .if3 .left) in
-    simp (d₁, d₂, d₃) (number-is (omega arith) (omega arith))
+    let second = c .before .before .before in
+    let byte = third-byte (c .before) in
+    simp (
+      first-digit (second .before .before .before),
+      second-digit second,
+      third-test (c .before) ∙ not-false _ (c .if3 .left),
+    ) (number-is (omega arith) (omega arith))
 
 pub number-at-spec : {M : Type 1} → statement M
 number-at-spec =
