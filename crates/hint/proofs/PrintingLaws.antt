@@ -71,7 +71,7 @@ module _ (value : List ℕ) where
 
 module _ (hint : List ℕ) where
   -- the pieces in turn: those from the next place on, or the last again
-  pub turn-next : (i : ℕ) → i < length hint → stuck-at (from (piece-size hint) (length hint) i) ≡ Nowhere → piece-end hint i < length hint
+  pub turn-next : (i : ℕ) → i < length hint → Readable hint i → piece-end hint i < length hint
       → turn (piece-at hint i) (pieces-from hint (piece-end hint i)) ≡ pieces-from hint (piece-end hint i)
   unfolding turn
   turn-next i h s l =
@@ -79,7 +79,7 @@ module _ (hint : List ℕ) where
       let more = pieces-step hint (piece-end hint i) l (stuck-step hint i h t ∙ s) in
       ap (turn (piece-at hint i)) more ∙ sym more
 
-  pub turn-last : (i : ℕ) → i < length hint → stuck-at (from (piece-size hint) (length hint) i) ≡ Nowhere → length hint ≤ piece-end hint i
+  pub turn-last : (i : ℕ) → i < length hint → Readable hint i → length hint ≤ piece-end hint i
       → turn (piece-at hint i) (pieces-from hint (piece-end hint i)) ≡ pieces-from hint i
   unfolding turn
   turn-last i h s l =
@@ -87,7 +87,7 @@ module _ (hint : List ℕ) where
       ap (turn (piece-at hint i)) last ∙ sym (pieces-step hint i h s ∙ ap (λ (ps : List Piece). piece-at hint i ∷ ps) last)
 
   -- either way the pieces in turn are those from some place on
-  pub turn-either : (i : ℕ) → i < length hint → stuck-at (from (piece-size hint) (length hint) i) ≡ Nowhere
+  pub turn-either : (i : ℕ) → i < length hint → Readable hint i
       → (next : ℕ) × (turn (piece-at hint i) (pieces-from hint (piece-end hint i)) ≡ pieces-from hint next)
   turn-either i h s = go (leb (length hint) (piece-end hint i)) refl
     where
@@ -96,7 +96,7 @@ module _ (hint : List ℕ) where
       go false e = (piece-end hint i, turn-next i h s (leb-false (length hint) (piece-end hint i) e))
 
 -- one turn: the uses of the piece at a place, and then printing by the pieces in turn
-pub print-turn : (hint value : List ℕ) (cursor at next : ℕ) → cursor < length hint → stuck-at (from (piece-size hint) (length hint) cursor) ≡ Nowhere
+pub print-turn : (hint value : List ℕ) (cursor at next : ℕ) → cursor < length hint → Readable hint cursor
     → at < length value → turn (piece-at hint cursor) (pieces-from hint (piece-end hint cursor)) ≡ pieces-from hint next
     → print-from value (pieces-from hint cursor) at
     ≡ joined (uses (repeats (piece-at hint cursor) value at) (piece-at hint cursor) value (uses-start (piece-at hint cursor) at))

@@ -34,7 +34,9 @@ mark-size b = cond (eqb b 0) 0 1
 unfoldable pub number-after : ℕ → ℕ → List ℕ → ℕ → Number
 number-after zero n hint i = record { value = n; next = i }
 number-after (suc more) n hint i =
-    cond (digit (byte-at hint i)) (number-after more (n * 10 + (byte-at hint i - code "0")) hint (i + 1)) (record { value = n; next = i })
+    cond (digit (byte-at hint i))
+    (number-after more (n * 10 + (byte-at hint i - code "0")) hint (i + 1))
+    (record { value = n; next = i })
 
 -- the number at a place. No number of a hint is over 255, so three digits are read; a fourth can't be the format that follows
 unfoldable pub number-at : List ℕ → ℕ → Number
@@ -48,10 +50,16 @@ allowed first value most = not (eqb first (code "0")) && ltb 0 value && leb valu
 unfoldable pub bounded : List ℕ → ℕ → ℕ → Bool
 bounded hint i most = allowed (byte-at hint i) (number-at hint i .value) most
 
+-- the formats that print octets as a number, and those that pass characters on
+unfoldable pub numeric : ℕ → Bool
+numeric format = eqb format (code "x") || eqb format (code "d") || eqb format (code "o")
+
+unfoldable pub passes : ℕ → Bool
+passes format = eqb format (code "a") || eqb format (code "t")
+
 -- the greatest length that a format allows: 8 for x d o, 255 for a t; no other byte is a format
 unfoldable pub longest : ℕ → ℕ
-longest format =
-    cond (eqb format (code "x") || eqb format (code "d") || eqb format (code "o")) 8 (cond (eqb format (code "a") || eqb format (code "t")) 255 0)
+longest format = cond (numeric format) 8 (cond (passes format) 255 0)
 
 -- the repeat indicator `*` at a place
 unfoldable pub starred : List ℕ → ℕ → Bool

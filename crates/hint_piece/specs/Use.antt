@@ -24,10 +24,6 @@ joined (printed a) (printed b) = printed (a ++ b)
 joined (printed a) (fault place) = fault place
 joined (fault place) o = fault place
 
--- the formats that pass characters on
-unfoldable pub passes : ℕ → Bool
-passes format = eqb format (code "a") || eqb format (code "t")
-
 -- octets that were cut into characters are printed as they are; the place of a fault counts from the value's start
 unfoldable pub passed : ℕ → List ℕ → Cut → Outcome
 passed at octets (whole places) = printed octets

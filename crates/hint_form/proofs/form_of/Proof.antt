@@ -1,10 +1,9 @@
 -- `form_of` is right: the length and the letter pick the case.
 -- Assumes nothing.
 use borrow.Author.Needs.{needs}
-use Prim.Native.Nat.{ℕ}
 use Prim.Native.Char.{code}
 use mathlib.Core.Path.{_≡_, sym, ap, _∙_}
-use mathlib.Core.Bool.{true, false, _||_}
+use mathlib.Core.Bool.{true, false}
 use mathlib.Core.Logic.{⊎-elim, inl, inr}
 use lib.Dec.{eqb}
 use borrow.Author.Tests.{eq-eqb, ne-eqb}
@@ -37,7 +36,7 @@ returns-2 c =
     simp (eq-eqb _ _ (c .before .before .before .if1 .left), known) (ap Base (c .base-of .ensures ∙ ap base-of (letter .ensures)))
 
 returns-3 : tie.Need-returns-3
-unfolding Rattle.hint_form.specs.Form.read-form Rattle.hint_form.specs.Form.read-point Rattle.hint_form.specs.Form.integer-format
+unfolding Rattle.hint_form.specs.Form.read-form Rattle.hint_form.specs.Form.read-point integer-format
 returns-3 c =
     let h = c .before .before .before .before .args .hint .now in
     let letter = sym (c .before .byte-at .ensures) in

@@ -1,20 +1,23 @@
 -- `is_hint` is right: at i the cut from i on is stuck where the whole cut is. The measure is what is left of the hint.
 -- Assumes nothing.
-use Prim.Native.Nat.{ℕ, _+_, _-_, _<_}
+use Prim.Native.Nat.{ℕ, _-_}
 use mathlib.Core.Path.{_≡_, sym, ap, _∙_}
 use native.Mathlib.Omega.{arith}
 use borrow.Author.Needs.{needs}
+use mathlib.Core.Bool.{true}
+use mathlib.Core.List.{List}
 use lib.ListN.{length}
 use borrow.Author.Tests.{lt-leb, le-leb}
-use Rattle.hint_form.proofs.HintLaws.{found-whole, found-nothing, piece-size-some, piece-size-none, piece-end-after, pieces-whole, nowhere}
-use Rattle.character.proofs.CutLaws.{from, from-start, from-end, from-stuck, from-item, stuck-before}
+use Rattle.hint_form.proofs.HintLaws.{found-whole, found-nothing, piece-size-none, piece-end-after, pieces-whole, nowhere}
+use Rattle.character.proofs.CutLaws.{from-start, from-end, from-stuck}
+use Rattle.hint_form.proofs.PieceLaws.{cut-from, stuck-step}
 use Rattle.character.specs.Cut.{stuck-at, cut}
-use Rattle.hint_form.specs.Hint.{piece-size}
+use Rattle.hint_form.specs.Hint.{is-piece, piece-end, piece-size}
 use Rattle.hint_form.proofs.is_hint.Statement.{statement}
 use Rattle.hint_form.proofs.is_hint.Tie as tie
 
 abbrev Inv-loop : tie.InvT-loop
-Inv-loop hint i₀ i = stuck-at (from (piece-size hint) (length hint) i) ≡ stuck-at (cut (piece-size hint) (length hint))
+Inv-loop hint i₀ i = stuck-at (cut-from hint i) ≡ stuck-at (cut (piece-size hint) (length hint))
 
 abbrev μ-loop : tie.MeasureT-loop
 μ-loop hint i₀ i = length hint - i
@@ -48,42 +51,50 @@ enum-told c = search needs
 returns-3 : tie.Need-returns-3 Inv-loop μ-loop
 unfolding Rattle.character.specs.Cut.stuck-at
 returns-3 c =
-    let h = c .before .before .before .before .before .before .before .before .args .hint .now in
-    let i = c .before .before .before .before .loop .i in
-    let none = piece-size-none h i (found-nothing h i (sym (c .enum-told .given .1) ∙ c .before .before .piece-at .ensures)) in
-    let at = from-stuck (piece-size h) (length h) i (c .before .before .before .loop-test .taken) none in
-    sym (pieces-whole h (omega (arith, c .before .before .before .before .before .before .if1 .left)) (c .before .before .before .before .before .if2 .left) ∙ ap nowhere (sym (c .before .before .before .before .loop .inv) ∙ ap stuck-at at))
+    let first = c .before .before .before .before .before .before in
+    let here = c .before .before .before .before .loop in
+    let h = first .before .before .args .hint .now in
+    let nothing = found-nothing h (here .i) (sym (c .enum-told .given .1) ∙ c .before .before .piece-at .ensures) in
+    let none = piece-size-none h (here .i) nothing in
+    let at = from-stuck (piece-size h) (length h) (here .i) (c .before .before .before .loop-test .taken) none in
+    let whole = pieces-whole h (omega (arith, first .if1 .left)) (c .before .before .before .before .before .if2 .left) in
+    sym (whole ∙ ap nowhere (sym (here .inv) ∙ ap stuck-at at))
+
+-- the hint and the place of a turn of the loop, and the piece that it found there
+abbrev text : tie.After-next Inv-loop μ-loop → List ℕ
+text d = d .before .before .before .before .before .before .before .before .args .hint .now
+
+abbrev place : tie.After-next Inv-loop μ-loop → ℕ
+place d = d .before .before .before .before .loop .i
+
+there : (d : tie.After-next Inv-loop μ-loop)
+    → (is-piece (text d) (place d) ≡ true) × (d .next .given .0 .1 .0 ≡ piece-end (text d) (place d))
+there d =
+    let is = found-whole _ _ _ _ (sym (d .next .given .1) ∙ d .before .before .piece-at .ensures) in
+    (is .0, is .2)
 
 loop-less : tie.Need-loop-less Inv-loop μ-loop
 loop-less c =
-    let h = c .before .before .before .before .before .before .before .before .before .args .hint .now in
-    let i = c .before .before .before .before .before .loop .i in
-    let p = c .before .next .given .0 .0 in
-    let n = c .before .next .given .0 .1 .0 in
-    let is = found-whole h i p n (sym (c .before .next .given .1) ∙ c .before .before .before .piece-at .ensures) in
-    omega (arith, is .2, piece-end-after h i, c .before .before .before .before .loop-test .taken)
+    let d = c .before in
+    omega (arith, there d .1, piece-end-after (text d) (place d), d .before .before .before .loop-test .taken)
 
 loop-again : tie.Need-loop-again Inv-loop μ-loop
 loop-again c =
-    let h = c .before .before .before .before .before .before .before .before .before .args .hint .now in
-    let i = c .before .before .before .before .before .loop .i in
-    let p = c .before .next .given .0 .0 in
-    let n = c .before .next .given .0 .1 .0 in
-    let is = found-whole h i p n (sym (c .before .next .given .1) ∙ c .before .before .before .piece-at .ensures) in
-    let size : ℕ → ℕ = piece-size h in
-    let end = piece-size-some h i (is .0) in
-    let some : 0 < size i = omega (arith, piece-end-after h i) in
-    ap (λ (k : ℕ). stuck-at (from size (length h) k)) (is .2 ∙ sym end)
-    ∙ sym (stuck-before i (from size (length h) (i + size i)))
-    ∙ sym (ap stuck-at (from-item size (length h) i (c .before .before .before .before .loop-test .taken) some))
-    ∙ c .before .before .before .before .before .loop .inv
+    let d = c .before in
+    let is = there d in
+    let at = d .before .before .before in
+    ap (λ (k : ℕ). stuck-at (cut-from (text d) k)) (is .1)
+    ∙ stuck-step (text d) (place d) (at .loop-test .taken) (is .0)
+    ∙ at .before .loop .inv
 
 returns-4 : tie.Need-returns-4 Inv-loop μ-loop
 unfolding Rattle.character.specs.Cut.stuck-at
 returns-4 c =
-    let h = c .before .before .before .before .before .args .hint .now in
+    let first = c .before .before .before in
+    let h = first .before .before .args .hint .now in
     let at = from-end (piece-size h) (length h) (c .before .loop .i) (c .loop-test .left) in
-    sym (pieces-whole h (omega (arith, c .before .before .before .if1 .left)) (c .before .before .if2 .left) ∙ ap nowhere (sym (c .before .loop .inv) ∙ ap stuck-at at))
+    let whole = pieces-whole h (omega (arith, first .if1 .left)) (c .before .before .if2 .left) in
+    sym (whole ∙ ap nowhere (sym (c .before .loop .inv) ∙ ap stuck-at at))
 
 pub is-hint-spec : {M : Type 1} → statement M
 is-hint-spec =

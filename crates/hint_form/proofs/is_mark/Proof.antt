@@ -19,11 +19,17 @@ is-digit-requires c κs = search needs
 
 returns-3 : tie.Need-returns-3
 unfolding Rattle.hint_form.specs.Hint.mark
-returns-3 c = simp (le-leb _ _ (c .before .before .before .if1 .left), le-leb _ _ (c .before .before .if2 .left), sym (c .before .is-digit .ensures) ∙ c .if3 .taken)
+returns-3 c =
+    let low = le-leb _ _ (c .before .before .before .if1 .left) in
+    let high = le-leb _ _ (c .before .before .if2 .left) in
+    simp (low, high, sym (c .before .is-digit .ensures) ∙ c .if3 .taken)
 
 returns-4 : tie.Need-returns-4
 unfolding Rattle.hint_form.specs.Hint.mark
-returns-4 c = simp (le-leb _ _ (c .before .before .before .if1 .left), le-leb _ _ (c .before .before .if2 .left), sym (c .before .is-digit .ensures) ∙ c .if3 .left)
+returns-4 c =
+    let low = le-leb _ _ (c .before .before .before .if1 .left) in
+    let high = le-leb _ _ (c .before .before .if2 .left) in
+    simp (low, high, sym (c .before .is-digit .ensures) ∙ c .if3 .left)
 
 pub is-mark-spec : {M : Type 1} → statement M
 is-mark-spec = tie.close (tie.spec returns returns-2 is-digit-requires returns-3 returns-4)

@@ -7,15 +7,15 @@ use Rattle.hint_form.proofs.longest_of.Statement.{statement}
 use Rattle.hint_form.proofs.longest_of.Tie as tie
 
 returns : tie.Need-returns
-unfolding Rattle.hint_form.specs.Hint.longest
+unfolding Rattle.hint_form.specs.Hint.longest Rattle.hint_form.specs.Hint.numeric Rattle.hint_form.specs.Hint.passes
 returns c = ⊎-elim (λ e. rw e) (⊎-elim (λ e. rw e) (λ e. rw e)) (c .match .keys1)
 
 returns-2 : tie.Need-returns-2
-unfolding Rattle.hint_form.specs.Hint.longest
+unfolding Rattle.hint_form.specs.Hint.longest Rattle.hint_form.specs.Hint.numeric Rattle.hint_form.specs.Hint.passes
 returns-2 c = ⊎-elim (λ e. rw e) (λ e. rw e) (c .match .keys2)
 
 returns-3 : tie.Need-returns-3
-unfolding Rattle.hint_form.specs.Hint.longest
+unfolding Rattle.hint_form.specs.Hint.longest Rattle.hint_form.specs.Hint.numeric Rattle.hint_form.specs.Hint.passes
 returns-3 c =
     let other = c .match .rest in
     simp (

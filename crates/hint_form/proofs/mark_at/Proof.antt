@@ -14,7 +14,9 @@ is-mark-requires c κs = search needs
 
 returns : tie.Need-returns
 unfolding Rattle.hint_form.specs.Hint.mark-at
-returns c = simp (ap mark (sym (c .before .before .byte-at .ensures)) ∙ sym (c .before .is-mark .ensures) ∙ c .if1 .taken) (c .before .before .byte-at .ensures)
+returns c =
+    let byte = c .before .before .byte-at .ensures in
+    simp (ap mark (sym byte) ∙ sym (c .before .is-mark .ensures) ∙ c .if1 .taken) byte
 
 returns-2 : tie.Need-returns-2
 unfolding Rattle.hint_form.specs.Hint.mark-at

@@ -5,7 +5,7 @@ use mathlib.Core.Path.{sym, ap, _∙_, _≡_}
 use borrow.Author.Tests.{not-true, not-false}
 use native.Mathlib.Omega.{arith}
 use Prim.Native.Nat.{ℕ, _+_}
-use mathlib.Core.Bool.{true, false}
+use mathlib.Core.Bool.{true}
 use mathlib.Core.List.{List}
 use Rattle.hint_form.proofs.HintLaws.{digit-low, number-is}
 use Rattle.buffer.specs.Buffer.{byte-at}

@@ -42,7 +42,8 @@ ended d = separated (d .before)
 number-known : (d : tie.After-number-at) → d .number-at .result ≡ number-at (text d) (length-place (text d) (place d))
 number-known d = d .number-at .ensures ∙ ap (number-at (text d)) (d .before .length-place .ensures)
 
-format-known : (d : tie.After-byte-at) → d .byte-at .result ≡ byte-at (text (d .before)) (format-place (text (d .before)) (place (d .before)))
+format-known : (d : tie.After-byte-at)
+    → d .byte-at .result ≡ byte-at (text (d .before)) (format-place (text (d .before)) (place (d .before)))
 unfolding format-place
 format-known d = d .byte-at .ensures ∙ ap (λ (v : Number). byte-at (text (d .before)) (v .next)) (number-known (d .before))
 
@@ -151,7 +152,7 @@ add-next-3 c =
     omega (arith, place-near d, start d .pre, start d .good, c .before .mark-size .ensures, c .mark-size2 .ensures)
 
 returns-2 : tie.Need-returns-2
-unfolding Rattle.hint_form.specs.Hint.found Rattle.hint_form.specs.Hint.piece-at Rattle.hint_form.specs.Hint.piece-end format-place
+unfolding Rattle.hint_form.specs.Hint.found Rattle.hint_form.specs.Hint.piece-at piece-end format-place
 returns-2 c =
     let end = c .before .before in
     let h = text (ended end) in

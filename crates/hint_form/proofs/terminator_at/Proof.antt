@@ -15,7 +15,9 @@ mark-at-requires : tie.Need-mark-at-requires
 mark-at-requires c κs = search needs
 
 returns-3 : tie.Need-returns-3
-returns-3 c = simp (not-false (c .before .before .before .before .args .star) (c .before .before .if1 .left), ne-eqb _ _ (c .before .if2 .left)) (c .mark-at .ensures)
+returns-3 c =
+    let first = c .before .before in
+    simp (not-false (first .before .before .args .star) (first .if1 .left), ne-eqb _ _ (c .before .if2 .left)) (c .mark-at .ensures)
 
 pub terminator-at-spec : {M : Type 1} → statement M
 terminator-at-spec = tie.close (tie.spec returns returns-2 mark-at-requires returns-3)

@@ -35,7 +35,7 @@ Inv-loop hint value out₀ cursor₀ at₀ pos₀ out cursor at pos =
     × (pos + 4 * (length value - at) ≤ length out)
     × (length out ≡ length out₀)
     × (cursor < length hint)
-    × (stuck-at (from (piece-size hint) (length hint) cursor) ≡ Nowhere)
+    × (Readable hint cursor)
 
 abbrev μ-loop : tie.MeasureT-loop
 μ-loop hint value out₀ cursor₀ at₀ pos₀ out cursor at pos = length value - at
@@ -230,7 +230,7 @@ loop-again c =
     again (c .before) (c .before .before .before .before .before .before .before .before .before .before .before .before .piece .given .0 .1 .0)
     (turn-next (hint k) (cursor k) (inv .3) (inv .4) below ∙ ap (pieces-from (hint k)) (sym next))
     (c .if1 .taken)
-    (ap (λ (n : ℕ). stuck-at (from (piece-size (hint k)) (length (hint k)) n)) next ∙ stuck-step (hint k) (cursor k) (inv .3) (there k .0) ∙ inv .4)
+    (ap (λ (n : ℕ). stuck-at (cut-from (hint k) n)) next ∙ stuck-step (hint k) (cursor k) (inv .3) (there k .0) ∙ inv .4)
 
 loop-less-2 : tie.Need-loop-less-2 Inv-loop μ-loop
 loop-less-2 c = less (c .before .before .before .before .before .before .before .before .before)
