@@ -6,7 +6,9 @@ use Prim.Native.Char.{code}
 use mathlib.Core.Bool.{Bool, cond, _&&_, _||_}
 use mathlib.Core.List.{List}
 use lib.Dec.{leb, ltb, eqb}
+use lib.ListN.{length}
 use Rattle.buffer.specs.Buffer.{byte-at}
+use Rattle.character.specs.Cut.{Cut, cut}
 
 -- an octet from low to high
 unfoldable pub between : ℕ → ℕ → ℕ → Bool
@@ -49,3 +51,7 @@ sequence-size octets i = cond (tails octets i) (lead-size (byte-at octets i)) 0
 unfoldable pub character-size : ℕ → List ℕ → ℕ → ℕ
 character-size format octets i =
     cond (eqb format (code "a")) (cond (ltb (byte-at octets i) 0x80) 1 0) (sequence-size octets i)
+
+-- octets cut into characters of a format
+abbrev pub characters : ℕ → List ℕ → Cut
+characters format octets = cut (character-size format octets) (length octets)

@@ -2,8 +2,8 @@
 ghost use mathlib.Core.Path.{_≡_};
 ghost use Prim.Native.Nat.{_+_, _<_};
 ghost use lib.ListN.{length};
-ghost use Rattle.character.specs.Cut.{cut, stuck-at};
-ghost use Rattle.character.specs.Character.{between, lead-size, second-low, second-high, sequence-size, character-size};
+ghost use Rattle.character.specs.Cut.{stuck-at};
+ghost use Rattle.character.specs.Character.{between, lead-size, second-low, second-high, sequence-size, character-size, characters};
 use buffer::byte_at;
 
 // Where something is found first.
@@ -105,7 +105,7 @@ fn character_size(format: u8, s: &[u8], i: usize) -> usize
 
 // Where the first character that isn't of the format starts.
 pub fn first_fault(format: u8, s: &[u8]) -> Search
-    ensures { λ r. ⌜ r ≡ stuck-at (cut (character-size format (now (s .entry))) (length (now (s .entry)))) ⌝ }
+    ensures { λ r. ⌜ r ≡ stuck-at (characters format (now (s .entry))) ⌝ }
 {
     let mut i = 0;
     while i < s.len() {

@@ -9,9 +9,9 @@ use lib.IntN.{negsuc}
 use Rattle.hint_form.specs.Form.{base-of, integer-format, read-point, read-form}
 use Rattle.digit.specs.Digits.{glyph, digits-within, digits, pointed, big-endian}
 use Rattle.character.specs.Cut.{before, cut-within, cut}
-use Rattle.hint_form.specs.Hint.{digit, mark, mark-at, mark-size, number-after, number-at, allowed, bounded, longest, starred, length-place, format-place, separator-of, terminator-of, is-piece, piece-at, piece-end, piece-size, pieces-of, read-hint}
+use Rattle.hint_form.specs.Hint.{digit, mark, mark-at, mark-size, number-after, number-at, allowed, bounded, longest, numeric, passes, starred, length-place, format-place, separator-of, terminator-of, is-piece, piece-at, piece-end, piece-size, pieces-of, read-hint}
 use Rattle.character.specs.Character.{between, tail, lead-size, second-low, second-high, tails, sequence-size, character-size}
-use Rattle.hint_piece.specs.Use.{joined, passes, passed, use-text, optional, following, one-use, uses, repeats, uses-start, uses-end}
+use Rattle.hint_piece.specs.Use.{joined, passed, use-text, optional, following, one-use, uses, repeats, uses-start, uses-end}
 use Rattle.hint.specs.Print.{turn, printing-within, printing}
 use Rattle.hint.specs.Answer.{text, refusal, of-outcome, by-pieces, octets-verdict, by-form, integer-verdict}
 use Rattle.hint_integer.specs.Signed.{magnitude, signed, in-range}

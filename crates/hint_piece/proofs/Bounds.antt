@@ -12,17 +12,17 @@ use lib.ListN.{length, take, drop, length-take, length-drop}
 use borrow.Author.Tests.{leb-true, leb-false, eqb-true}
 use Rattle.digit.specs.Digits.{digits, big-endian}
 use Rattle.hint_form.specs.Form.{base-of}
-use Rattle.character.specs.Cut.{Cut, whole, stuck, cut}
-use Rattle.character.specs.Character.{character-size}
-use Rattle.hint_form.specs.Hint.{longest}
-use Rattle.hint_piece.specs.Use.{printed, passes, passed, use-text, optional, following, one-use, uses}
+use Rattle.character.specs.Cut.{Cut, whole, stuck}
+use Rattle.character.specs.Character.{characters}
+use Rattle.hint_form.specs.Hint.{longest, numeric, passes}
+use Rattle.hint_piece.specs.Use.{printed, passed, use-text, optional, following, one-use, uses}
 use Rattle.hint_form.specs.declared.Piece.{Piece}
 use Rattle.hint_piece.proofs.Outcomes.{size-of, joined-size}
 use Rattle.digit.proofs.Sizes.{Octets, octets-drop, octets-take, number-short}
 
 -- a format that allows a length and doesn't pass characters on is x, d or o: its base is 8 at least, and its length 8 at most
 pub letters : (format : ℕ) → passes format ≡ false → 0 < longest format → (8 ≤ base-of format) × (base-of format ≤ 16) × (longest format ≤ 8)
-unfolding passes longest base-of
+unfolding passes longest numeric base-of
 letters format p l = go (eqb format (code "x")) (eqb format (code "o")) (eqb format (code "b")) (eqb format (code "d")) refl refl refl refl
   where
     go : (x o b d : Bool) → eqb format (code "x") ≡ x → eqb format (code "o") ≡ o → eqb format (code "b") ≡ b → eqb format (code "d") ≡ d
@@ -43,8 +43,8 @@ pub use-size : (format at : ℕ) (s : List ℕ) → 0 < length s → length s �
 unfolding use-text
 use-size format at s some allowed h = go (passes format) refl
   where
-    go : (t : Bool) → passes format ≡ t → size-of (cond t (passed at s (cut (character-size format s) (length s))) (printed (digits (base-of format) (big-endian 0 s)))) ≤ 3 * length s
-    go true e = omega (arith, passed-size at s (cut (character-size format s) (length s)))
+    go : (t : Bool) → passes format ≡ t → size-of (cond t (passed at s (characters format s)) (printed (digits (base-of format) (big-endian 0 s)))) ≤ 3 * length s
+    go true e = omega (arith, passed-size at s (characters format s))
     go false e = number-short (base-of format) s (letters format e (omega arith) .0) some h
 
 pub optional-size : (b : ℕ) → length (optional b) ≤ 1

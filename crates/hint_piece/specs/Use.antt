@@ -1,16 +1,16 @@
 -- Printing octets by one piece (document 01, "Printing by hint"): its uses, the octets of a use.
 -- Assumes nothing.
 use Prim.Native.Nat.{ℕ, zero, suc, _+_, _*_}
-use Prim.Native.Char.{code}
-use mathlib.Core.Bool.{Bool, true, false, cond, not, _&&_, _||_}
+use mathlib.Core.Bool.{true, false, cond, not, _&&_}
 use mathlib.Core.List.{List, [], _∷_, _++_}
 use lib.Dec.{leb, eqb}
 use lib.ListN.{length, take, drop}
 use Rattle.buffer.specs.Buffer.{byte-at}
 use Rattle.hint_form.specs.Form.{base-of}
 use Rattle.digit.specs.Digits.{digits, big-endian}
-use Rattle.character.specs.Cut.{Cut, whole, stuck, cut}
-use Rattle.character.specs.Character.{character-size}
+use Rattle.character.specs.Cut.{Cut, whole, stuck}
+use Rattle.character.specs.Character.{characters}
+use Rattle.hint_form.specs.Hint.{passes}
 use Rattle.hint_form.specs.declared.Piece.{Piece}
 
 -- what printing comes to: the bytes, or the place of the first octet that isn't of its format
@@ -32,7 +32,7 @@ passed at octets (stuck i) = fault (at + i)
 -- the octets of one use, which start at a place of the value: a and t pass them on, x d o print a big-endian number
 unfoldable pub use-text : ℕ → ℕ → List ℕ → Outcome
 use-text format at octets =
-    cond (passes format) (passed at octets (cut (character-size format octets) (length octets)))
+    cond (passes format) (passed at octets (characters format octets))
     (printed (digits (base-of format) (big-endian 0 octets)))
 
 -- one byte, or none where it is 0

@@ -2,8 +2,8 @@
 ghost use mathlib.Core.Path.{_≡_};
 ghost use Prim.Native.Nat.{_+_, _-_, _*_, _≤_, _<_};
 ghost use lib.ListN.{length, take, drop};
-ghost use Rattle.hint_form.specs.Hint.{longest};
-ghost use Rattle.hint_piece.specs.Use.{passes, use-text, optional, following, one-use, uses, repeats, uses-start};
+ghost use Rattle.hint_form.specs.Hint.{longest, passes};
+ghost use Rattle.hint_piece.specs.Use.{use-text, optional, following, one-use, uses, repeats, uses-start};
 ghost use Rattle.buffer.specs.Buffer.{Wrote};
 ghost use Rattle.hint_piece.specs.Followed.{Followed};
 use buffer::copy;
@@ -30,8 +30,10 @@ fn passes_on(format: u8) -> bool
 
 // Writes the text of one use, whose octets start at a place of the value, or answers the octet at fault.
 fn print_use(s: &[u8], at: usize, format: u8, out: &mut [u8], pos: usize) -> Progress
-    requires { ⌜ (0 < length (now s)) × (length (now s) ≤ longest format) × (at ≤ 1024) ⌝ }
-    requires { ⌜ pos + 4 * length (now s) ≤ length (now out) ⌝ }
+    requires some { ⌜ 0 < length (now s) ⌝ }
+    requires allowed { ⌜ length (now s) ≤ longest format ⌝ }
+    requires early { ⌜ at ≤ 1024 ⌝ }
+    requires room { ⌜ pos + 4 * length (now s) ≤ length (now out) ⌝ }
     ensures { λ r. ⌜ Followed (use-text format at (now (s .entry))) pos r (now (out .entry)) (now (out .exit)) ⌝ }
 {
     if !passes_on(format) {
@@ -93,9 +95,11 @@ fn print_one(
     out: &mut [u8],
     pos: usize,
 ) -> Progress
-    requires { ⌜ (at < length (now value)) × (length (now value) ≤ 1024) ⌝ }
-    requires { ⌜ (0 < piece .size) × (piece .size ≤ longest (piece .format)) ⌝ }
-    requires { ⌜ pos + 4 * (length (now value) - at) ≤ length (now out) ⌝ }
+    requires octet { ⌜ at < length (now value) ⌝ }
+    requires short { ⌜ length (now value) ≤ 1024 ⌝ }
+    requires some { ⌜ 0 < piece .size ⌝ }
+    requires allowed { ⌜ piece .size ≤ longest (piece .format) ⌝ }
+    requires room { ⌜ pos + 4 * (length (now value) - at) ≤ length (now out) ⌝ }
     ensures { λ r. ⌜ Followed (one-use piece left (now (value .entry)) at) pos r (now (out .entry)) (now (out .exit)) ⌝ }
 {
     let size = piece.size;
@@ -118,9 +122,11 @@ pub fn print_uses(
     out: &mut [u8],
     pos: usize,
 ) -> Progress
-    requires { ⌜ (length (now value) ≤ 1024) × (start ≤ 1024) ⌝ }
-    requires { ⌜ (0 < piece .size) × (piece .size ≤ longest (piece .format)) ⌝ }
-    requires { ⌜ pos + 4 * (length (now value) - start) ≤ length (now out) ⌝ }
+    requires short { ⌜ length (now value) ≤ 1024 ⌝ }
+    requires early { ⌜ start ≤ 1024 ⌝ }
+    requires some { ⌜ 0 < piece .size ⌝ }
+    requires allowed { ⌜ piece .size ≤ longest (piece .format) ⌝ }
+    requires room { ⌜ pos + 4 * (length (now value) - start) ≤ length (now out) ⌝ }
     ensures { λ r. ⌜ Followed (uses count piece (now (value .entry)) start) pos r (now (out .entry)) (now (out .exit)) ⌝ }
 {
     let size = piece.size;

@@ -5,11 +5,11 @@ use Rattle.hint_piece.proofs.passes_on.Statement.{statement}
 use Rattle.hint_piece.proofs.passes_on.Tie as tie
 
 returns : tie.Need-returns
-unfolding Rattle.hint_piece.specs.Use.passes
+unfolding Rattle.hint_form.specs.Hint.passes
 returns c = simp (eq-eqb _ _ (c .if1 .taken))
 
 returns-2 : tie.Need-returns-2
-unfolding Rattle.hint_piece.specs.Use.passes
+unfolding Rattle.hint_form.specs.Hint.passes
 returns-2 c = simp (ne-eqb _ _ (c .if1 .left))
 
 pub passes-on-spec : {M : Type 1} → statement M

@@ -1,22 +1,55 @@
 -- `print_one` is right: the text of the use is followed by the byte that the definition names, and the bound on a use leaves room for it.
 -- Assumes nothing.
 use borrow.Author.Needs.{needs}
-use Prim.Native.Nat.{ℕ, _+_, _-_, min}
-use mathlib.Core.Path.{_≡_, ap, subst, _∙_}
+use Prim.Native.Nat.{ℕ, _+_, _-_, _*_, _≤_, min}
+use mathlib.Core.Path.{_≡_, ap, _∙_}
 use mathlib.Core.List.{List}
 use native.Mathlib.Omega.{arith}
 use lib.ListN.{length, take, drop, length-take, length-drop}
 use Rattle.hint_piece.proofs.Bounds.{use-size, optional-size}
-use Rattle.digit.proofs.Sizes.{octets-take, octets-drop}
+use Rattle.digit.proofs.Sizes.{Octets, octets-take, octets-drop}
 use Rattle.hint_form.proofs.HintLaws.{longest-small}
-use Rattle.hint_piece.proofs.Outcomes.{followed-next, followed-joined, followed-fault}
+use Rattle.hint_piece.proofs.Outcomes.{size-of, followed-as, followed-next, followed-joined, followed-fault}
 use Rattle.hint_piece.specs.declared.Progress.the-variants.{To, Fault}
 use Rattle.hint_piece.specs.declared.Progress.{Progress}
-use Rattle.buffer.specs.Buffer.{Wrote}
+use Rattle.buffer.proofs.Writing.{wrote-as}
 use Rattle.hint_piece.specs.Followed.{Followed, wrote}
-use Rattle.hint_piece.specs.Use.{use-text, optional, following, printed}
+use Rattle.hint_piece.specs.Use.{Outcome, use-text, optional, following, printed}
 use Rattle.hint_piece.proofs.print_one.Statement.{statement}
 use Rattle.hint_piece.proofs.print_one.Tie as tie
+
+-- where the function started, and the octets of the use
+abbrev start : tie.After-print-use → tie.Start
+start d = d .before .before .before .before .before
+
+abbrev octets : tie.After-print-use → List ℕ
+octets d = let a = start d .args in take (a .piece .size) (drop (a .at) (a .value .now))
+
+octets-long : (d : tie.After-print-use)
+    → let a = start d .args in
+    length (octets d) ≡ min (a .piece .size) (length (a .value .now) - a .at)
+octets-long d =
+    let a = start d .args in
+    length-take (a .piece .size) (drop (a .at) (a .value .now)) ∙ ap (min (a .piece .size)) (length-drop (a .at) (a .value .now))
+
+-- the use's text, its bound, and that it was followed with what was answered
+abbrev text : tie.After-print-use → Outcome
+text d = let a = start d .args in use-text (a .piece .format) (a .at) (octets d)
+
+text-short : (d : tie.After-print-use) → size-of (text d) ≤ 3 * length (octets d)
+text-short d =
+    let a = start d .args in
+    let q = start d .pre in
+    let long = octets-long d in
+    let all : Octets (a .value .now) = λ (k : ℕ). omega (arith, d .before .before .before .before .shared-slice-known .given k) in
+    use-size (a .piece .format) (a .at) (octets d) (omega (arith, q)) (omega (arith, q))
+    (octets-take (a .piece .size) (drop (a .at) (a .value .now)) (octets-drop (a .at) (a .value .now) all))
+
+followed : (d : tie.After-print-use) (r : Progress) → d .print-use .result ≡ r
+    → Followed (text d) (start d .args .pos) r (start d .args .out .now) (d .print-use .last .1 .1 .1 .0)
+followed d r e =
+    let a = start d .args in
+    followed-as (ap (use-text (a .piece .format) (a .at)) (d .before .before .use-octets .ensures)) e (d .print-use .ensures)
 
 use-octets-requires : tie.Need-use-octets-requires
 use-octets-requires c κs = search needs
@@ -25,40 +58,30 @@ print-use-requires : tie.Need-print-use-requires
 print-use-requires c κs =
     let a = c .before .before .before .before .args in
     let q = c .before .before .before .before .pre in
-    let s : List ℕ = take (a .piece .size) (drop (a .at) (a .value .now)) in
-    let long : length s ≡ min (a .piece .size) (length (a .value .now) - a .at) =
-    length-take (a .piece .size) (drop (a .at) (a .value .now)) ∙ ap (min (a .piece .size)) (length-drop (a .at) (a .value .now)) in
-    let octets = c .before .use-octets .ensures in
-    let same = ap length octets in
-    ((omega (arith, q), omega (arith, q), omega (arith, q)), omega (arith, q))
+    let rest : List ℕ = drop (a .at) (a .value .now) in
+    let long = length-take (a .piece .size) rest ∙ ap (min (a .piece .size)) (length-drop (a .at) (a .value .now)) in
+    let same = ap length (c .before .use-octets .ensures) in
+    (omega (arith, q), (omega (arith, q), (omega (arith, q), omega (arith, q))))
 
 enum-known-next : tie.Need-enum-known-next
 enum-known-next c = search needs
 
 add-following-byte : tie.Need-add-following-byte
 add-following-byte c =
-    let a = c .before .before .before .before .before .before .before .before .before .before .args in
-    omega (arith, c .before .before .before .before .before .before .before .before .before .before .pre, longest-small (a .piece .format))
+    let start = c .before .before .before .before .before .before .before .before .before .before in
+    omega (arith, start .pre, longest-small (start .args .piece .format))
 
 following-byte-requires : tie.Need-following-byte-requires
 following-byte-requires c κs = search needs
 
 put-optional-requires : tie.Need-put-optional-requires
 put-optional-requires c κs =
-    let a = c .before .before .before .before .before .before .before .before .before .before .before .before .args in
-    let q = c .before .before .before .before .before .before .before .before .before .before .before .before .pre in
-    let s : List ℕ = take (a .piece .size) (drop (a .at) (a .value .now)) in
-    let long : length s ≡ min (a .piece .size) (length (a .value .now) - a .at) =
-    length-take (a .piece .size) (drop (a .at) (a .value .now)) ∙ ap (min (a .piece .size)) (length-drop (a .at) (a .value .now)) in
-    let octets = c .before .before .before .before .before .before .before .before .before .use-octets .ensures in
-    let size = use-size (a .piece .format) (a .at) s (omega (arith, q)) (omega (arith, q))
-    (octets-take (a .piece .size) (drop (a .at) (a .value .now)) (octets-drop (a .at) (a .value .now) (λ (k : ℕ). omega (arith, c .before .before .before .before .before .before .before .before .before .before .before .shared-slice-known .given k)))) in
-    let done : Followed (use-text (a .piece .format) (a .at) s) (a .pos) (To (c .before .before .before .next .given .0 .0)) (a .out .now) (c .before .before .before .before .before .before .before .print-use .last .1 .1 .1 .0) =
-    subst (λ (l : List ℕ). Followed (use-text (a .piece .format) (a .at) l) (a .pos) (To (c .before .before .before .next .given .0 .0)) (a .out .now) (c .before .before .before .before .before .before .before .print-use .last .1 .1 .1 .0)) octets
-    (subst (λ (r : Progress). Followed (use-text (a .piece .format) (a .at) (c .before .before .before .before .before .before .before .before .before .use-octets .result .now)) (a .pos) r (a .out .now) (c .before .before .before .before .before .before .before .print-use .last .1 .1 .1 .0)) (c .before .before .before .next .given .1) (c .before .before .before .before .before .before .before .print-use .ensures)) in
-    let at = followed-next done in
-    let kept = c .before .before .before .before .before .before .before .print-use .kept .1 .1 .1 .0 in
-    omega (arith, q, size, optional-size (c .before .following-byte .result))
+    let d = c .before .before .before .before .before .before .before in
+    let given = c .before .before .before .next .given in
+    let long = octets-long d in
+    let at = followed-next (followed d (To (given .0 .0)) (given .1)) in
+    let kept = d .print-use .kept .1 .1 .1 .0 in
+    omega (arith, start d .pre, text-short d, optional-size (c .before .following-byte .result))
 
 enum-known-place : tie.Need-enum-known-place
 enum-known-place c = search needs
@@ -69,20 +92,12 @@ same-length c = search needs
 returns : tie.Need-returns
 unfolding Rattle.hint_piece.specs.Use.one-use
 returns c =
-    let a = c .before .before .before .before .before .before .before .before .before .before .before .before .before .before .before .args in
-    let q = c .before .before .before .before .before .before .before .before .before .before .before .before .before .before .before .pre in
-    let s : List ℕ = take (a .piece .size) (drop (a .at) (a .value .now)) in
-    let long : length s ≡ min (a .piece .size) (length (a .value .now) - a .at) =
-    length-take (a .piece .size) (drop (a .at) (a .value .now)) ∙ ap (min (a .piece .size)) (length-drop (a .at) (a .value .now)) in
-    let octets = c .before .before .before .before .before .before .before .before .before .before .before .before .use-octets .ensures in
-    let size = use-size (a .piece .format) (a .at) s (omega (arith, q)) (omega (arith, q))
-    (octets-take (a .piece .size) (drop (a .at) (a .value .now)) (octets-drop (a .at) (a .value .now) (λ (k : ℕ). omega (arith, c .before .before .before .before .before .before .before .before .before .before .before .before .before .before .shared-slice-known .given k)))) in
-    let done : Followed (use-text (a .piece .format) (a .at) s) (a .pos) (To (c .before .before .before .before .before .before .next .given .0 .0)) (a .out .now) (c .before .before .before .before .before .before .before .before .before .before .print-use .last .1 .1 .1 .0) =
-    subst (λ (l : List ℕ). Followed (use-text (a .piece .format) (a .at) l) (a .pos) (To (c .before .before .before .before .before .before .next .given .0 .0)) (a .out .now) (c .before .before .before .before .before .before .before .before .before .before .print-use .last .1 .1 .1 .0)) octets
-    (subst (λ (r : Progress). Followed (use-text (a .piece .format) (a .at) (c .before .before .before .before .before .before .before .before .before .before .before .before .use-octets .result .now)) (a .pos) r (a .out .now) (c .before .before .before .before .before .before .before .before .before .before .print-use .last .1 .1 .1 .0)) (c .before .before .before .before .before .before .next .given .1) (c .before .before .before .before .before .before .before .before .before .before .print-use .ensures)) in
-    let after : Wrote (optional (following (a .piece) (a .left) (a .value .now) (a .at + a .piece .size))) (c .before .before .before .before .before .before .next .given .0 .0) (c .before .before .put-optional .result) (c .before .before .before .before .before .before .before .before .before .before .print-use .last .1 .1 .1 .0) (c .before .before .put-optional .last .0) =
-    subst (λ (b : ℕ). Wrote (optional b) (c .before .before .before .before .before .before .next .given .0 .0) (c .before .before .put-optional .result) (c .before .before .before .before .before .before .before .before .before .before .print-use .last .1 .1 .1 .0) (c .before .before .put-optional .last .0)) (c .before .before .before .before .following-byte .ensures) (c .before .before .put-optional .ensures) in
-    followed-joined (omega (arith, q, size)) done (wrote after)
+    let d = c .before .before .before .before .before .before .before .before .before .before in
+    let given = c .before .before .before .before .before .before .next .given in
+    let long = octets-long d in
+    let byte = ap optional (c .before .before .before .before .following-byte .ensures) in
+    followed-joined (omega (arith, start d .pre, text-short d)) (followed d (To (given .0 .0)) (given .1))
+    (wrote (wrote-as byte (c .before .before .put-optional .ensures)))
 
 same-length-2 : tie.Need-same-length-2
 same-length-2 c = search needs
@@ -90,18 +105,11 @@ same-length-2 c = search needs
 returns-2 : tie.Need-returns-2
 unfolding Rattle.hint_piece.specs.Use.one-use
 returns-2 c =
-    let a = c .before .before .before .before .before .before .before .before .before .before .args in
-    let q = c .before .before .before .before .before .before .before .before .before .before .pre in
-    let s : List ℕ = take (a .piece .size) (drop (a .at) (a .value .now)) in
-    let long : length s ≡ min (a .piece .size) (length (a .value .now) - a .at) =
-    length-take (a .piece .size) (drop (a .at) (a .value .now)) ∙ ap (min (a .piece .size)) (length-drop (a .at) (a .value .now)) in
-    let octets = c .before .before .before .before .before .before .before .use-octets .ensures in
-    let size = use-size (a .piece .format) (a .at) s (omega (arith, q)) (omega (arith, q))
-    (octets-take (a .piece .size) (drop (a .at) (a .value .now)) (octets-drop (a .at) (a .value .now) (λ (k : ℕ). omega (arith, c .before .before .before .before .before .before .before .before .before .shared-slice-known .given k)))) in
-    let done : Followed (use-text (a .piece .format) (a .at) s) (a .pos) (Fault (c .before .place .given .0 .0)) (a .out .now) (c .before .before .before .before .before .print-use .last .1 .1 .1 .0) =
-    subst (λ (l : List ℕ). Followed (use-text (a .piece .format) (a .at) l) (a .pos) (Fault (c .before .place .given .0 .0)) (a .out .now) (c .before .before .before .before .before .print-use .last .1 .1 .1 .0)) octets
-    (subst (λ (r : Progress). Followed (use-text (a .piece .format) (a .at) (c .before .before .before .before .before .before .before .use-octets .result .now)) (a .pos) r (a .out .now) (c .before .before .before .before .before .print-use .last .1 .1 .1 .0)) (c .before .place .given .1) (c .before .before .before .before .before .print-use .ensures)) in
-    followed-fault (printed (optional (following (a .piece) (a .left) (a .value .now) (a .at + a .piece .size)))) done
+    let d = c .before .before .before .before .before in
+    let a = start d .args in
+    let given = c .before .place .given in
+    followed-fault (printed (optional (following (a .piece) (a .left) (a .value .now) (a .at + a .piece .size))))
+    (followed d (Fault (given .0 .0)) (given .1))
 
 pub print-one-spec : {M : Type 1} → statement M
 print-one-spec =

@@ -1,50 +1,61 @@
 -- `print_use` is right: the format picks the case, and the bound on a use says that the text fits.
 -- Assumes nothing.
 use borrow.Author.Needs.{needs}
-use Prim.Native.Nat.{ℕ}
-use mathlib.Core.Path.{_≡_, ap, sym, subst, _∙_}
-use mathlib.Core.List.{List}
+use Prim.Native.Nat.{ℕ, _≤_}
+use mathlib.Core.Path.{_≡_, ap, sym, _∙_}
 use native.Mathlib.Omega.{arith}
 use lib.ListN.{length}
 use borrow.Author.Tests.{not-true, not-false}
 use Rattle.hint_piece.proofs.Bounds.{letters}
 use Rattle.hint_form.proofs.HintLaws.{longest-small}
-use Rattle.digit.proofs.Sizes.{number-short}
+use Rattle.digit.proofs.Sizes.{Octets, number-short}
 use Rattle.hint_piece.proofs.UsesLaws.{passed-stuck, passed-whole}
 use Rattle.character.proofs.CutLaws.{stuck-there, stuck-below}
-use Rattle.buffer.specs.Buffer.{Wrote}
+use Rattle.buffer.proofs.Writing.{wrote-as}
 use Rattle.hint_piece.specs.Followed.{wrote, failed}
-use Rattle.character.specs.Character.{character-size}
-use Rattle.character.specs.Cut.{cut}
+use Rattle.character.specs.Character.{character-size, characters}
 use Rattle.digit.specs.Digits.{digits, big-endian}
 use Rattle.hint_form.specs.Form.{base-of}
+use Rattle.hint_form.specs.Hint.{longest}
 use Rattle.hint_piece.proofs.print_use.Statement.{statement}
 use Rattle.hint_piece.proofs.print_use.Tie as tie
+
+-- a format that prints a number: its base is 8 to 16, and its length 8 at most
+number-format : (d : tie.Then1)
+    → let format = d .before .before .before .before .args .format in
+    (8 ≤ base-of format) × (base-of format ≤ 16) × (longest format ≤ 8)
+number-format d =
+    let start = d .before .before .before .before in
+    letters (start .args .format) (sym (d .before .passes-on .ensures) ∙ not-true _ (d .if1 .taken)) (omega (arith, start .pre))
+
+-- the digits of the number that was read, at the base of the format
+digits-known : (d : tie.After-base-of)
+    → let a = d .before .before .before .before .before .before .args in
+    digits (d .base-of .result) (d .before .big-endian .result) ≡ digits (base-of (a .format)) (big-endian 0 (a .s .now))
+digits-known d =
+    let s = d .before .before .before .before .before .before .args .s .now in
+    ap (digits (d .base-of .result)) (d .before .big-endian .ensures) ∙ ap (λ (b : ℕ). digits b (big-endian 0 s)) (d .base-of .ensures)
 
 passes-on-requires : tie.Need-passes-on-requires
 passes-on-requires c κs = search needs
 
 big-endian-requires : tie.Need-big-endian-requires
-big-endian-requires c κs =
-    let a = c .before .before .before .before .args in
-    let p = c .before .before .before .before .pre in
-    let known = letters (a .format) (sym (c .before .passes-on .ensures) ∙ not-true _ (c .if1 .taken)) (omega (arith, p)) in
-    omega (arith, p, known .2)
+big-endian-requires c κs = omega (arith, c .before .before .before .before .pre, number-format c .2)
 
 base-of-requires : tie.Need-base-of-requires
 base-of-requires c κs = search needs
 
 print-digits-requires : tie.Need-print-digits-requires
 print-digits-requires c κs =
-    let a = c .before .before .before .before .before .before .before .args in
-    let p = c .before .before .before .before .before .before .before .pre in
-    let known = letters (a .format) (sym (c .before .before .before .before .passes-on .ensures) ∙ not-true _ (c .before .before .before .if1 .taken)) (omega (arith, p)) in
-    let base = c .before .base-of .ensures in
-    let short = number-short (base-of (a .format)) (a .s .now) (known .0) (p .0 .0) (λ (k : ℕ). omega (arith, c .before .before .before .before .before .before .shared-slice-known .given k)) in
-    let same : digits (c .before .base-of .result) (c .before .before .big-endian .result) ≡ digits (base-of (a .format)) (big-endian 0 (a .s .now)) =
-    ap (digits (c .before .base-of .result)) (c .before .before .big-endian .ensures) ∙ ap (λ (b : ℕ). digits b (big-endian 0 (a .s .now))) base in
-    let long = ap length same in
-    (omega (arith, known), omega (arith, p))
+    let d = c .before in
+    let start = d .before .before .before .before .before .before in
+    let a = start .args in
+    let known = number-format (d .before .before) in
+    let octets : Octets (a .s .now) = λ (k : ℕ). omega (arith, d .before .before .before .before .before .shared-slice-known .given k) in
+    let short = number-short (base-of (a .format)) (a .s .now) (known .0) (start .pre .0) octets in
+    let long = ap length (digits-known d) in
+    let base = d .base-of .ensures in
+    (omega (arith, known .0), (omega (arith, known .1), omega (arith, start .pre)))
 
 same-length : tie.Need-same-length
 same-length c = search needs
@@ -52,11 +63,9 @@ same-length c = search needs
 returns : tie.Need-returns
 unfolding Rattle.hint_piece.specs.Use.use-text
 returns c =
-    let a = c .before .before .before .before .before .before .before .before .before .before .args in
-    let same : digits (c .before .before .before .before .base-of .result) (c .before .before .before .before .before .big-endian .result) ≡ digits (base-of (a .format)) (big-endian 0 (a .s .now)) =
-    ap (digits (c .before .before .before .before .base-of .result)) (c .before .before .before .before .before .big-endian .ensures) ∙ ap (λ (b : ℕ). digits b (big-endian 0 (a .s .now))) (c .before .before .before .before .base-of .ensures) in
-    simp (sym (c .before .before .before .before .before .before .before .passes-on .ensures) ∙ not-true _ (c .before .before .before .before .before .before .if1 .taken))
-    (wrote (subst (λ (l : List ℕ). Wrote l (a .pos) (c .before .before .print-digits .result) (a .out .now) (c .before .before .print-digits .last .1 .1 .0)) same (c .before .before .print-digits .ensures)))
+    let d = c .before .before .before .before in
+    simp (sym (d .before .before .before .passes-on .ensures) ∙ not-true _ (d .before .before .if1 .taken))
+    (wrote (wrote-as (digits-known d) (c .before .before .print-digits .ensures)))
 
 first-fault-requires : tie.Need-first-fault-requires
 first-fault-requires c κs = search needs
@@ -66,17 +75,20 @@ enum-known-i c = search needs
 
 add-t15 : tie.Need-add-t15
 add-t15 c =
-    let a = c .before .before .before .before .before .before .before .before .args in
-    let at = stuck-there (cut (character-size (a .format) (a .s .now)) (length (a .s .now))) (c .before .i .given .0 .0) (sym (c .before .before .before .first-fault .ensures) ∙ c .before .i .given .1) in
-    let below = stuck-below (character-size (a .format) (a .s .now)) (length (a .s .now)) (c .before .i .given .0 .0) at in
-    omega (arith, longest-small (a .format), c .before .before .before .before .before .before .before .before .pre)
+    let start = c .before .before .before .before .before .before .before .before in
+    let a = start .args in
+    let given = c .before .i .given in
+    let at = stuck-there (characters (a .format) (a .s .now)) (given .0 .0) (sym (c .before .before .before .first-fault .ensures) ∙ given .1) in
+    let below = stuck-below (character-size (a .format) (a .s .now)) (length (a .s .now)) (given .0 .0) at in
+    omega (arith, longest-small (a .format), start .pre)
 
 returns-2 : tie.Need-returns-2
 unfolding Rattle.hint_piece.specs.Use.use-text
 returns-2 c =
     let a = c .before .before .before .before .before .before .before .before .args in
-    let i = c .before .i .given .0 .0 in
-    let at = passed-stuck (a .at) (a .s .now) (cut (character-size (a .format) (a .s .now)) (length (a .s .now))) i (sym (c .before .before .before .first-fault .ensures) ∙ c .before .i .given .1) in
+    let given = c .before .i .given in
+    let search = c .before .before .before .first-fault .ensures in
+    let at = passed-stuck (a .at) (a .s .now) (characters (a .format) (a .s .now)) (given .0 .0) (sym search ∙ given .1) in
     simp (sym (c .before .before .before .before .before .passes-on .ensures) ∙ not-false _ (c .before .before .before .before .if1 .left), at) failed
 
 enum-told : tie.Need-enum-told
@@ -91,9 +103,11 @@ same-length-2 c = search needs
 returns-3 : tie.Need-returns-3
 unfolding Rattle.hint_piece.specs.Use.use-text
 returns-3 c =
-    let a = c .before .before .before .before .before .before .before .before .before .before .before .args in
-    let at = passed-whole (a .at) (a .s .now) (cut (character-size (a .format) (a .s .now)) (length (a .s .now))) (sym (c .before .before .before .before .before .before .first-fault .ensures) ∙ c .before .before .before .before .enum-told .given .1) in
-    simp (sym (c .before .before .before .before .before .before .before .before .passes-on .ensures) ∙ not-false _ (c .before .before .before .before .before .before .before .if1 .left), at) (wrote (c .before .before .copy .ensures))
+    let d = c .before .before .before .before .before .before in
+    let a = d .before .before .before .before .before .args in
+    let told = c .before .before .before .before .enum-told .given .1 in
+    let at = passed-whole (a .at) (a .s .now) (characters (a .format) (a .s .now)) (sym (d .first-fault .ensures) ∙ told) in
+    simp (sym (d .before .before .passes-on .ensures) ∙ not-false _ (d .before .if1 .left), at) (wrote (c .before .before .copy .ensures))
 
 pub print-use-spec : {M : Type 1} → statement M
 print-use-spec =
