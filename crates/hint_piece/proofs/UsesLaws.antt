@@ -23,6 +23,7 @@ use lib.ListN.{length}
 use borrow.Author.Tests.{le-leb, lt-leb}
 use Rattle.buffer.specs.Buffer.{byte-at}
 
+-- a byte of 0 is none, and any other itself
 pub optional-none : (b : ℕ) → b ≡ 0 → optional b ≡ []
 unfolding optional
 optional-none b e = simp (eq-eqb b 0 e)
@@ -31,6 +32,7 @@ pub optional-some : (b : ℕ) → (b ≡ 0 → ⊥) → optional b ≡ b ∷ []
 unfolding optional
 optional-some b e = simp (ne-eqb b 0 e)
 
+-- no use prints nothing, nor does one where no octet is left
 pub uses-none : (left : ℕ) (p : Piece) (value : List ℕ) (at : ℕ) → left ≡ 0 → uses left p value at ≡ printed []
 unfolding uses
 uses-none left p value at e = rw e
@@ -40,6 +42,7 @@ unfolding uses
 uses-past zero p value at h = refl
 uses-past (suc left) p value at h = rw (le-leb (length value) at h, uses)
 
+-- a use more, where octets are left
 pub uses-step : (left : ℕ) (p : Piece) (value : List ℕ) (at : ℕ) → 0 < left → at < length value
     → uses left p value at ≡ joined (one-use p (left - 1) value at) (uses (left - 1) p value (at + p .size))
 unfolding uses
@@ -81,10 +84,11 @@ uses-start-near p at = go (p .starred)
     go false = omega arith
 
 -- how many octets they take
-pub uses-octets-small : (p : Piece) (value : List ℕ) (at : ℕ) → byte-at value at < 256 → p .size ≤ 255 → repeats p value at * p .size ≤ 65025
+pub uses-octets-small : (p : Piece) (value : List ℕ) (at : ℕ) → byte-at value at < 256 → p .size ≤ 255
+    → repeats p value at * p .size ≤ 65025
 unfolding repeats
 uses-octets-small p value at octet small = go (p .starred)
   where
     go : (t : Bool) → cond t (byte-at value at) 1 * p .size ≤ 65025
-    go true = le-trans (mul-le-mul-right (p .size) (le-of-suc-le-suc octet)) (omega (arith))
+    go true = le-trans (mul-le-mul-right (p .size) (le-of-suc-le-suc octet)) (omega arith)
     go false = omega (arith, one-mul (p .size))

@@ -14,11 +14,15 @@ returns-2 c = simp (lt-leb _ _ (c .before .if1 .left), ne-eqb _ _ (c .if2 .taken
 
 returns-3 : tie.Need-returns-3
 unfolding Rattle.hint_piece.specs.Use.following
-returns-3 c = simp (lt-leb _ _ (c .before .before .before .if1 .left), eq-eqb _ _ (c .before .before .if2 .left), eq-eqb _ _ (c .if3 .taken))
+returns-3 c =
+    let octets = lt-leb _ _ (c .before .before .before .if1 .left) in
+    simp (octets, eq-eqb _ _ (c .before .before .if2 .left), eq-eqb _ _ (c .if3 .taken))
 
 returns-4 : tie.Need-returns-4
 unfolding Rattle.hint_piece.specs.Use.following
-returns-4 c = simp (lt-leb _ _ (c .before .before .before .if1 .left), eq-eqb _ _ (c .before .before .if2 .left), ne-eqb _ _ (c .if3 .left))
+returns-4 c =
+    let octets = lt-leb _ _ (c .before .before .before .if1 .left) in
+    simp (octets, eq-eqb _ _ (c .before .before .if2 .left), ne-eqb _ _ (c .if3 .left))
 
 pub following-byte-spec : {M : Type 1} → statement M
 following-byte-spec = tie.close (tie.spec returns returns-2 returns-3 returns-4)

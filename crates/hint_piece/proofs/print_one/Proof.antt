@@ -1,12 +1,13 @@
--- `print_one` is right: the text of the use is followed by the byte that the definition names, and the bound on a use leaves room for it.
+-- `print_one` is right: the text of the use is followed by the byte that the definition names, and the bound on a use leaves
+-- room for it.
 -- Assumes nothing.
 use borrow.Author.Needs.{needs}
 use Prim.Native.Nat.{ℕ, _+_, _-_, _*_, _≤_, min}
-use mathlib.Core.Path.{_≡_, ap, _∙_}
+use mathlib.Core.Path.{_≡_, ap}
 use mathlib.Core.List.{List}
 use native.Mathlib.Omega.{arith}
-use lib.ListN.{length, take, drop, length-take, length-drop}
-use Rattle.hint_piece.proofs.Bounds.{use-size, optional-size}
+use lib.ListN.{length, take, drop}
+use Rattle.hint_piece.proofs.Bounds.{use-size, octets-size, optional-size}
 use Rattle.digit.proofs.Sizes.{Octets, octets-take, octets-drop}
 use Rattle.hint_form.proofs.HintLaws.{longest-small}
 use Rattle.hint_piece.proofs.Outcomes.{size-of, followed-as, followed-next, followed-joined, followed-fault}
@@ -28,9 +29,7 @@ octets d = let a = start d .args in take (a .piece .size) (drop (a .at) (a .valu
 octets-long : (d : tie.After-print-use)
     → let a = start d .args in
     length (octets d) ≡ min (a .piece .size) (length (a .value .now) - a .at)
-octets-long d =
-    let a = start d .args in
-    length-take (a .piece .size) (drop (a .at) (a .value .now)) ∙ ap (min (a .piece .size)) (length-drop (a .at) (a .value .now))
+octets-long d = let a = start d .args in octets-size (a .piece .size) (a .at) (a .value .now)
 
 -- the use's text, its bound, and that it was followed with what was answered
 abbrev text : tie.After-print-use → Outcome
@@ -58,8 +57,7 @@ print-use-requires : tie.Need-print-use-requires
 print-use-requires c κs =
     let a = c .before .before .before .before .args in
     let q = c .before .before .before .before .pre in
-    let rest : List ℕ = drop (a .at) (a .value .now) in
-    let long = length-take (a .piece .size) rest ∙ ap (min (a .piece .size)) (length-drop (a .at) (a .value .now)) in
+    let long = octets-size (a .piece .size) (a .at) (a .value .now) in
     let same = ap length (c .before .use-octets .ensures) in
     (omega (arith, q), (omega (arith, q), (omega (arith, q), omega (arith, q))))
 

@@ -1,12 +1,12 @@
 -- `print_use` is right: the format picks the case, and the bound on a use says that the text fits.
 -- Assumes nothing.
 use borrow.Author.Needs.{needs}
-use Prim.Native.Nat.{ℕ, _≤_}
+use Prim.Native.Nat.{ℕ}
 use mathlib.Core.Path.{_≡_, ap, sym, _∙_}
 use native.Mathlib.Omega.{arith}
 use lib.ListN.{length}
 use borrow.Author.Tests.{not-true, not-false}
-use Rattle.hint_piece.proofs.Bounds.{letters}
+use Rattle.hint_piece.proofs.Bounds.{NumberFormat, number-format}
 use Rattle.hint_form.proofs.HintLaws.{longest-small}
 use Rattle.digit.proofs.Sizes.{Octets, number-short}
 use Rattle.hint_piece.proofs.UsesLaws.{passed-stuck, passed-whole}
@@ -16,17 +16,15 @@ use Rattle.hint_piece.specs.Followed.{wrote, failed}
 use Rattle.character.specs.Character.{character-size, characters}
 use Rattle.digit.specs.Digits.{digits, big-endian}
 use Rattle.hint_form.specs.Form.{base-of}
-use Rattle.hint_form.specs.Hint.{longest}
 use Rattle.hint_piece.proofs.print_use.Statement.{statement}
 use Rattle.hint_piece.proofs.print_use.Tie as tie
 
--- a format that prints a number: its base is 8 to 16, and its length 8 at most
-number-format : (d : tie.Then1)
-    → let format = d .before .before .before .before .args .format in
-    (8 ≤ base-of format) × (base-of format ≤ 16) × (longest format ≤ 8)
-number-format d =
+-- where the format doesn't pass characters on it prints a number
+prints-number : (d : tie.Then1) → NumberFormat (d .before .before .before .before .args .format)
+prints-number d =
     let start = d .before .before .before .before in
-    letters (start .args .format) (sym (d .before .passes-on .ensures) ∙ not-true _ (d .if1 .taken)) (omega (arith, start .pre))
+    let passes = sym (d .before .passes-on .ensures) ∙ not-true _ (d .if1 .taken) in
+    number-format (start .args .format) passes (omega (arith, start .pre))
 
 -- the digits of the number that was read, at the base of the format
 digits-known : (d : tie.After-base-of)
@@ -40,7 +38,7 @@ passes-on-requires : tie.Need-passes-on-requires
 passes-on-requires c κs = search needs
 
 big-endian-requires : tie.Need-big-endian-requires
-big-endian-requires c κs = omega (arith, c .before .before .before .before .pre, number-format c .2)
+big-endian-requires c κs = omega (arith, c .before .before .before .before .pre, prints-number c .2)
 
 base-of-requires : tie.Need-base-of-requires
 base-of-requires c κs = search needs
@@ -50,7 +48,7 @@ print-digits-requires c κs =
     let d = c .before in
     let start = d .before .before .before .before .before .before in
     let a = start .args in
-    let known = number-format (d .before .before) in
+    let known = prints-number (d .before .before) in
     let octets : Octets (a .s .now) = λ (k : ℕ). omega (arith, d .before .before .before .before .before .shared-slice-known .given k) in
     let short = number-short (base-of (a .format)) (a .s .now) (known .0) (start .pre .0) octets in
     let long = ap length (digits-known d) in
@@ -78,7 +76,8 @@ add-t15 c =
     let start = c .before .before .before .before .before .before .before .before in
     let a = start .args in
     let given = c .before .i .given in
-    let at = stuck-there (characters (a .format) (a .s .now)) (given .0 .0) (sym (c .before .before .before .first-fault .ensures) ∙ given .1) in
+    let search = c .before .before .before .first-fault .ensures in
+    let at = stuck-there (characters (a .format) (a .s .now)) (given .0 .0) (sym search ∙ given .1) in
     let below = stuck-below (character-size (a .format) (a .s .now)) (length (a .s .now)) (given .0 .0) at in
     omega (arith, longest-small (a .format), start .pre)
 
@@ -89,7 +88,8 @@ returns-2 c =
     let given = c .before .i .given in
     let search = c .before .before .before .first-fault .ensures in
     let at = passed-stuck (a .at) (a .s .now) (characters (a .format) (a .s .now)) (given .0 .0) (sym search ∙ given .1) in
-    simp (sym (c .before .before .before .before .before .passes-on .ensures) ∙ not-false _ (c .before .before .before .before .if1 .left), at) failed
+    let test = c .before .before .before .before in
+    simp (sym (test .before .passes-on .ensures) ∙ not-false _ (test .if1 .left), at) failed
 
 enum-told : tie.Need-enum-told
 enum-told c = search needs
@@ -107,7 +107,8 @@ returns-3 c =
     let a = d .before .before .before .before .before .args in
     let told = c .before .before .before .before .enum-told .given .1 in
     let at = passed-whole (a .at) (a .s .now) (characters (a .format) (a .s .now)) (sym (d .first-fault .ensures) ∙ told) in
-    simp (sym (d .before .before .passes-on .ensures) ∙ not-false _ (d .before .if1 .left), at) (wrote (c .before .before .copy .ensures))
+    simp (sym (d .before .before .passes-on .ensures) ∙ not-false _ (d .before .if1 .left), at)
+    (wrote (c .before .before .copy .ensures))
 
 pub print-use-spec : {M : Type 1} → statement M
 print-use-spec =

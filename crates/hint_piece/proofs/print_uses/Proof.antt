@@ -1,5 +1,5 @@
--- `print_uses` is right: whatever follows the uses that are left, from where the loop stands, follows all of them. The measure is the uses
--- left.
+-- `print_uses` is right: whatever follows the uses that are left, from where the loop stands, follows all of them. The
+-- measure is the uses left.
 -- Assumes nothing.
 use Prim.Native.Nat.{ℕ, _+_, _-_, _*_, _≤_, min}
 use mathlib.Core.Path.{_≡_, refl, sym, _∙_}
