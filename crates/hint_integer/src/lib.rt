@@ -44,8 +44,8 @@ fn magnitude_of(value: i64) -> u64
 
 // Writes the digits of a number in a form, and answers the place after them.
 fn print_magnitude(form: Form, n: u64, out: &mut [u8], at: usize) -> usize
-    requires { ⌜ Usable form ⌝ }
-    requires { ⌜ at + length (magnitude form n) ≤ length (now out) ⌝ }
+    requires usable { ⌜ Usable form ⌝ }
+    requires room { ⌜ at + length (magnitude form n) ≤ length (now out) ⌝ }
     ensures { λ r. ⌜ Wrote (magnitude form n) at r (now (out .entry)) (now (out .exit)) ⌝ }
 {
     match form {
@@ -57,8 +57,9 @@ fn print_magnitude(form: Form, n: u64, out: &mut [u8], at: usize) -> usize
 
 // Writes an integer in a form from the start of the output, and answers the text's length.
 pub fn print_signed(form: Form, value: i64, out: &mut [u8]) -> usize
-    requires { ⌜ Usable form ⌝ }
-    requires { ⌜ (in-range value ≡ true) × (64 ≤ length (now out)) ⌝ }
+    requires usable { ⌜ Usable form ⌝ }
+    requires range { ⌜ in-range value ≡ true ⌝ }
+    requires room { ⌜ 64 ≤ length (now out) ⌝ }
     ensures { λ r. ⌜ Wrote (signed form value) 0 r (now (out .entry)) (now (out .exit)) ⌝ }
 {
     let n = magnitude_of(value);

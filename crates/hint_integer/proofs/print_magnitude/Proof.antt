@@ -1,15 +1,11 @@
 -- `print_magnitude` is right: the form picks the case.
 -- Assumes nothing.
 use borrow.Author.Needs.{needs}
-use Prim.Native.Nat.{ℕ}
 use mathlib.Core.Path.{ap, sym, subst}
-use mathlib.Core.List.{List}
 use native.Mathlib.Omega.{arith}
-use native.Mathlib.Nat.{add-zero}
 use lib.ListN.{length}
-use Rattle.buffer.proofs.Writing.{written-none}
+use Rattle.buffer.proofs.Writing.{wrote-as, wrote-none}
 use Rattle.hint_form.specs.declared.Form.{Form}
-use Rattle.buffer.specs.Buffer.{Wrote}
 use Rattle.hint_form.specs.Form.{Usable}
 use Rattle.hint_integer.specs.Signed.{magnitude}
 use Rattle.hint_integer.proofs.print_magnitude.Statement.{statement}
@@ -21,11 +17,11 @@ enum-known-form c = search needs
 print-digits-requires : tie.Need-print-digits-requires
 unfolding Rattle.hint_integer.specs.Signed.magnitude
 print-digits-requires c κs =
-    let a = c .before .before .before .before .before .args in
+    let start = c .before .before .before .before .before in
     let is = c .before .before .form .given .1 in
-    let same = ap (λ (f : Form). magnitude f (a .n)) is in
-    let long = ap length same in
-    (subst Usable is (c .before .before .before .before .before .pre .0), omega (arith, c .before .before .before .before .before .pre .1))
+    let long = ap (λ (f : Form). length (magnitude f (start .args .n))) is in
+    let usable = subst Usable is (start .pre .0) in
+    (usable .0, (usable .1, omega (arith, start .pre .1)))
 
 enum-known-form-2 : tie.Need-enum-known-form-2
 enum-known-form-2 c = search needs
@@ -33,11 +29,10 @@ enum-known-form-2 c = search needs
 print-pointed-requires : tie.Need-print-pointed-requires
 unfolding Rattle.hint_integer.specs.Signed.magnitude
 print-pointed-requires c κs =
-    let a = c .before .before .before .before .before .args in
+    let start = c .before .before .before .before .before in
     let is = c .before .before .form2 .given .1 in
-    let same = ap (λ (f : Form). magnitude f (a .n)) is in
-    let long = ap length same in
-    omega (arith, c .before .before .before .before .before .pre .1)
+    let long = ap (λ (f : Form). length (magnitude f (start .args .n))) is in
+    omega (arith, start .pre .1)
 
 enum-told : tie.Need-enum-told
 enum-told c = search needs
@@ -48,10 +43,9 @@ same-length c = search needs
 returns : tie.Need-returns
 unfolding Rattle.hint_integer.specs.Signed.magnitude
 returns c =
-    let a = c .before .before .before .before .before .before .before .before .args in
     let is = c .before .before .before .before .before .form .given .1 in
-    let same = ap (λ (f : Form). magnitude f (a .n)) is in
-    subst (λ (l : List ℕ). Wrote l (a .at) (c .before .before .print-digits .result) (a .out .now) (c .before .before .print-digits .last .1 .1 .0)) (sym same) (c .before .before .print-digits .ensures)
+    let n = c .before .before .before .before .before .before .before .before .args .n in
+    wrote-as (sym (ap (λ (f : Form). magnitude f n) is)) (c .before .before .print-digits .ensures)
 
 same-length-2 : tie.Need-same-length-2
 same-length-2 c = search needs
@@ -59,18 +53,16 @@ same-length-2 c = search needs
 returns-2 : tie.Need-returns-2
 unfolding Rattle.hint_integer.specs.Signed.magnitude
 returns-2 c =
-    let a = c .before .before .before .before .before .before .before .before .args in
     let is = c .before .before .before .before .before .form2 .given .1 in
-    let same = ap (λ (f : Form). magnitude f (a .n)) is in
-    subst (λ (l : List ℕ). Wrote l (a .at) (c .before .before .print-pointed .result) (a .out .now) (c .before .before .print-pointed .last .1 .1 .0)) (sym same) (c .before .before .print-pointed .ensures)
+    let n = c .before .before .before .before .before .before .before .before .args .n in
+    wrote-as (sym (ap (λ (f : Form). magnitude f n) is)) (c .before .before .print-pointed .ensures)
 
 returns-3 : tie.Need-returns-3
 unfolding Rattle.hint_integer.specs.Signed.magnitude
 returns-3 c =
     let a = c .before .before .before .args in
     let same = ap (λ (f : Form). magnitude f (a .n)) (c .enum-told .given .1) in
-    subst (λ (l : List ℕ). Wrote l (a .at) (a .at) (a .out .now) (a .out .now)) (sym same)
-    (record { next-is = sym (add-zero (a .at)); buffer-is = sym (written-none (a .out .now) (a .at)) })
+    wrote-as (sym same) (wrote-none (a .out .now) (a .at))
 
 pub print-magnitude-spec : {M : Type 1} → statement M
 print-magnitude-spec =
