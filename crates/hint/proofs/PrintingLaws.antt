@@ -9,14 +9,11 @@ use mathlib.Core.List.{List, [], _∷_}
 use lib.Dec.{leb}
 use lib.ListN.{length}
 use borrow.Author.Tests.{le-leb, lt-leb, leb-true, leb-false}
-use Rattle.character.specs.Cut.{stuck-at}
-use Rattle.hint_form.specs.Hint.{piece-at, piece-end, piece-size}
+use Rattle.hint_form.specs.Hint.{piece-at, piece-end}
 use Rattle.hint_piece.specs.Use.{Outcome, printed, joined, uses, repeats, uses-start, uses-end}
 use Rattle.hint.specs.Print.{turn, printing, printing-within}
 use Rattle.hint_form.specs.declared.Piece.{Piece}
-use Rattle.character.specs.declared.Search.the-variants.{Nowhere}
-use Rattle.character.proofs.CutLaws.{from}
-use Rattle.hint_form.proofs.PieceLaws.{AllAllowed, pieces-from, piece-there, stuck-step, pieces-step, pieces-end, pieces-allowed}
+use Rattle.hint_form.proofs.PieceLaws.{Readable, AllAllowed, pieces-from, piece-there, stuck-step, pieces-step, pieces-end, pieces-allowed}
 use Rattle.hint_piece.proofs.UsesLaws.{uses-end-after}
 
 pub turn-allowed : (p : Piece) (ps : List Piece) → AllAllowed (p ∷ ps) → AllAllowed (turn p ps)

@@ -15,8 +15,9 @@ use hint_piece::uses_start;
 
 // Writes a value by the pieces of a hint, the last of which repeats, or answers the octet at fault.
 pub fn print_pieces(hint: &[u8], value: &[u8], out: &mut [u8]) -> Progress
-    requires { ⌜ is-pieces (read-hint (now hint)) ≡ true ⌝ }
-    requires { ⌜ (length (now value) ≤ 1024) × (length (now out) ≡ 4096) ⌝ }
+    requires readable { ⌜ is-pieces (read-hint (now hint)) ≡ true ⌝ }
+    requires short { ⌜ length (now value) ≤ 1024 ⌝ }
+    requires room { ⌜ length (now out) ≡ 4096 ⌝ }
     ensures { λ r. ⌜ Followed (printing (pieces-in (read-hint (now (hint .entry)))) (now (value .entry))) 0 r (now (out .entry)) (now (out .exit)) ⌝ }
 {
     let mut cursor = 0;
