@@ -3,7 +3,7 @@
 use Prim.Native.Nat.{ℕ, zero, suc, _+_, _-_, _≤_, _<_}
 use native.Mathlib.Nat.{zero-add, zero-sub, sub-zero, suc-sub-suc}
 use native.Mathlib.Omega.{arith}
-use mathlib.Core.Path.{_≡_, refl, sym, ap, _∙_, subst}
+use mathlib.Core.Path.{_≡_, refl, sym, ap, _∙_}
 use mathlib.Core.Bool.{true, false}
 use mathlib.Core.List.{List, _++_, append-assoc}
 use lib.Dec.{eqb}
@@ -32,12 +32,14 @@ answered-short part v o e = rw e (record { number-is = refl; place-is = refl; le
 
 -- any other refusal leaves a part of zeros
 pub answered-refusal : (part : ℕ) (v : Verdict) (answer : Answer) (o after : List ℕ) (n at : ℕ) → v ≡ refusal n at
-    → number-of answer ≡ n → place-of answer ≡ at → length-of answer ≡ 0 → eqb n 30 ≡ false → after ≡ replicate part 0 ++ drop part o
+    → number-of answer ≡ n → place-of answer ≡ at → length-of answer ≡ 0
+    → eqb n 30 ≡ false → after ≡ replicate part 0 ++ drop part o
     → Answered part v answer o after
 unfolding number place size buffer
 answered-refusal part v answer o after n at e num pla len other zeros =
     rw e (record { number-is = num; place-is = pla; length-is = len; buffer-is = rw other zeros })
 
+-- zeros without the first ones are zeros
 drop-replicate : (k n a : ℕ) → drop k (replicate n a) ≡ replicate (n - k) a
 drop-replicate zero n a = ap (λ (m : ℕ). replicate m a) (sym (sub-zero n))
 drop-replicate (suc k) zero a = ap (λ (m : ℕ). replicate m a) (sym (zero-sub (suc k)))
@@ -52,30 +54,42 @@ module _ (part : ℕ) (o cleared : List ℕ) (zeros : cleared ≡ replicate part
   rest-kept = ap (drop part) zeros ∙ drop-at (replicate part 0) (drop part o) part (length-replicate part 0)
 
   -- a text that was written to the part of a cleared buffer
-  pub answered-text : {t w : List ℕ} {n : ℕ} → Wrote t 0 n (take part cleared) w → Answered part (text t) (Printed n) o (w ++ drop part cleared)
+  pub answered-text : {v : Verdict} {t w : List ℕ} {n : ℕ} → v ≡ text t → Wrote t 0 n (take part cleared) w
+      → Answered part v (Printed n) o (w ++ drop part cleared)
   unfolding number place size buffer written
-  answered-text {t} {w} {n} done =
-      record {
+  answered-text {t = t} {w = w} {n = n} e done =
+      let zeros₁ : List ℕ = replicate (part - length t) 0 in
+      let written₁ =
+      done .buffer-is
+      ∙ ap (λ (l : List ℕ). t ++ drop (0 + length t) l) part-zeros
+      ∙ ap (λ (k : ℕ). t ++ drop k (replicate part 0)) (zero-add (length t))
+      ∙ ap (λ (l : List ℕ). t ++ l) (drop-replicate (length t) part 0) in
+      rw e
+      (record {
         number-is = refl;
         place-is = refl;
         length-is = done .next-is ∙ zero-add (length t);
         buffer-is =
-            ap (λ (l : List ℕ). l ++ drop part cleared) (done .buffer-is ∙ ap (λ (l : List ℕ). t ++ drop (0 + length t) l) part-zeros
-            ∙ ap (λ (k : ℕ). t ++ drop k (replicate part 0)) (zero-add (length t)) ∙ ap (λ (l : List ℕ). t ++ l) (drop-replicate (length t) part 0))
-            ∙ append-assoc t (replicate (part - length t) 0) (drop part cleared)
-            ∙ ap (λ (l : List ℕ). t ++ (replicate (part - length t) 0 ++ l)) rest-kept;
-      }
+            ap (λ (l : List ℕ). l ++ drop part cleared) written₁
+            ∙ append-assoc t zeros₁ (drop part cleared)
+            ∙ ap (λ (l : List ℕ). t ++ (zeros₁ ++ l)) rest-kept;
+      })
 
-  pub answered-printed : {v : Verdict} {out : Outcome} {w : List ℕ} {n : ℕ} → v ≡ of-outcome out → Followed out 0 (To n) (take part cleared) w
+  -- the same of what printing came to
+  pub answered-printed : {v : Verdict} {out : Outcome} {w : List ℕ} {n : ℕ}
+      → v ≡ of-outcome out → Followed out 0 (To n) (take part cleared) w
       → Answered part v (Printed n) o (w ++ drop part cleared)
   unfolding of-outcome
-  answered-printed {w = w} {n = n} e (wrote done) = subst (λ (u : Verdict). Answered part u (Printed n) o (w ++ drop part cleared)) (sym e) (answered-text done)
+  answered-printed e (wrote done) = answered-text e done
 
   -- the part zeroed again
-  pub zeros-again : (w after : List ℕ) → length w ≡ part → after ≡ replicate part 0 ++ drop part (w ++ drop part cleared) → after ≡ replicate part 0 ++ drop part o
+  pub zeros-again : (w after : List ℕ) → length w ≡ part → after ≡ replicate part 0 ++ drop part (w ++ drop part cleared)
+      → after ≡ replicate part 0 ++ drop part o
   zeros-again w after long e = e ∙ ap (λ (l : List ℕ). replicate part 0 ++ l) (drop-at w (drop part cleared) part long ∙ rest-kept)
 
-pub fault-refusal : {out : Outcome} {at : ℕ} {before after : List ℕ} → Followed out 0 (Fault at) before after → of-outcome out ≡ refusal 33 at
+-- a fault is refusal 33
+pub fault-refusal : {out : Outcome} {at : ℕ} {before after : List ℕ} → Followed out 0 (Fault at) before after
+    → of-outcome out ≡ refusal 33 at
 unfolding of-outcome
 fault-refusal failed = refl
 
@@ -89,7 +103,8 @@ module _ (room : ℕ) (hint value : List ℕ) where
   unfolding octets-verdict
   octets-long h l = simp (le-ltb room 4096 h, lt-ltb 1024 (length value) l)
 
-  pub octets-hint : 4096 ≤ room → length value ≤ 1024 → is-pieces (read-hint hint) ≡ false → octets-verdict room hint value ≡ refusal 32 0
+  pub octets-hint : 4096 ≤ room → length value ≤ 1024 → is-pieces (read-hint hint) ≡ false
+      → octets-verdict room hint value ≡ refusal 32 0
   unfolding octets-verdict by-pieces is-pieces
   octets-hint h l b = simp (le-ltb room 4096 h, le-ltb 1024 (length value) l) (go (read-hint hint) b)
     where
@@ -97,7 +112,8 @@ module _ (room : ℕ) (hint value : List ℕ) where
       go (pieces ps) e = let z : _≡_ {A = ℕ} 0 1 = cc in absurd (omega arith)
       go none e = refl
 
-  pub octets-printed : 4096 ≤ room → length value ≤ 1024 → is-pieces (read-hint hint) ≡ true → octets-verdict room hint value ≡ of-outcome (printing (pieces-in (read-hint hint)) value)
+  pub octets-printed : 4096 ≤ room → length value ≤ 1024 → is-pieces (read-hint hint) ≡ true
+      → octets-verdict room hint value ≡ of-outcome (printing (pieces-in (read-hint hint)) value)
   unfolding octets-verdict by-pieces is-pieces pieces-in
   octets-printed h l b = simp (le-ltb room 4096 h, le-ltb 1024 (length value) l) (go (read-hint hint) b)
     where
@@ -120,7 +136,8 @@ module _ (room : ℕ) (hint : List ℕ) (value : ℤ) where
       go (Point places) e = let z : _≡_ {A = ℕ} 0 1 = cc in absurd (omega arith)
       go Bad e = refl
 
-  pub integer-range : 64 ≤ room → is-bad (read-form hint) ≡ false → in-range value ≡ false → integer-verdict room hint value ≡ refusal 34 0
+  pub integer-range : 64 ≤ room → is-bad (read-form hint) ≡ false → in-range value ≡ false
+      → integer-verdict room hint value ≡ refusal 34 0
   unfolding integer-verdict by-form
   integer-range h b r = simp (le-ltb room 64 h) (go (read-form hint) b)
     where
@@ -129,7 +146,8 @@ module _ (room : ℕ) (hint : List ℕ) (value : ℤ) where
       go (Point places) e = simp r
       go Bad e = let z : _≡_ {A = ℕ} 0 1 = cc in absurd (omega arith)
 
-  pub integer-text : 64 ≤ room → is-bad (read-form hint) ≡ false → in-range value ≡ true → integer-verdict room hint value ≡ text (signed (read-form hint) value)
+  pub integer-text : 64 ≤ room → is-bad (read-form hint) ≡ false → in-range value ≡ true
+      → integer-verdict room hint value ≡ text (signed (read-form hint) value)
   unfolding integer-verdict by-form
   integer-text h b r = simp (le-ltb room 64 h) (go (read-form hint) b)
     where
@@ -139,7 +157,8 @@ module _ (room : ℕ) (hint : List ℕ) (value : ℤ) where
       go Bad e = let z : _≡_ {A = ℕ} 0 1 = cc in absurd (omega arith)
 
 -- the text of an answer lies in the buffer
-pub length-fits : (part : ℕ) (v : Verdict) (answer : Answer) (o after : List ℕ) → Answered part v answer o after → length-of answer ≤ length after
+pub length-fits : (part : ℕ) (v : Verdict) (answer : Answer) (o after : List ℕ) → Answered part v answer o after
+    → length-of answer ≤ length after
 unfolding size buffer
 length-fits part (text t) answer o after a =
     omega (arith, a .length-is, ap length (a .buffer-is) ∙ length-append t (replicate (part - length t) 0 ++ drop part o))
