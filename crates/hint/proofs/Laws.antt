@@ -10,7 +10,7 @@ use lib.IntN.{ℤ, pos, negsuc}
 use lib.ListN.{length}
 use Rattle.hint_form.specs.Hint.{pieces, read-hint, is-pieces, pieces-in}
 use Rattle.hint_form.specs.Form.{read-form}
-use Rattle.hint_piece.specs.Use.{printed, uses, repeats, uses-start, uses-end}
+use Rattle.hint_piece.specs.Use.{piece-text, printed, repeats, uses-start, uses-end}
 use Rattle.hint.specs.Print.{turn, printing, printing-within}
 use Rattle.hint_integer.specs.Signed.{in-range, signed}
 use Rattle.hint_form.specs.declared.Piece.{Piece}
@@ -32,21 +32,21 @@ within-size (suc steps) [] value at a h = omega arith
 within-size (suc steps) (p ∷ ps) value at a h =
     go (within-size steps (turn p ps) value (uses-end p value at) (turn-allowed p ps a) h) (leb (length value) at) refl
   where
-    go : size-of (printing-within steps (turn p ps) value (uses-end p value at)) ≤ 4 * (length value - uses-end p value at)
-        → (t : Bool) → leb (length value) at ≡ t → size-of (printing-within (suc steps) (p ∷ ps) value at) ≤ 4 * (length value - at)
+    end : ℕ
+    end = uses-end p value at
+
+    go : size-of (printing-within steps (turn p ps) value end) ≤ 4 * (length value - end)
+        → (t : Bool) → leb (length value) at ≡ t
+        → size-of (printing-within (suc steps) (p ∷ ps) value at) ≤ 4 * (length value - at)
     go rest true e = rw (e, printing-within) (omega arith)
     go rest false e =
-        rw (e, printing-within)
-        (omega (
-          arith,
-          uses-size p value (a .0 .0) (a .0 .1) h (repeats p value at) (uses-start p at),
-          uses-end-is p value at,
-          uses-start-near p at,
-          joined-size (uses (repeats p value at) p value (uses-start p at)) (printing-within steps (turn p ps) value (uses-end p value at)),
-        ))
+        let first = uses-size p value (a .0 .0) (a .0 .1) h (repeats p value at) (uses-start p at) in
+        let both = joined-size (piece-text p value at) (printing-within steps (turn p ps) value end) in
+        rw (e, printing-within) (omega (arith, first, both, uses-end-is p value at, uses-start-near p at))
 
 -- the text of an accepted value is four bytes for each octet at most
-pub output-bound : (hint value : List ℕ) (ps : List Piece) (t : List ℕ) → Octets value → read-hint hint ≡ pieces ps → printing ps value ≡ printed t
+pub output-bound : (hint value : List ℕ) (ps : List Piece) (t : List ℕ) → Octets value
+    → read-hint hint ≡ pieces ps → printing ps value ≡ printed t
     → length t ≤ 4 * length value
 unfolding printing is-pieces pieces-in
 output-bound hint value ps t h r e =
@@ -60,4 +60,5 @@ output-bound hint value ps t h r e =
 pub integer-bound : (hint : List ℕ) (value : ℤ) → in-range value ≡ true → length (signed (read-form hint) value) ≤ 64
 unfolding signed
 integer-bound hint (pos n) h = omega (arith, magnitude-size (read-form hint) n (form-usable hint) (magnitude-small (pos n) h))
-integer-bound hint (negsuc n) h = omega (arith, magnitude-size (read-form hint) (suc n) (form-usable hint) (magnitude-small (negsuc n) h))
+integer-bound hint (negsuc n) h =
+    omega (arith, magnitude-size (read-form hint) (suc n) (form-usable hint) (magnitude-small (negsuc n) h))

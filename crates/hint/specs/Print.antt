@@ -6,7 +6,7 @@ use mathlib.Core.List.{List, [], _∷_}
 use lib.Dec.{leb}
 use lib.ListN.{length}
 use Rattle.hint_form.specs.declared.Piece.{Piece}
-use Rattle.hint_piece.specs.Use.{Outcome, printed, joined, uses, repeats, uses-start, uses-end}
+use Rattle.hint_piece.specs.Use.{Outcome, printed, joined, uses-end, piece-text}
 
 -- the pieces after one; the last piece repeats
 unfoldable pub turn : Piece → List Piece → List Piece
@@ -21,8 +21,7 @@ printing-within (suc steps) (p ∷ ps) value at =
     elim (leb (length value) at) [
       | true ↦ printed []
       | false ↦
-          joined (uses (repeats p value at) p value (uses-start p at))
-          (printing-within steps (turn p ps) value (uses-end p value at))
+          joined (piece-text p value at) (printing-within steps (turn p ps) value (uses-end p value at))
     ]
 
 -- the whole value. A piece takes an octet at least, the count or one of its length, so as many steps as octets suffice

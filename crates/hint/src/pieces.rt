@@ -18,7 +18,8 @@ pub fn print_pieces(hint: &[u8], value: &[u8], out: &mut [u8]) -> Progress
     requires readable { ⌜ is-pieces (read-hint (now hint)) ≡ true ⌝ }
     requires short { ⌜ length (now value) ≤ 1024 ⌝ }
     requires room { ⌜ length (now out) ≡ 4096 ⌝ }
-    ensures { λ r. ⌜ Followed (printing (pieces-in (read-hint (now (hint .entry)))) (now (value .entry))) 0 r (now (out .entry)) (now (out .exit)) ⌝ }
+    ensures { λ r. ⌜ Followed (printing (pieces-in (read-hint (now (hint .entry)))) (now (value .entry)))
+        0 r (now (out .entry)) (now (out .exit)) ⌝ }
 {
     let mut cursor = 0;
     let mut at = 0;

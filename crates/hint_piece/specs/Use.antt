@@ -69,3 +69,7 @@ uses-start p at = cond (p .starred) (at + 1) at
 -- where the octets of a piece end; past the value's end where fewer were left
 unfoldable pub uses-end : Piece → List ℕ → ℕ → ℕ
 uses-end p value at = uses-start p at + repeats p value at * p .size
+
+-- the text of a piece whose octets, the repeat count first, start at a place
+abbrev pub piece-text : Piece → List ℕ → ℕ → Outcome
+piece-text p value at = uses (repeats p value at) p value (uses-start p at)

@@ -39,7 +39,8 @@ by-printing : (d : tie.After-print-pieces) → verdict (zeroed d) ≡ of-outcome
 by-printing d =
     let a = start (zeroed d) .args in
     let hint = sym (d .before .before .before .is-hint .ensures) ∙ not-false _ (d .before .before .if3 .left) in
-    octets-printed (length (a .out .now)) (a .hint .now) (a .value .now) (zeroed d .before .before .if1 .left) (d .before .before .before .before .if2 .left) hint
+    let room = zeroed d .before .before .if1 .left in
+    octets-printed (length (a .out .now)) (a .hint .now) (a .value .now) room (d .before .before .before .before .if2 .left) hint
 
 followed : (d : tie.After-print-pieces) (r : Progress) → d .print-pieces .result ≡ r
     → Followed (outcome d) 0 r (take 4096 (zeroed d .clear .last .0)) (d .print-pieces .last .1 .1 .0)

@@ -9,7 +9,7 @@ use native.Mathlib.Omega.{arith}
 use borrow.Author.Needs.{needs}
 use lib.ListN.{length}
 use Rattle.hint_form.proofs.PieceLaws.{cut-from, Readable, pieces-from, pieces-allowed, piece-there, stuck-step, hint-pieces}
-use Rattle.hint.proofs.PrintingLaws.{print-from, print-start, print-end, print-turn, turn-next, turn-last, turn-either}
+use Rattle.hint.proofs.PrintingLaws.{Turned, print-from, print-start, print-end, print-turn, turn-next, turn-last, turn-either}
 use Rattle.hint_piece.proofs.UsesLaws.{uses-start-near, uses-octets-small, uses-end-after, uses-end-is}
 use Rattle.digit.proofs.Sizes.{Octets}
 use Rattle.hint_piece.proofs.Bounds.{uses-size}
@@ -21,8 +21,8 @@ use Rattle.hint_form.specs.declared.Piece.{Piece}
 use Rattle.hint_piece.specs.Followed.{Followed}
 use Rattle.character.specs.Cut.{stuck-at}
 use Rattle.hint_form.specs.Hint.{pieces-in, is-piece, piece-at, piece-end, read-hint}
-use Rattle.hint_piece.specs.Use.{Outcome, uses, repeats, uses-start, uses-end}
-use Rattle.hint.specs.Print.{turn, printing}
+use Rattle.hint_piece.specs.Use.{piece-text, Outcome, uses, repeats, uses-start, uses-end}
+use Rattle.hint.specs.Print.{printing}
 use Rattle.hint.proofs.pieces.print_pieces.Statement.{statement}
 use Rattle.hint.proofs.pieces.print_pieces.Tie as tie
 
@@ -59,15 +59,23 @@ abbrev named : tie.After-known-told Inv-loop μ-loop → Piece
 named d = piece-at (hint d) (cursor d)
 
 abbrev text : tie.After-known-told Inv-loop μ-loop → Outcome
-text d = uses (repeats (named d) (value d) (at d)) (named d) (value d) (uses-start (named d) (at d))
+text d = piece-text (named d) (value d) (at d)
 
 -- that piece was found
 there : (d : tie.After-known-told Inv-loop μ-loop)
-    → (is-piece (hint d) (cursor d) ≡ true) × (piece d ≡ named d) × (d .before .piece .given .0 .1 .0 ≡ piece-end (hint d) (cursor d))
+    → (is-piece (hint d) (cursor d) ≡ true)
+    × (piece d ≡ named d)
+    × (d .before .piece .given .0 .1 .0 ≡ piece-end (hint d) (cursor d))
 there d = found-whole _ _ _ _ (sym (d .before .piece .given .1) ∙ d .before .before .before .piece-at .ensures)
 
 allowed : (d : tie.After-known-told Inv-loop μ-loop) → Allowed (piece d)
 allowed d = subst Allowed (sym (there d .1)) (piece-allowed (hint d) (cursor d) (there d .0))
+
+below : (d : tie.After-known-told Inv-loop μ-loop) → at d < length (value d)
+below d = d .before .before .before .before .loop-test .taken
+
+few : (d : tie.After-known-told Inv-loop μ-loop) → length (value d) ≤ 1024
+few d = d .before .before .before .before .before .before .before .before .before .pre .1 .0
 
 octets : (d : tie.After-known-told Inv-loop μ-loop) → Octets (value d)
 octets d k = omega (arith, d .before .before .before .before .before .before .before .shared-slice-known2 .given k)
@@ -108,42 +116,43 @@ followed d r e =
     followed-as
     (ap (λ (n : ℕ). uses n (piece k) (value k) (start .result)) (count .ensures)
     ∙ ap (λ (n : ℕ). uses (repeats (piece k) (value k) (at k)) (piece k) (value k) n) (start .ensures)
-    ∙ ap (λ (x : Piece). uses (repeats x (value k) (at k)) x (value k) (uses-start x (at k))) (there k .1))
+    ∙ ap (λ (x : Piece). piece-text x (value k) (at k)) (there k .1))
     e
     (d .print-uses .ensures)
 
 -- after a turn, wherever the next one starts
 again : (d : tie.After-struct-known Inv-loop μ-loop) (next : ℕ)
-    → let k = d .before .before .before .before .before .before .before .before .before .before in
-    turn (named k) (pieces-from (hint k) (piece-end (hint k) (cursor k))) ≡ pieces-from (hint k) next
+    → let printed = d .before .before .before .before .before .before in
+    let k = printed .before .before .before .before in
+    Turned (hint k) (cursor k) next
     → next < length (hint k)
     → Readable (hint k) next
     → Inv-loop (hint k) (value k) (k .before .before .before .before .before .before .before .before .before .args .out .now) 0 0 0
-    (d .before .before .before .before .before .before .print-uses .last .1 .1 .1 .1 .0) next (next-octet (d .before .before .before .before .before .before .before .before)) (d .before .before .n .given .0 .0)
-again d next turned below whole =
-    let k = d .before .before .before .before .before .before .before .before .before .before in
+    (printed .print-uses .last .1 .1 .1 .1 .0) next (next-octet (printed .before .before)) (d .before .before .n .given .0 .0)
+again d next turned inside whole =
+    let printed = d .before .before .before .before .before .before in
+    let k = printed .before .before .before .before in
     let here = k .before .before .before .before .before .loop in
     let inv = here .inv in
     let P : Piece = named k in
     let given = d .before .before .n .given in
-    let uses₁ = d .before .before .before .before .before .before in
-    let done = followed uses₁ (To (given .0 .0)) (given .1) in
+    let done = followed printed (To (given .0 .0)) (given .1) in
     let room : here .pos + 4 * (length (value k) - here .at) ≤ length (here .out) = inv .1 in
     let fits : Allowed P = piece-allowed (hint k) (cursor k) (there k .0) in
     let size = uses-size P (value k) (fits .0) (fits .1) (octets k) (repeats P (value k) (at k)) (uses-start P (at k)) in
     let place = followed-next done in
-    let kept = uses₁ .print-uses .kept .1 .1 .1 .1 .0 in
-    let end₁ = end (d .before .before .before .before .before .before .before .before) ∙ ap (λ (x : Piece). uses-end x (value k) (at k)) (there k .1) in
+    let kept = printed .print-uses .kept .1 .1 .1 .1 .0 in
+    let end₁ = end (printed .before .before) ∙ ap (λ (x : Piece). uses-end x (value k) (at k)) (there k .1) in
     let near = uses-start-near P (at k) in
+    let rest : List Piece = pieces-from (hint k) next in
     let is = uses-end-is P (value k) (at k) in
-    let test = k .before .before .before .before .loop-test .taken in
-    let step = print-turn (hint k) (value k) (cursor k) (at k) next (inv .3) (inv .4) test turned in (
+    let step = print-turn (hint k) (value k) (cursor k) (at k) next (inv .3) (inv .4) (below k) turned in (
       λ (r : Progress) (after : List ℕ) f. inv .0 r after
           (followed-as (sym step) refl
-          (followed-joined (omega (arith, size)) done (followed-as (ap (print-from (value k) (pieces-from (hint k) next)) end₁) refl f))),
+          (followed-joined (omega (arith, size)) done (followed-as (ap (print-from (value k) rest) end₁) refl f))),
       omega (arith, size),
       kept ∙ inv .2,
-      below,
+      inside,
       whole,
     )
 
@@ -153,7 +162,7 @@ less : (d : tie.After-repeats-of Inv-loop μ-loop)
     length (value k) - next-octet d < length (value k) - at k
 less d =
     let k = d .before .before in
-    omega (arith, end d, uses-end-after (piece k) (value k) (at k) (allowed k .0), k .before .before .before .before .loop-test .taken)
+    omega (arith, end d, uses-end-after (piece k) (value k) (at k) (allowed k .0), below k)
 
 loop-holds : tie.Need-loop-holds Inv-loop μ-loop
 loop-holds c =
@@ -191,19 +200,18 @@ returns c =
     absurd (omega arith)
 
 uses-start-requires : tie.Need-uses-start-requires Inv-loop μ-loop
-uses-start-requires c κs = omega (arith, c .before .before .before .before .loop-test .taken, c .before .before .before .before .before .before .before .before .before .pre .1 .0)
+uses-start-requires c κs = omega (arith, below c, few c)
 
 repeats-of-requires : tie.Need-repeats-of-requires Inv-loop μ-loop
-repeats-of-requires c κs = c .before .before .before .before .before .loop-test .taken
+repeats-of-requires c κs = below (c .before)
 
 print-uses-requires : tie.Need-print-uses-requires Inv-loop μ-loop
 print-uses-requires c κs =
     let k = c .before .before .before in
-    let q = k .before .before .before .before .before .before .before .before .before .pre .1 in
     let start = c .before .before .uses-start .ensures in
     let near = uses-start-near (piece k) (at k) in
-    let early : c .before .before .uses-start .result ≤ 1024 = omega (arith, q .0, k .before .before .before .before .loop-test .taken) in
-    (q .0, (early, (allowed k .0, (allowed k .1, omega (arith, k .before .before .before .before .before .loop .inv .1)))))
+    let early : c .before .before .uses-start .result ≤ 1024 = omega (arith, few k, below k) in
+    (few k, (early, (allowed k .0, (allowed k .1, omega (arith, k .before .before .before .before .before .loop .inv .1)))))
 
 enum-known-n : tie.Need-enum-known-n Inv-loop μ-loop
 enum-known-n c = search needs
@@ -223,8 +231,7 @@ returns-2 c =
     let inv = k .before .before .before .before .before .loop .inv in
     let given = c .before .place .given in
     let turned = turn-either (hint k) (cursor k) (inv .3) (inv .4) in
-    let test = k .before .before .before .before .loop-test .taken in
-    let step = print-turn (hint k) (value k) (cursor k) (at k) (turned .0) (inv .3) (inv .4) test (turned .1) in
+    let step = print-turn (hint k) (value k) (cursor k) (at k) (turned .0) (inv .3) (inv .4) (below k) (turned .1) in
     let rest : Outcome = print-from (value k) (pieces-from (hint k) (turned .0)) (uses-end (named k) (value k) (at k)) in
     inv .0 (Fault (given .0 .0)) (d .print-uses .last .1 .1 .1 .1 .0)
     (followed-as (sym step) refl (followed-fault rest (followed d (Fault (given .0 .0)) (given .1))))
@@ -237,7 +244,7 @@ add-at c =
     let d = c .before .before .before .before .before .before .before .before in
     let k = d .before .before in
     let near = uses-start-near (piece k) (at k) in
-    omega (arith, short d, d .before .uses-start .ensures, k .before .before .before .before .loop-test .taken, k .before .before .before .before .before .before .before .before .before .pre .1)
+    omega (arith, short d, d .before .uses-start .ensures, below k, few k)
 
 loop-less : tie.Need-loop-less Inv-loop μ-loop
 loop-less c = less (c .before .before .before .before .before .before .before .before .before)
@@ -247,10 +254,11 @@ loop-again c =
     let k = c .before .before .before .before .before .before .before .before .before .before .before in
     let inv = k .before .before .before .before .before .loop .inv in
     let next = there k .2 in
-    let below : piece-end (hint k) (cursor k) < length (hint k) = omega (arith, next, c .if1 .taken) in
-    let readable = ap (λ (n : ℕ). stuck-at (cut-from (hint k) n)) next ∙ stuck-step (hint k) (cursor k) (inv .3) (there k .0) ∙ inv .4 in
+    let inside : piece-end (hint k) (cursor k) < length (hint k) = omega (arith, next, c .if1 .taken) in
+    let readable =
+    ap (λ (n : ℕ). stuck-at (cut-from (hint k) n)) next ∙ stuck-step (hint k) (cursor k) (inv .3) (there k .0) ∙ inv .4 in
     again (c .before) (k .before .piece .given .0 .1 .0)
-    (turn-next (hint k) (cursor k) (inv .3) (inv .4) below ∙ ap (pieces-from (hint k)) (sym next))
+    (turn-next (hint k) (cursor k) (inv .3) (inv .4) inside ∙ ap (pieces-from (hint k)) (sym next))
     (c .if1 .taken)
     readable
 
