@@ -31,7 +31,7 @@ within-enough (suc j) (suc k) base n h p q =
     go same false e =
         let l : base ≤ n = ltb-false n base e in
         let less : n / base < n = quotient-less base n h l in
-        rw (e, digits-within) (ap (λ (ds : List ℕ). ds ++ (glyph (n % base) ∷ [])) (same (n / base) (omega arith) (omega arith)))
+        rw (e, digits-within, same (n / base) (omega arith) (omega arith))
 
 -- a number below the base is one digit
 pub digits-last : (base n : ℕ) → n < base → digits base n ≡ glyph n ∷ []
