@@ -2,10 +2,10 @@
 -- Assumes nothing.
 use Prim.Native.Nat.{ℕ, _+_}
 use mathlib.Core.List.{List, _++_}
-use lib.ListN.{length, getD, take, drop}
 use mathlib.Core.Path.{_≡_}
+use lib.ListN.{length, getD, take, drop}
 
--- the byte at a place; past the end 0, which stands for nothing in a hint and in no character
+-- the byte at a place, or 0 past the end
 abbrev pub byte-at : List ℕ → ℕ → ℕ
 byte-at s i = getD s i 0
 

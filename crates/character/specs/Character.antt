@@ -26,11 +26,11 @@ lead-size b =
     (cond (between 0xE0 0xEF b) 3
     (cond (between 0xF0 0xF4 b) 4 0)))
 
--- the least and the greatest second octet after a first one: a tail, without the overlong forms (E0, F0), the surrogates (ED) and
--- what lies above 10FFFF (F4)
+-- the least second octet after a first one: a tail, without the overlong forms (E0, F0)
 unfoldable pub second-low : ℕ → ℕ
 second-low lead = cond (eqb lead 0xE0) 0xA0 (cond (eqb lead 0xF0) 0x90 0x80)
 
+-- the greatest second octet after a first one: a tail, without the surrogates (ED) and what lies above 10FFFF (F4)
 unfoldable pub second-high : ℕ → ℕ
 second-high lead = cond (eqb lead 0xED) 0x9F (cond (eqb lead 0xF4) 0x8F 0xBF)
 

@@ -1,12 +1,12 @@
 // Characters of UTF-8 and of ASCII among octets.
+ghost use Prim.Native.Nat.{_<_};
 ghost use mathlib.Core.Path.{_≡_};
-ghost use Prim.Native.Nat.{_+_, _<_};
 ghost use lib.ListN.{length};
 ghost use Rattle.character.specs.Cut.{stuck-at};
 ghost use Rattle.character.specs.Character.{between, lead-size, second-low, second-high, sequence-size, character-size, characters};
 use buffer::byte_at;
 
-// Where something is found first.
+// Where something is found first, or that it is nowhere.
 pub enum Search {
     At(usize),
     Nowhere,

@@ -1,6 +1,6 @@
 -- How many digits a number has: one law over the base, and what follows of numbers of so many octets.
 -- Assumes nothing.
-use Prim.Native.Nat.{ℕ, zero, suc, _+_, _-_, _*_, _/_, _^_, _≤_, _<_}
+use Prim.Native.Nat.{ℕ, zero, suc, _+_, _*_, _/_, _^_, _≤_, _<_, _%_}
 use Prim.Native.Char.{code}
 use native.Mathlib.Nat.{mul-le-mul-right, mul-le-mul-left, mul-assoc, mul-comm, pow-suc, pow-zero, div-lt-iff-lt-mul, one-mul}
 use native.Mathlib.Omega.{arith}
@@ -8,14 +8,12 @@ use mathlib.Core.Path.{_≡_, refl, sym, ap, _∙_, subst}
 use mathlib.Core.Bool.{Bool, true, false}
 use mathlib.Core.List.{List, [], _∷_}
 use lib.Dec.{ltb, lit<, lit≤}
-use lib.ListN.{length, getD, take, drop}
+use lib.ListN.{length, getD, take, drop, length-append}
 use lib.Seq.{getD-drop}
 use lib.Pow.{pow-add}
 use borrow.Author.Tests.{ltb-true, ltb-false}
 use Rattle.digit.specs.Digits.{digits, big-endian, glyph, pointed}
 use Rattle.digit.proofs.DigitLaws.{digits-last, digits-longer}
-use Prim.Native.Nat.{_%_}
-use lib.ListN.{length-append}
 
 -- each element is an octet
 abbrev pub Octets : List ℕ → Type 0

@@ -1,12 +1,12 @@
 // Digits of a number, most significant first.
+ghost use Prim.Native.Nat.{_+_, _≤_, _<_};
 ghost use mathlib.Core.Path.{_≡_};
-ghost use Prim.Native.Nat.{_+_, _*_, _≤_, _<_};
 ghost use lib.ListN.{length};
-ghost use Rattle.digit.specs.Digits.{glyph, digits, pointed, big-endian};
 ghost use Rattle.buffer.specs.Buffer.{Wrote};
+ghost use Rattle.digit.specs.Digits.{glyph, digits, pointed, big-endian};
 use buffer::put;
 
-// The byte of one digit.
+// The byte of one digit: 48 is `0`, and 87 + 10 is `a`.
 pub fn glyph_of(d: u64) -> u8
     requires { ⌜ d < 16 ⌝ }
     ensures { λ r. ⌜ r ≡ glyph d ⌝ }

@@ -15,15 +15,15 @@ use Rattle.buffer.specs.Buffer.{written, Wrote}
 use Rattle.hint_form.specs.Hint.{Reading, pieces, none, read-hint, is-pieces, pieces-in}
 use Rattle.hint_form.specs.Form.{read-form, is-bad}
 use Rattle.hint_piece.specs.Use.{Outcome}
-use Rattle.hint.specs.Print.{printing}
 use Rattle.hint_piece.specs.Followed.{Followed, wrote, failed}
-use Rattle.hint.specs.Answer.{Verdict, text, refusal, Answered, number, place, size, buffer, number-of, place-of, length-of, of-outcome, by-pieces, octets-verdict, by-form, integer-verdict}
 use Rattle.hint_integer.specs.Signed.{in-range, signed}
 use Rattle.hint_form.specs.declared.Form.{Form}
 use Rattle.hint_form.specs.declared.Form.the-variants.{Base, Point, Bad}
+use Rattle.hint_piece.specs.declared.Progress.the-variants.{To, Fault}
+use Rattle.hint.specs.Print.{printing}
+use Rattle.hint.specs.Answer.{Verdict, text, refusal, Answered, number, place, size, buffer, number-of, place-of, length-of, of-outcome, by-pieces, octets-verdict, by-form, integer-verdict}
 use Rattle.hint.specs.declared.Answer.{Answer}
 use Rattle.hint.specs.declared.Answer.the-variants.{Printed, ShortBuffer}
-use Rattle.hint_piece.specs.declared.Progress.the-variants.{To, Fault}
 
 -- a short buffer stays as it was
 pub answered-short : (part : ℕ) (v : Verdict) (o : List ℕ) → v ≡ refusal 30 0 → Answered part v ShortBuffer o o

@@ -1,9 +1,9 @@
 -- The paper's worked examples P6, P7 and P8, from the definitions.
 -- Assumes nothing.
-use mathlib.Core.Path.{_≡_, refl}
 use Prim.Native.Nat.{ℕ}
 use Prim.Native.Char.{code}
 use Prim.Native.String.{String, [] as none, _∷_ as char-and}
+use mathlib.Core.Path.{_≡_, refl}
 use mathlib.Core.List.{List, [], _∷_}
 use lib.IntN.{negsuc}
 use Rattle.hint_form.specs.Form.{base-of, integer-format, read-point, read-form}
@@ -12,9 +12,9 @@ use Rattle.character.specs.Cut.{before, cut-within, cut}
 use Rattle.hint_form.specs.Hint.{digit, mark, mark-at, mark-size, number-after, number-at, allowed, bounded, longest, numeric, passes, starred, length-place, format-place, separator-of, terminator-of, is-piece, piece-at, piece-end, piece-size, pieces-of, read-hint}
 use Rattle.character.specs.Character.{between, tail, lead-size, second-low, second-high, tails, sequence-size, character-size}
 use Rattle.hint_piece.specs.Use.{joined, passed, use-text, optional, following, one-use, uses, repeats, uses-start, uses-end}
+use Rattle.hint_integer.specs.Signed.{magnitude, signed, in-range}
 use Rattle.hint.specs.Print.{turn, printing-within, printing}
 use Rattle.hint.specs.Answer.{text, refusal, of-outcome, by-pieces, octets-verdict, by-form, integer-verdict}
-use Rattle.hint_integer.specs.Signed.{magnitude, signed, in-range}
 
 -- the bytes of a text
 unfoldable pub bytes : String → List ℕ

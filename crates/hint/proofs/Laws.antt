@@ -11,17 +11,17 @@ use lib.ListN.{length}
 use Rattle.hint_form.specs.Hint.{pieces, read-hint, is-pieces, pieces-in}
 use Rattle.hint_form.specs.Form.{read-form}
 use Rattle.hint_piece.specs.Use.{piece-text, printed, repeats, uses-start, uses-end}
-use Rattle.hint.specs.Print.{turn, printing, printing-within}
 use Rattle.hint_integer.specs.Signed.{in-range, signed}
 use Rattle.hint_form.specs.declared.Piece.{Piece}
+use Rattle.hint.specs.Print.{turn, printing, printing-within}
 use Rattle.hint_piece.proofs.Outcomes.{size-of, joined-size}
 use Rattle.digit.proofs.Sizes.{Octets}
 use Rattle.hint_piece.proofs.Bounds.{uses-size}
 use Rattle.hint_form.proofs.PieceLaws.{AllAllowed, pieces-from, pieces-allowed, hint-pieces}
-use Rattle.hint.proofs.PrintingLaws.{turn-allowed}
 use Rattle.hint_piece.proofs.UsesLaws.{uses-start-near, uses-end-is}
 use Rattle.hint_integer.proofs.SignedLaws.{magnitude-small, magnitude-size}
 use Rattle.hint_form.proofs.FormLaws.{form-usable}
+use Rattle.hint.proofs.PrintingLaws.{turn-allowed}
 
 -- printing from an octet on prints four bytes at most for each octet left
 within-size : (steps : ℕ) (ps : List Piece) (value : List ℕ) (at : ℕ) → AllAllowed ps → Octets value

@@ -11,8 +11,8 @@ use lib.ListN.{length}
 use borrow.Author.Tests.{le-leb, lt-leb, leb-true, leb-false}
 use Rattle.hint_form.specs.Hint.{piece-at, piece-end}
 use Rattle.hint_piece.specs.Use.{piece-text, Outcome, printed, joined, uses-end}
-use Rattle.hint.specs.Print.{turn, printing, printing-within}
 use Rattle.hint_form.specs.declared.Piece.{Piece}
+use Rattle.hint.specs.Print.{turn, printing, printing-within}
 use Rattle.hint_form.proofs.PieceLaws.{Readable, AllAllowed, pieces-from, piece-there, stuck-step, pieces-step, pieces-end, pieces-allowed}
 use Rattle.hint_piece.proofs.UsesLaws.{uses-end-after}
 

@@ -1,6 +1,7 @@
--- What the two calls answer and leave in the output buffer (document 01, "Printing by hint"): number, place, length, and every byte.
+-- What the two calls answer and leave in the output buffer (document 01, "Printing by hint"): number, place, length, and
+-- every byte.
 -- Assumes nothing.
-use Prim.Native.Nat.{ℕ, _+_, _-_}
+use Prim.Native.Nat.{ℕ, _-_}
 use mathlib.Core.Path.{_≡_}
 use mathlib.Core.Bool.{cond}
 use mathlib.Core.List.{List, _++_}
@@ -10,22 +11,23 @@ use lib.IntN.{ℤ}
 use Rattle.hint_form.specs.Hint.{Reading, pieces, none, read-hint}
 use Rattle.hint_form.specs.Form.{read-form}
 use Rattle.hint_piece.specs.Use.{Outcome, printed, fault}
-use Rattle.hint.specs.Print.{printing}
 use Rattle.hint_form.specs.declared.Form.{Form}
 use Rattle.hint_form.specs.declared.Form.the-variants.{Base, Point, Bad}
+use Rattle.hint_integer.specs.Signed.{signed, in-range}
+use Rattle.hint.specs.Print.{printing}
 use Rattle.hint.specs.declared.Answer.{Answer}
 use Rattle.hint.specs.declared.Answer.the-variants.{Printed, ShortBuffer, LongValue, BadHint, BadOctet, OutOfRange}
-use Rattle.hint_integer.specs.Signed.{signed, in-range}
 
 -- what a value comes to under a hint: its text, or a refusal with number and place
 pub data Verdict : Type 0 where
   text : List ℕ → Verdict
   refusal : ℕ → ℕ → Verdict
 
--- the part of the buffer that a call works on: 4,096 bytes for octets, 64 for an integer
+-- the part of the buffer that the call for octets works on
 abbrev pub octets-part : ℕ
 octets-part = 4096
 
+-- and the call for an integer
 abbrev pub integer-part : ℕ
 integer-part = 64
 
@@ -55,15 +57,17 @@ by-form Bad value = refusal 32 0
 unfoldable pub integer-verdict : ℕ → List ℕ → ℤ → Verdict
 integer-verdict room hint value = cond (ltb room integer-part) (refusal 30 0) (by-form (read-form hint) value)
 
--- number, place and length of a verdict: 0, 0 and the text's length, or the refusal's with length 0
+-- a verdict's number: 0 for a text
 unfoldable pub number : Verdict → ℕ
 number (text t) = 0
 number (refusal n place) = n
 
+-- its place: 0 for a text
 unfoldable pub place : Verdict → ℕ
 place (text t) = 0
 place (refusal n at) = at
 
+-- its length: 0 for a refusal
 unfoldable pub size : Verdict → ℕ
 size (text t) = length t
 size (refusal n at) = 0
@@ -73,7 +77,7 @@ unfoldable pub buffer : ℕ → Verdict → List ℕ → List ℕ
 buffer part (text t) before = t ++ (replicate (part - length t) 0 ++ drop part before)
 buffer part (refusal n at) before = cond (eqb n 30) before (replicate part 0 ++ drop part before)
 
--- this paper's number, place and length for each case of the answer
+-- the paper's number for each case of the answer
 abbrev pub number-of : Answer → ℕ
 number-of (Printed n) = 0
 number-of ShortBuffer = 30
@@ -82,6 +86,7 @@ number-of BadHint = 32
 number-of (BadOctet at) = 33
 number-of OutOfRange = 34
 
+-- its place
 abbrev pub place-of : Answer → ℕ
 place-of (Printed n) = 0
 place-of ShortBuffer = 0
@@ -90,6 +95,7 @@ place-of BadHint = 0
 place-of (BadOctet at) = at
 place-of OutOfRange = 0
 
+-- its length
 abbrev pub length-of : Answer → ℕ
 length-of (Printed n) = n
 length-of ShortBuffer = 0

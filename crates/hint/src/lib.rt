@@ -3,8 +3,8 @@
 mod pieces;
 
 ghost use mathlib.Core.Path.{_≡_};
-ghost use Rattle.hint.specs.Answer.{number-of, place-of, length-of, Answered, octets-verdict, integer-verdict, octets-part, integer-part};
 ghost use lib.ListN.{length};
+ghost use Rattle.hint.specs.Answer.{number-of, place-of, length-of, Answered, octets-verdict, integer-verdict, octets-part, integer-part};
 use buffer::clear;
 use hint_form::form_of;
 use hint_form::is_hint;

@@ -1,11 +1,11 @@
 // Prints octets by the pieces of a hint.
+ghost use Prim.Native.Nat.{_≤_};
 ghost use mathlib.Core.Path.{_≡_};
 ghost use mathlib.Core.Bool.{true};
-ghost use Prim.Native.Nat.{_+_, _-_, _*_, _≤_, _<_};
 ghost use lib.ListN.{length};
 ghost use Rattle.hint_form.specs.Hint.{read-hint, is-pieces, pieces-in};
-ghost use Rattle.hint.specs.Print.{printing};
 ghost use Rattle.hint_piece.specs.Followed.{Followed};
+ghost use Rattle.hint.specs.Print.{printing};
 use hint_form::Found;
 use hint_form::piece_at;
 use hint_piece::Progress;

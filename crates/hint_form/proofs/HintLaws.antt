@@ -11,11 +11,11 @@ use lib.ListN.{length}
 use borrow.Author.Tests.{leb-true, ltb-true, le-leb}
 use Rattle.buffer.specs.Buffer.{byte-at}
 use Rattle.character.specs.Cut.{Cut, whole, stuck, cut, stuck-at}
+use Rattle.character.specs.declared.Search.{Search}
+use Rattle.character.specs.declared.Search.the-variants.{At, Nowhere}
 use Rattle.hint_form.specs.Hint.{numeric, passes, digit, number-after, number-at, allowed, bounded, longest, starred, length-place, format-place, mark-size, is-piece, piece-at, piece-end, piece-size, read-hint, pieces-of, found, is-pieces}
 use Rattle.hint_form.specs.declared.Piece.{Piece}
 use Rattle.hint_form.specs.declared.Found.the-variants.{Whole, Nothing}
-use Rattle.character.specs.declared.Search.{Search}
-use Rattle.character.specs.declared.Search.the-variants.{At, Nowhere}
 use Rattle.hint_form.specs.declared.Number.{Number}
 
 -- both halves of a conjunction that holds

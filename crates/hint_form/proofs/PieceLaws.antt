@@ -9,9 +9,9 @@ use lib.Dec.{leb}
 use lib.ListN.{length}
 use borrow.Author.Tests.{leb-true}
 use Rattle.character.specs.Cut.{Cut, whole, stuck, before, cut, cut-within, stuck-at}
+use Rattle.character.specs.declared.Search.the-variants.{At, Nowhere}
 use Rattle.hint_form.specs.Hint.{Reading, none, is-piece, piece-at, piece-end, piece-size, read-hint, pieces-of, is-pieces, pieces-in}
 use Rattle.hint_form.specs.declared.Piece.{Piece}
-use Rattle.character.specs.declared.Search.the-variants.{At, Nowhere}
 use Rattle.character.proofs.CutLaws.{from, from-start, from-end, from-stuck, from-item, stuck-before}
 use Rattle.hint_form.proofs.HintLaws.{Allowed, piece-size-some, piece-size-none, piece-end-after, piece-allowed}
 

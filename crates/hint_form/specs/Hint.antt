@@ -26,7 +26,7 @@ mark b = leb 32 b && leb b 126 && not (digit b) && not (eqb b (code "*"))
 unfoldable pub mark-at : List ℕ → ℕ → ℕ
 mark-at hint i = cond (mark (byte-at hint i)) (byte-at hint i) 0
 
--- how many bytes it has
+-- how many bytes a separator or terminator has
 unfoldable pub mark-size : ℕ → ℕ
 mark-size b = cond (eqb b 0) 0 1
 
@@ -50,10 +50,11 @@ allowed first value most = not (eqb first (code "0")) && ltb 0 value && leb valu
 unfoldable pub bounded : List ℕ → ℕ → ℕ → Bool
 bounded hint i most = allowed (byte-at hint i) (number-at hint i .value) most
 
--- the formats that print octets as a number, and those that pass characters on
+-- the formats that print octets as a number
 unfoldable pub numeric : ℕ → Bool
 numeric format = eqb format (code "x") || eqb format (code "d") || eqb format (code "o")
 
+-- the formats that pass characters on
 unfoldable pub passes : ℕ → Bool
 passes format = eqb format (code "a") || eqb format (code "t")
 
@@ -65,10 +66,11 @@ longest format = cond (numeric format) 8 (cond (passes format) 255 0)
 unfoldable pub starred : List ℕ → ℕ → Bool
 starred hint i = eqb (byte-at hint i) (code "*")
 
--- where the length of the piece at i starts, and where its format stands
+-- where the length of the piece at i starts
 unfoldable pub length-place : List ℕ → ℕ → ℕ
 length-place hint i = cond (starred hint i) (i + 1) i
 
+-- where its format stands
 unfoldable pub format-place : List ℕ → ℕ → ℕ
 format-place hint i = number-at hint (length-place hint i) .next
 
@@ -107,6 +109,7 @@ pub data Reading : Type 0 where
   pieces : List Piece → Reading
   none : Reading
 
+-- the pieces at the places of a cut, or no hint
 unfoldable pub pieces-of : List ℕ → Cut → Reading
 pieces-of hint (whole places) = pieces (map (piece-at hint) places)
 pieces-of hint (stuck i) = none
@@ -119,11 +122,12 @@ read-hint hint = cond (leb 1 (length hint) && leb (length hint) 255) (pieces-of 
 unfoldable pub found : List ℕ → ℕ → Found
 found hint i = cond (is-piece hint i) (Whole (piece-at hint i) (piece-end hint i)) Nothing
 
--- whether a hint is pieces, and which
+-- whether a hint is pieces
 unfoldable pub is-pieces : Reading → Bool
 is-pieces (pieces ps) = true
 is-pieces none = false
 
+-- its pieces
 unfoldable pub pieces-in : Reading → List Piece
 pieces-in (pieces ps) = ps
 pieces-in none = []

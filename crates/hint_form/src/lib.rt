@@ -1,6 +1,6 @@
 // Reads hints: the pieces of a hint for octets, and a hint for integers.
-ghost use mathlib.Core.Path.{_≡_};
 ghost use Prim.Native.Nat.{_<_, _^_};
+ghost use mathlib.Core.Path.{_≡_};
 ghost use mathlib.Core.Bool.{cond, not, _&&_};
 ghost use lib.Dec.{eqb};
 ghost use lib.ListN.{length};
@@ -82,7 +82,7 @@ fn number_at(hint: &[u8], i: usize) -> Number
     if !is_digit(hundreds) {
         return Number { value: 0, next: i };
     }
-    let one = (hundreds - 48) as usize;
+    let one = (hundreds - b'0') as usize;
     let tens = byte_at(hint, i + 1);
     if !is_digit(tens) {
         return Number {
@@ -90,7 +90,7 @@ fn number_at(hint: &[u8], i: usize) -> Number
             next: i + 1,
         };
     }
-    let two = one * 10 + (tens - 48) as usize;
+    let two = one * 10 + (tens - b'0') as usize;
     let units = byte_at(hint, i + 2);
     if !is_digit(units) {
         return Number {
@@ -99,7 +99,7 @@ fn number_at(hint: &[u8], i: usize) -> Number
         };
     }
     Number {
-        value: two * 10 + (units - 48) as usize,
+        value: two * 10 + (units - b'0') as usize,
         next: i + 3,
     }
 }

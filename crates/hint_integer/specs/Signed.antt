@@ -1,6 +1,6 @@
 -- Printing integers by a form (document 01, "Printing by hint").
 -- Assumes nothing.
-use Prim.Native.Nat.{ℕ, suc, _-_}
+use Prim.Native.Nat.{ℕ, suc}
 use Prim.Native.Char.{code}
 use mathlib.Core.Bool.{Bool}
 use mathlib.Core.List.{List, [], _∷_}

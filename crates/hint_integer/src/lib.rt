@@ -1,12 +1,12 @@
 // Prints integers: a minus below zero, and then the magnitude.
+ghost use Prim.Native.Nat.{_+_, _≤_};
 ghost use mathlib.Core.Path.{_≡_};
 ghost use mathlib.Core.Bool.{true};
-ghost use Prim.Native.Nat.{_+_, _≤_};
 ghost use lib.IntN.{natAbs};
 ghost use lib.ListN.{length};
-ghost use Rattle.hint_integer.specs.Signed.{in-range, magnitude, signed};
 ghost use Rattle.buffer.specs.Buffer.{Wrote};
 ghost use Rattle.hint_form.specs.Form.{Usable, is-bad};
+ghost use Rattle.hint_integer.specs.Signed.{in-range, magnitude, signed};
 use buffer::put;
 use digit::print_digits;
 use digit::print_pointed;

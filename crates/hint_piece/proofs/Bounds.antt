@@ -15,10 +15,10 @@ use Rattle.hint_form.specs.Form.{base-of}
 use Rattle.character.specs.Cut.{Cut, whole, stuck}
 use Rattle.character.specs.Character.{characters}
 use Rattle.hint_form.specs.Hint.{longest, numeric, passes}
-use Rattle.hint_piece.specs.Use.{Outcome, printed, passed, use-text, optional, following, one-use, uses}
 use Rattle.hint_form.specs.declared.Piece.{Piece}
-use Rattle.hint_piece.proofs.Outcomes.{size-of, joined-size}
+use Rattle.hint_piece.specs.Use.{Outcome, printed, passed, use-text, optional, following, one-use, uses}
 use Rattle.digit.proofs.Sizes.{Octets, octets-drop, octets-take, number-short}
+use Rattle.hint_piece.proofs.Outcomes.{size-of, joined-size}
 
 -- a format whose base is 8 to 16, and whose length is 8 at most
 abbrev pub NumberFormat : ℕ → Type 0

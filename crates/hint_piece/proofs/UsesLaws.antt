@@ -1,27 +1,19 @@
 -- Laws of the uses of a piece: one step at a time, from any place; and where they start and end.
 -- Assumes nothing.
-use Prim.Native.Nat.{ℕ, zero, suc, _+_, _-_, _≤_, _<_}
-use native.Mathlib.Nat.{not-suc-le-zero}
+use Prim.Native.Nat.{ℕ, zero, suc, _+_, _-_, _≤_, _<_, _*_}
+use native.Mathlib.Nat.{not-suc-le-zero, one-mul, mul-le-mul-right, le-trans, le-of-suc-le-suc}
 use native.Mathlib.Numerals.{sub-one}
-use mathlib.Core.Path.{_≡_, refl}
-use mathlib.Core.List.{List, [], _∷_}
-use lib.ListN.{length}
-use borrow.Author.Tests.{le-leb, lt-leb, eq-eqb, ne-eqb}
-use Rattle.hint_piece.specs.Use.{printed, joined, optional, one-use, uses, fault, passed, repeats, uses-start, uses-end}
-use Rattle.hint_form.specs.declared.Piece.{Piece}
-use native.Mathlib.Omega.{arith}
-use Rattle.character.specs.Cut.{Cut, whole, stuck, stuck-at}
-use Rattle.character.specs.declared.Search.the-variants.{At, Nowhere}
-use mathlib.Core.Path.{ap}
-use Prim.Native.Nat.{ℕ, zero, suc, _+_, _-_, _*_, _≤_, _<_}
-use native.Mathlib.Nat.{one-mul, mul-le-mul-right, le-trans, le-of-suc-le-suc}
 use native.Mathlib.Omega.{arith}
 use mathlib.Core.Path.{_≡_, refl, ap}
-use mathlib.Core.Bool.{Bool, true, false, cond}
 use mathlib.Core.List.{List, [], _∷_}
+use mathlib.Core.Bool.{Bool, true, false, cond}
 use lib.ListN.{length}
-use borrow.Author.Tests.{le-leb, lt-leb}
+use borrow.Author.Tests.{le-leb, lt-leb, eq-eqb, ne-eqb}
+use Rattle.hint_form.specs.declared.Piece.{Piece}
+use Rattle.character.specs.Cut.{Cut, whole, stuck, stuck-at}
+use Rattle.character.specs.declared.Search.the-variants.{At, Nowhere}
 use Rattle.buffer.specs.Buffer.{byte-at}
+use Rattle.hint_piece.specs.Use.{printed, joined, optional, one-use, uses, fault, passed, repeats, uses-start, uses-end}
 
 -- a byte of 0 is none, and any other itself
 pub optional-none : (b : ℕ) → b ≡ 0 → optional b ≡ []

@@ -1,4 +1,4 @@
--- What printing promises of the output buffer.
+-- What printing by a piece, and by all of them, promises of the output buffer.
 -- Assumes nothing.
 use Prim.Native.Nat.{ℕ}
 use mathlib.Core.List.{List}

@@ -39,8 +39,8 @@ use-text format at octets =
 unfoldable pub optional : ℕ → List ℕ
 optional b = cond (eqb b 0) [] (b ∷ [])
 
--- the byte that follows a use after which the next octet is at a place and so many uses are left: none, 0, where no octet remains;
--- the terminator, if any, after the last; else the separator, if any
+-- the byte that follows a use after which the next octet is at a place and so many uses are left: none, 0, where no octet
+-- remains; the terminator, if any, after the last; else the separator, if any
 unfoldable pub following : Piece → ℕ → List ℕ → ℕ → ℕ
 following p left value next =
     cond (leb (length value) next) 0 (cond (eqb left 0 && not (eqb (p .terminator) 0)) (p .terminator) (p .separator))
@@ -59,10 +59,11 @@ uses (suc left) p value at =
       | false ↦ joined (one-use p left value at) (uses left p value (at + p .size))
     ]
 
--- how often a piece is used, and where its uses start: after `*` the octet there is the repeat count
+-- how often a piece is used: after `*` the octet at its place is the repeat count
 unfoldable pub repeats : Piece → List ℕ → ℕ → ℕ
 repeats p value at = cond (p .starred) (byte-at value at) 1
 
+-- where its uses start: after the repeat count
 unfoldable pub uses-start : Piece → ℕ → ℕ
 uses-start p at = cond (p .starred) (at + 1) at
 

@@ -1,10 +1,10 @@
 // Prints octets by one piece of a hint.
-ghost use mathlib.Core.Path.{_≡_};
 ghost use Prim.Native.Nat.{_+_, _-_, _*_, _≤_, _<_};
+ghost use mathlib.Core.Path.{_≡_};
 ghost use lib.ListN.{length, take, drop};
 ghost use Rattle.hint_form.specs.Hint.{longest, passes};
-ghost use Rattle.hint_piece.specs.Use.{use-text, optional, following, one-use, uses, repeats, uses-start};
 ghost use Rattle.buffer.specs.Buffer.{Wrote};
+ghost use Rattle.hint_piece.specs.Use.{use-text, optional, following, one-use, uses, repeats, uses-start};
 ghost use Rattle.hint_piece.specs.Followed.{Followed};
 use buffer::copy;
 use buffer::put;

@@ -1,8 +1,8 @@
 -- `byte_at` is right: past the end the list gives 0 too.
 -- Assumes nothing.
-use borrow.Author.Needs.{needs}
-use lib.ListN.{List·getD-eq-default}
 use mathlib.Core.Path.{sym}
+use lib.ListN.{List·getD-eq-default}
+use borrow.Author.Needs.{needs}
 use Rattle.buffer.proofs.byte_at.Statement.{statement}
 use Rattle.buffer.proofs.byte_at.Tie as tie
 

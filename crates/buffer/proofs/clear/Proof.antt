@@ -1,11 +1,11 @@
 -- `clear` is right: at i the first i bytes are 0 and the others are as they were.
 -- Assumes nothing.
-use borrow.Author.Fill.{fill-none, fill-more}
 use Prim.Native.Nat.{_≤_, _-_, ℕ, _<_}
+use native.Mathlib.Omega.{arith}
 use mathlib.Core.Path.{_≡_, ap, _∙_, refl}
 use mathlib.Core.List.{_++_, List}
-use native.Mathlib.Omega.{arith}
 use lib.ListN.{length, drop, set, replicate, length-set}
+use borrow.Author.Fill.{fill-none, fill-more}
 use Rattle.buffer.proofs.clear.Statement.{statement}
 use Rattle.buffer.proofs.clear.Tie as tie
 

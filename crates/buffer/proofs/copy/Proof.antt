@@ -1,13 +1,13 @@
 -- `copy` is right: at i the first i bytes have been written.
 -- Assumes nothing.
 use Prim.Native.Nat.{_≤_, _-_, ℕ, _<_, _+_}
-use mathlib.Core.Path.{_≡_, ap, _∙_, sym, refl}
 use native.Mathlib.Omega.{arith}
-use lib.ListN.{length, take, set, getD, length-set}
+use mathlib.Core.Path.{_≡_, ap, _∙_, sym, refl}
 use mathlib.Core.List.{List}
+use lib.ListN.{length, take, set, getD, length-set}
 use lib.Seq.{take-length}
-use Rattle.buffer.proofs.Writing.{written-next, written-none}
 use Rattle.buffer.specs.Buffer.{written}
+use Rattle.buffer.proofs.Writing.{written-next, written-none}
 use Rattle.buffer.proofs.copy.Statement.{statement}
 use Rattle.buffer.proofs.copy.Tie as tie
 

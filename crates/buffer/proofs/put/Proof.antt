@@ -1,7 +1,7 @@
 -- `put` is right: one store is the write of one byte.
 -- Assumes nothing.
-use borrow.Author.Needs.{needs}
 use mathlib.Core.Path.{refl}
+use borrow.Author.Needs.{needs}
 use Rattle.buffer.proofs.Writing.{written-one}
 use Rattle.buffer.proofs.put.Statement.{statement}
 use Rattle.buffer.proofs.put.Tie as tie

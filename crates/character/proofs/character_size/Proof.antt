@@ -1,11 +1,11 @@
 -- `character_size` is right: the format picks the case.
 -- Assumes nothing.
-use borrow.Author.Needs.{needs}
 use Prim.Native.Nat.{ℕ}
 use mathlib.Core.Path.{_≡_, sym, ap, _∙_}
 use lib.Dec.{ltb}
-use Rattle.buffer.specs.Buffer.{byte-at}
+use borrow.Author.Needs.{needs}
 use borrow.Author.Tests.{eq-eqb, ne-eqb, lt-ltb, le-ltb}
+use Rattle.buffer.specs.Buffer.{byte-at}
 use Rattle.character.proofs.character_size.Statement.{statement}
 use Rattle.character.proofs.character_size.Tie as tie
 

@@ -1,13 +1,13 @@
 -- `first_fault` is right: at i the cut from i on is stuck where the whole cut is. The measure is what is left of the octets.
 -- Assumes nothing.
 use Prim.Native.Nat.{ℕ, _+_, _-_, _<_}
-use mathlib.Core.Path.{_≡_, sym, ap, _∙_}
 use native.Mathlib.Omega.{arith}
+use mathlib.Core.Path.{_≡_, sym, ap, _∙_}
 use lib.ListN.{length}
-use Rattle.character.proofs.CharacterLaws.{character-small}
-use Rattle.character.proofs.CutLaws.{from, from-start, from-end, from-stuck, from-item, stuck-before}
 use Rattle.character.specs.Cut.{stuck-at, cut, before}
 use Rattle.character.specs.Character.{character-size}
+use Rattle.character.proofs.CharacterLaws.{character-small}
+use Rattle.character.proofs.CutLaws.{from, from-start, from-end, from-stuck, from-item, stuck-before}
 use Rattle.character.proofs.first_fault.Statement.{statement}
 use Rattle.character.proofs.first_fault.Tie as tie
 

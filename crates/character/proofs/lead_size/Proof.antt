@@ -1,7 +1,7 @@
 -- `lead_size` is right: each test that was made picks the case.
 -- Assumes nothing.
-use borrow.Author.Needs.{needs}
 use mathlib.Core.Path.{sym, _∙_}
+use borrow.Author.Needs.{needs}
 use borrow.Author.Tests.{lt-ltb, le-ltb}
 use Rattle.character.proofs.lead_size.Statement.{statement}
 use Rattle.character.proofs.lead_size.Tie as tie

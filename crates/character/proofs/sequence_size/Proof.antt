@@ -1,15 +1,15 @@
 -- `sequence_size` is right: it is the definition, octet by octet.
 -- Assumes nothing.
-use borrow.Author.Needs.{needs}
 use Prim.Native.Nat.{ℕ, _+_, _≤_, _<_}
+use native.Mathlib.Omega.{arith}
 use mathlib.Core.Path.{_≡_, sym, ap, _∙_}
 use mathlib.Core.Bool.{Bool, true, false}
 use mathlib.Core.List.{List}
-use native.Mathlib.Omega.{arith}
 use lib.Dec.{leb}
+use borrow.Author.Needs.{needs}
 use borrow.Author.Tests.{le-leb, lt-leb, not-true, not-false}
-use Rattle.character.specs.Character.{between, tail, lead-size, second-low, second-high}
 use Rattle.buffer.specs.Buffer.{byte-at}
+use Rattle.character.specs.Character.{between, tail, lead-size, second-low, second-high}
 use Rattle.character.proofs.sequence_size.Statement.{statement}
 use Rattle.character.proofs.sequence_size.Tie as tie
 

@@ -2,23 +2,23 @@
 -- quotient by the base is below n, so n is the measure.
 -- Assumes nothing.
 use Prim.Native.Nat.{ℕ, _/_, _≤_, _<_}
-use borrow.Fn.Kinds.{In}
-use borrow.Fn.PlainCycle.{Measures, is, falls, and}
 use native.Mathlib.Omega.{arith}
 use native.Mathlib.Nat.{mod-lt}
 use mathlib.Core.Path.{_≡_, sym, ap, _∙_}
 use mathlib.Core.List.{List, [], _∷_, _++_}
 use lib.ListN.{length}
-use Rattle.digit.proofs.DigitLaws.{quotient-less, digits-last, digits-step, digits-longer}
-use Rattle.buffer.proofs.Writing.{wrote-more, wrote-as}
+use borrow.Fn.Kinds.{In}
+use borrow.Fn.PlainCycle.{Measures, is, falls, and}
 use Rattle.digit.specs.Digits.{digits}
+use Rattle.buffer.proofs.Writing.{wrote-more, wrote-as}
+use Rattle.digit.proofs.DigitLaws.{quotient-less, digits-last, digits-step, digits-longer}
+use Rattle.digit.proofs.+print_digits.{statement}
+use Rattle.digit.proofs.+print_digits.Tie.{close}
 use Rattle.digit.proofs.print_digits.Reads as print-digits
 use Rattle.digit.proofs.print_digits.Kinds as print-digits-kinds
 use Rattle.digit.proofs.+print_digits.Lts-print_digits as print-digits-lts
 use Rattle.buffer.proofs.put.Reads as put-reads
 use Rattle.digit.proofs.glyph_of.Reads as glyph-of-reads
-use Rattle.digit.proofs.+print_digits.{statement}
-use Rattle.digit.proofs.+print_digits.Tie.{close}
 
 abbrev μ-print-digits : Measures 1 print-digits-kinds.ps ℕ
 μ-print-digits κs a = a .0

@@ -2,24 +2,24 @@
 -- Assumes nothing.
 use Prim.Native.Nat.{ℕ, _/_, _-_, _≤_, _<_}
 use Prim.Native.Char.{code}
-use borrow.Fn.Kinds.{In}
-use borrow.Fn.PlainCycle.{Measures, is, falls, and}
 use native.Mathlib.Omega.{arith}
 use mathlib.Core.Path.{_≡_, sym, ap, _∙_}
 use mathlib.Core.List.{List, [], _∷_, _++_}
 use lib.ListN.{length, length-append}
 use lib.Dec.{lit≤}
-use Rattle.digit.proofs.DigitLaws.{pointed-none, pointed-step, pointed-longer}
-use Rattle.buffer.proofs.Writing.{wrote-more, wrote-as}
+use borrow.Fn.Kinds.{In}
+use borrow.Fn.PlainCycle.{Measures, is, falls, and}
 use Rattle.digit.specs.Digits.{digits, pointed}
+use Rattle.buffer.proofs.Writing.{wrote-more, wrote-as}
+use Rattle.digit.proofs.DigitLaws.{pointed-none, pointed-step, pointed-longer}
+use Rattle.digit.proofs.+print_pointed.{statement}
+use Rattle.digit.proofs.+print_pointed.Tie.{close}
 use Rattle.digit.proofs.print_pointed.Reads as print-pointed
 use Rattle.digit.proofs.print_pointed.Kinds as print-pointed-kinds
 use Rattle.digit.proofs.+print_pointed.Lts-print_pointed as print-pointed-lts
 use Rattle.buffer.proofs.put.Reads as put-reads
 use Rattle.digit.proofs.glyph_of.Reads as glyph-of-reads
 use Rattle.digit.proofs.print_digits.Reads as print-digits-reads
-use Rattle.digit.proofs.+print_pointed.{statement}
-use Rattle.digit.proofs.+print_pointed.Tie.{close}
 
 abbrev μ-print-pointed : Measures 1 print-pointed-kinds.ps ℕ
 μ-print-pointed κs a = a .1 .0

@@ -1,15 +1,15 @@
 -- `big_endian` is right: at i the octets from i on, after those that were read, are worth the same. What was read is below 256 ^ i.
 -- Assumes nothing.
 use Prim.Native.Nat.{ℕ, _+_, _-_, _*_, _^_, _<_, _≤_}
-use mathlib.Core.Path.{_≡_, refl, sym, ap, _∙_}
 use native.Mathlib.Omega.{arith}
 use native.Mathlib.Nat.{pow-suc}
 use native.Mathlib.Numerals.{add-one}
+use mathlib.Core.Path.{_≡_, refl, sym, ap, _∙_}
 use lib.Dec.{lit<}
 use lib.ListN.{length, getD, drop}
 use lib.Seq.{drop-cons, drop-length}
-use Rattle.digit.proofs.DigitLaws.{power-fits}
 use Rattle.digit.specs.Digits.{big-endian}
+use Rattle.digit.proofs.DigitLaws.{power-fits}
 use Rattle.digit.proofs.big_endian.Statement.{statement}
 use Rattle.digit.proofs.big_endian.Tie as tie
 

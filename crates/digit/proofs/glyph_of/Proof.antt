@@ -1,7 +1,7 @@
 -- `glyph_of` is right: the test picks the case.
 -- Assumes nothing.
-use borrow.Author.Needs.{needs}
 use native.Mathlib.Omega.{arith}
+use borrow.Author.Needs.{needs}
 use borrow.Author.Tests.{lt-ltb, le-ltb}
 use Rattle.digit.proofs.glyph_of.Statement.{statement}
 use Rattle.digit.proofs.glyph_of.Tie as tie

@@ -1,23 +1,23 @@
 -- `integer` is right: the tests are the verdict's, in its order; the part is zeroed before the text is written.
 -- Assumes nothing.
-use borrow.Author.Needs.{needs}
 use Prim.Native.Nat.{ℕ}
-use Rattle.buffer.proofs.Writing.{wrote-as}
+use native.Mathlib.Omega.{arith}
 use mathlib.Core.Path.{_≡_, refl, ap, sym, subst, _∙_}
 use mathlib.Core.List.{List}
-use native.Mathlib.Omega.{arith}
-use borrow.Author.Tests.{not-true, not-false}
 use lib.ListN.{length, length-take}
 use mir.Facts.{toZ-ofZ}
 use mir.Syntax.{w64}
 use mir.Val.{toZ, ofZ}
-use Rattle.hint_form.proofs.FormLaws.{form-usable}
-use Rattle.hint.proofs.Answers.{answered-short, answered-refusal, answered-text, integer-short, integer-hint, integer-range, integer-text}
-use Rattle.hint.specs.declared.Answer.the-variants.{BadHint, OutOfRange}
+use borrow.Author.Needs.{needs}
+use borrow.Author.Tests.{not-true, not-false}
 use Rattle.hint_form.specs.declared.Form.{Form}
-use Rattle.hint.specs.Answer.{Verdict, integer-verdict}
 use Rattle.hint_integer.specs.Signed.{in-range, signed}
 use Rattle.hint_form.specs.Form.{Usable, is-bad, read-form}
+use Rattle.hint.specs.declared.Answer.the-variants.{BadHint, OutOfRange}
+use Rattle.hint.specs.Answer.{Verdict, integer-verdict}
+use Rattle.buffer.proofs.Writing.{wrote-as}
+use Rattle.hint_form.proofs.FormLaws.{form-usable}
+use Rattle.hint.proofs.Answers.{answered-short, answered-refusal, answered-text, integer-short, integer-hint, integer-range, integer-text}
 use Rattle.hint.proofs.integer.Statement.{statement}
 use Rattle.hint.proofs.integer.Tie as tie
 

@@ -1,23 +1,23 @@
 -- `octets` is right: the tests are the verdict's, in its order; the part is zeroed before anything is written, and again
 -- after a fault.
 -- Assumes nothing.
-use borrow.Author.Needs.{needs}
-use mathlib.Core.List.{List}
 use Prim.Native.Nat.{ℕ, _≤_}
-use Rattle.hint_piece.proofs.Outcomes.{followed-as}
-use Rattle.hint_piece.specs.Use.{Outcome}
-use mathlib.Core.Path.{_≡_, refl, sym, _∙_}
 use native.Mathlib.Omega.{arith}
-use borrow.Author.Tests.{not-true, not-false}
+use mathlib.Core.List.{List}
+use mathlib.Core.Path.{_≡_, refl, sym, _∙_}
 use lib.ListN.{length, take, length-take}
-use Rattle.hint.proofs.Answers.{answered-short, answered-refusal, answered-printed, zeros-again, fault-refusal, octets-short, octets-long, octets-hint, octets-printed}
+use borrow.Author.Needs.{needs}
+use borrow.Author.Tests.{not-true, not-false}
+use Rattle.hint_piece.specs.Use.{Outcome}
 use Rattle.hint_piece.specs.declared.Progress.the-variants.{To, Fault}
 use Rattle.hint_piece.specs.declared.Progress.{Progress}
-use Rattle.hint.specs.declared.Answer.the-variants.{LongValue, BadHint, BadOctet}
-use Rattle.hint.specs.Answer.{Verdict, of-outcome, octets-verdict}
 use Rattle.hint_piece.specs.Followed.{Followed}
 use Rattle.hint_form.specs.Hint.{pieces-in, read-hint}
+use Rattle.hint.specs.declared.Answer.the-variants.{LongValue, BadHint, BadOctet}
+use Rattle.hint.specs.Answer.{Verdict, of-outcome, octets-verdict}
 use Rattle.hint.specs.Print.{printing}
+use Rattle.hint_piece.proofs.Outcomes.{followed-as}
+use Rattle.hint.proofs.Answers.{answered-short, answered-refusal, answered-printed, zeros-again, fault-refusal, octets-short, octets-long, octets-hint, octets-printed}
 use Rattle.hint.proofs.octets.Statement.{statement}
 use Rattle.hint.proofs.octets.Tie as tie
 

@@ -1,15 +1,15 @@
 -- `form_of` is right: the length and the letter pick the case.
 -- Assumes nothing.
-use borrow.Author.Needs.{needs}
 use Prim.Native.Char.{code}
 use mathlib.Core.Path.{_≡_, sym, ap, _∙_}
 use mathlib.Core.Bool.{true, false}
 use mathlib.Core.Logic.{⊎-elim, inl, inr}
 use lib.Dec.{eqb}
+use borrow.Author.Needs.{needs}
 use borrow.Author.Tests.{eq-eqb, ne-eqb}
+use Rattle.buffer.specs.Buffer.{byte-at}
 use Rattle.hint_form.specs.declared.Form.the-variants.{Base}
 use Rattle.hint_form.specs.Form.{base-of, integer-format}
-use Rattle.buffer.specs.Buffer.{byte-at}
 use Rattle.hint_form.proofs.form_of.Statement.{statement}
 use Rattle.hint_form.proofs.form_of.Tie as tie
 

@@ -1,18 +1,18 @@
 -- `is_hint` is right: at i the cut from i on is stuck where the whole cut is. The measure is what is left of the hint.
 -- Assumes nothing.
 use Prim.Native.Nat.{ℕ, _-_}
-use mathlib.Core.Path.{_≡_, sym, ap, _∙_}
 use native.Mathlib.Omega.{arith}
-use borrow.Author.Needs.{needs}
+use mathlib.Core.Path.{_≡_, sym, ap, _∙_}
 use mathlib.Core.Bool.{true}
 use mathlib.Core.List.{List}
 use lib.ListN.{length}
+use borrow.Author.Needs.{needs}
 use borrow.Author.Tests.{lt-leb, le-leb}
-use Rattle.hint_form.proofs.HintLaws.{found-whole, found-nothing, piece-size-none, piece-end-after, pieces-whole, nowhere}
-use Rattle.character.proofs.CutLaws.{from-start, from-end, from-stuck}
-use Rattle.hint_form.proofs.PieceLaws.{cut-from, stuck-step}
 use Rattle.character.specs.Cut.{stuck-at, cut}
 use Rattle.hint_form.specs.Hint.{is-piece, piece-end, piece-size}
+use Rattle.character.proofs.CutLaws.{from-start, from-end, from-stuck}
+use Rattle.hint_form.proofs.HintLaws.{found-whole, found-nothing, piece-size-none, piece-end-after, pieces-whole, nowhere}
+use Rattle.hint_form.proofs.PieceLaws.{cut-from, stuck-step}
 use Rattle.hint_form.proofs.is_hint.Statement.{statement}
 use Rattle.hint_form.proofs.is_hint.Tie as tie
 

@@ -1,7 +1,7 @@
 -- `is_mark` is right: each test that was made settles the conjunction.
 -- Assumes nothing.
-use borrow.Author.Needs.{needs}
 use mathlib.Core.Path.{sym, _∙_}
+use borrow.Author.Needs.{needs}
 use borrow.Author.Tests.{lt-leb, le-leb}
 use Rattle.hint_form.proofs.is_mark.Statement.{statement}
 use Rattle.hint_form.proofs.is_mark.Tie as tie

@@ -1,10 +1,10 @@
 -- `is_starred` is right: it is the definition.
 -- Assumes nothing.
-use borrow.Author.Needs.{needs}
 use Prim.Native.Nat.{ℕ}
 use Prim.Native.Char.{code}
 use mathlib.Core.Path.{ap}
 use lib.Dec.{eqb}
+use borrow.Author.Needs.{needs}
 use Rattle.hint_form.proofs.is_starred.Statement.{statement}
 use Rattle.hint_form.proofs.is_starred.Tie as tie
 

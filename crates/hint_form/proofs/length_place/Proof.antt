@@ -1,10 +1,10 @@
 -- `length_place` is right: the test picks the case.
 -- Assumes nothing.
-use borrow.Author.Needs.{needs}
 use Prim.Native.Nat.{ℕ}
 use Prim.Native.Char.{code}
 use mathlib.Core.Path.{sym, ap, _∙_}
 use lib.Dec.{eqb}
+use borrow.Author.Needs.{needs}
 use borrow.Author.Tests.{eq-eqb, ne-eqb}
 use Rattle.hint_form.proofs.length_place.Statement.{statement}
 use Rattle.hint_form.proofs.length_place.Tie as tie

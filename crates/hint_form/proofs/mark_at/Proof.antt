@@ -1,7 +1,7 @@
 -- `mark_at` is right: the test picks the case.
 -- Assumes nothing.
-use borrow.Author.Needs.{needs}
 use mathlib.Core.Path.{sym, ap, _∙_}
+use borrow.Author.Needs.{needs}
 use Rattle.hint_form.specs.Hint.{mark}
 use Rattle.hint_form.proofs.mark_at.Statement.{statement}
 use Rattle.hint_form.proofs.mark_at.Tie as tie

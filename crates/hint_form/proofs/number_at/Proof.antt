@@ -1,15 +1,15 @@
 -- `number_at` is right: each digit that was read is one step of the definition.
 -- Assumes nothing.
-use borrow.Author.Needs.{needs}
-use mathlib.Core.Path.{sym, ap, _∙_, _≡_}
-use borrow.Author.Tests.{not-true, not-false}
-use native.Mathlib.Omega.{arith}
 use Prim.Native.Nat.{ℕ, _+_}
+use native.Mathlib.Omega.{arith}
+use mathlib.Core.Path.{sym, ap, _∙_, _≡_}
 use mathlib.Core.Bool.{true}
 use mathlib.Core.List.{List}
-use Rattle.hint_form.proofs.HintLaws.{digit-low, number-is}
+use borrow.Author.Needs.{needs}
+use borrow.Author.Tests.{not-true, not-false}
 use Rattle.buffer.specs.Buffer.{byte-at}
 use Rattle.hint_form.specs.Hint.{digit}
+use Rattle.hint_form.proofs.HintLaws.{digit-low, number-is}
 use Rattle.hint_form.proofs.number_at.Statement.{statement}
 use Rattle.hint_form.proofs.number_at.Tie as tie
 

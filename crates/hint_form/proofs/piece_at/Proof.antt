@@ -1,18 +1,18 @@
 -- `piece_at` is right: what it reads is what the definition names, part by part.
 -- Assumes nothing.
-use borrow.Author.Needs.{needs}
 use Prim.Native.Nat.{ℕ, _+_, _≤_}
+use native.Mathlib.Omega.{arith}
 use mathlib.Core.Path.{_≡_, sym, ap, _∙_}
 use mathlib.Core.Bool.{Bool, cond, not, _&&_}
 use mathlib.Core.List.{List}
-use native.Mathlib.Omega.{arith}
 use lib.Dec.{eqb}
+use borrow.Author.Needs.{needs}
 use borrow.Author.Tests.{not-true, not-false}
-use Rattle.hint_form.proofs.HintLaws.{length-place-near, number-next, mark-size-small}
+use Rattle.buffer.specs.Buffer.{byte-at}
 use Rattle.hint_form.specs.declared.Found.the-variants.{Whole}
 use Rattle.hint_form.specs.declared.Number.{Number}
 use Rattle.hint_form.specs.Hint.{number-at, allowed, longest, length-place, format-place, mark-at, mark-size, separator-of, terminator-of, starred, bounded, is-piece, piece-end}
-use Rattle.buffer.specs.Buffer.{byte-at}
+use Rattle.hint_form.proofs.HintLaws.{length-place-near, number-next, mark-size-small}
 use Rattle.hint_form.proofs.piece_at.Statement.{statement}
 use Rattle.hint_form.proofs.piece_at.Tie as tie
 

@@ -1,6 +1,5 @@
 -- `point_of` is right: each test that was made settles the conjunction.
 -- Assumes nothing.
-use borrow.Author.Needs.{needs}
 use Prim.Native.Nat.{ℕ}
 use Prim.Native.Char.{code}
 use mathlib.Core.Path.{_≡_, sym, ap, _∙_}
@@ -8,11 +7,12 @@ use mathlib.Core.Bool.{true, false}
 use mathlib.Core.List.{List}
 use lib.Dec.{eqb, lit<}
 use lib.ListN.{length}
+use borrow.Author.Needs.{needs}
 use borrow.Author.Tests.{eq-eqb, ne-eqb, not-true, not-false}
+use Rattle.buffer.specs.Buffer.{byte-at}
 use Rattle.hint_form.specs.declared.Form.the-variants.{Point}
 use Rattle.hint_form.specs.declared.Number.{Number}
 use Rattle.hint_form.specs.Hint.{number-at, allowed}
-use Rattle.buffer.specs.Buffer.{byte-at}
 use Rattle.hint_form.proofs.point_of.Statement.{statement}
 use Rattle.hint_form.proofs.point_of.Tie as tie
 

@@ -1,14 +1,14 @@
 -- `magnitude_of` is right: below zero the integer is negated within its bounds, and is then its magnitude.
 -- Assumes nothing.
-use borrow.Author.Needs.{needs}
-use mathlib.Core.Path.{_≡_, ap, sym, subst, _∙_}
 use native.Mathlib.Omega.{arith}
+use mathlib.Core.Path.{_≡_, ap, sym, subst, _∙_}
 use lib.Dec.{T}
 use lib.IntN.{ℤ, pos, natAbs, _-ℤ_}
 use lib.Signed.{ltZ, nonNeg}
 use mir.Syntax.{w64}
 use mir.Val.{Fits, SFits, toZ, ofZ}
 use mir.Facts.{toZ-ofZ}
+use borrow.Author.Needs.{needs}
 use Rattle.hint_integer.proofs.SignedLaws.{negated, not-negative, magnitude-small}
 use Rattle.hint_integer.proofs.magnitude_of.Statement.{statement}
 use Rattle.hint_integer.proofs.magnitude_of.Tie as tie

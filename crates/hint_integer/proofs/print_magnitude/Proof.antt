@@ -1,13 +1,13 @@
 -- `print_magnitude` is right: the form picks the case.
 -- Assumes nothing.
-use borrow.Author.Needs.{needs}
-use mathlib.Core.Path.{ap, sym, subst}
 use native.Mathlib.Omega.{arith}
+use mathlib.Core.Path.{ap, sym, subst}
 use lib.ListN.{length}
-use Rattle.buffer.proofs.Writing.{wrote-as, wrote-none}
+use borrow.Author.Needs.{needs}
 use Rattle.hint_form.specs.declared.Form.{Form}
 use Rattle.hint_form.specs.Form.{Usable}
 use Rattle.hint_integer.specs.Signed.{magnitude}
+use Rattle.buffer.proofs.Writing.{wrote-as, wrote-none}
 use Rattle.hint_integer.proofs.print_magnitude.Statement.{statement}
 use Rattle.hint_integer.proofs.print_magnitude.Tie as tie
 

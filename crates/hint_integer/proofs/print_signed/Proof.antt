@@ -1,18 +1,18 @@
 -- `print_signed` is right: below zero the minus comes first and then the magnitude, which leaves room in 64 bytes.
 -- Assumes nothing.
-use borrow.Author.Needs.{needs}
 use Prim.Native.Nat.{ℕ, _≤_}
 use Prim.Native.Char.{code}
+use native.Mathlib.Omega.{arith}
 use mathlib.Core.Path.{_≡_, ap, sym, _∙_}
 use mathlib.Core.List.{List, _∷_}
-use native.Mathlib.Omega.{arith}
 use lib.IntN.{ℤ, pos, natAbs}
 use lib.Signed.{ltZ}
 use lib.ListN.{length}
 use mir.Facts.{toZ-ofZ}
-use Rattle.hint_integer.proofs.SignedLaws.{magnitude-small, magnitude-size, signed-negative, signed-other}
-use Rattle.buffer.proofs.Writing.{wrote-more, wrote-as}
+use borrow.Author.Needs.{needs}
 use Rattle.hint_integer.specs.Signed.{magnitude}
+use Rattle.buffer.proofs.Writing.{wrote-more, wrote-as}
+use Rattle.hint_integer.proofs.SignedLaws.{magnitude-small, magnitude-size, signed-negative, signed-other}
 use Rattle.hint_integer.proofs.print_signed.Statement.{statement}
 use Rattle.hint_integer.proofs.print_signed.Tie as tie
 

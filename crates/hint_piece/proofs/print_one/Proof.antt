@@ -1,21 +1,21 @@
 -- `print_one` is right: the text of the use is followed by the byte that the definition names, and the bound on a use leaves
 -- room for it.
 -- Assumes nothing.
-use borrow.Author.Needs.{needs}
 use Prim.Native.Nat.{ℕ, _+_, _-_, _*_, _≤_, min}
+use native.Mathlib.Omega.{arith}
 use mathlib.Core.Path.{_≡_, ap}
 use mathlib.Core.List.{List}
-use native.Mathlib.Omega.{arith}
 use lib.ListN.{length, take, drop}
-use Rattle.hint_piece.proofs.Bounds.{use-size, octets-size, optional-size}
-use Rattle.digit.proofs.Sizes.{Octets, octets-take, octets-drop}
-use Rattle.hint_form.proofs.HintLaws.{longest-small}
-use Rattle.hint_piece.proofs.Outcomes.{size-of, followed-as, followed-next, followed-joined, followed-fault}
+use borrow.Author.Needs.{needs}
 use Rattle.hint_piece.specs.declared.Progress.the-variants.{To, Fault}
 use Rattle.hint_piece.specs.declared.Progress.{Progress}
-use Rattle.buffer.proofs.Writing.{wrote-as}
 use Rattle.hint_piece.specs.Followed.{Followed, wrote}
 use Rattle.hint_piece.specs.Use.{Outcome, use-text, optional, following, printed}
+use Rattle.digit.proofs.Sizes.{Octets, octets-take, octets-drop}
+use Rattle.hint_form.proofs.HintLaws.{longest-small}
+use Rattle.buffer.proofs.Writing.{wrote-as}
+use Rattle.hint_piece.proofs.Bounds.{use-size, octets-size, optional-size}
+use Rattle.hint_piece.proofs.Outcomes.{size-of, followed-as, followed-next, followed-joined, followed-fault}
 use Rattle.hint_piece.proofs.print_one.Statement.{statement}
 use Rattle.hint_piece.proofs.print_one.Tie as tie
 

@@ -1,21 +1,21 @@
 -- `print_use` is right: the format picks the case, and the bound on a use says that the text fits.
 -- Assumes nothing.
-use borrow.Author.Needs.{needs}
 use Prim.Native.Nat.{ℕ}
-use mathlib.Core.Path.{_≡_, ap, sym, _∙_}
 use native.Mathlib.Omega.{arith}
+use mathlib.Core.Path.{_≡_, ap, sym, _∙_}
 use lib.ListN.{length}
+use borrow.Author.Needs.{needs}
 use borrow.Author.Tests.{not-true, not-false}
-use Rattle.hint_piece.proofs.Bounds.{NumberFormat, number-format}
-use Rattle.hint_form.proofs.HintLaws.{longest-small}
-use Rattle.digit.proofs.Sizes.{Octets, number-short}
-use Rattle.hint_piece.proofs.UsesLaws.{passed-stuck, passed-whole}
-use Rattle.character.proofs.CutLaws.{stuck-there, stuck-below}
-use Rattle.buffer.proofs.Writing.{wrote-as}
-use Rattle.hint_piece.specs.Followed.{wrote, failed}
 use Rattle.character.specs.Character.{character-size, characters}
 use Rattle.digit.specs.Digits.{digits, big-endian}
 use Rattle.hint_form.specs.Form.{base-of}
+use Rattle.hint_piece.specs.Followed.{wrote, failed}
+use Rattle.hint_form.proofs.HintLaws.{longest-small}
+use Rattle.digit.proofs.Sizes.{Octets, number-short}
+use Rattle.character.proofs.CutLaws.{stuck-there, stuck-below}
+use Rattle.buffer.proofs.Writing.{wrote-as}
+use Rattle.hint_piece.proofs.Bounds.{NumberFormat, number-format}
+use Rattle.hint_piece.proofs.UsesLaws.{passed-stuck, passed-whole}
 use Rattle.hint_piece.proofs.print_use.Statement.{statement}
 use Rattle.hint_piece.proofs.print_use.Tie as tie
 

@@ -2,20 +2,20 @@
 -- measure is the uses left.
 -- Assumes nothing.
 use Prim.Native.Nat.{ℕ, _+_, _-_, _*_, _≤_, min}
+use native.Mathlib.Omega.{arith}
 use mathlib.Core.Path.{_≡_, refl, sym, _∙_}
 use mathlib.Core.List.{List}
-use native.Mathlib.Omega.{arith}
-use borrow.Author.Needs.{needs}
 use lib.ListN.{length}
-use Rattle.hint_piece.proofs.UsesLaws.{uses-none, uses-past, uses-step}
-use Rattle.hint_piece.proofs.Bounds.{one-size}
-use Rattle.hint_form.proofs.HintLaws.{longest-small}
-use Rattle.digit.proofs.Sizes.{Octets}
-use Rattle.hint_piece.proofs.Outcomes.{size-of, followed-as, followed-none, followed-next, followed-joined, followed-fault}
+use borrow.Author.Needs.{needs}
 use Rattle.hint_piece.specs.declared.Progress.the-variants.{To, Fault}
 use Rattle.hint_piece.specs.declared.Progress.{Progress}
 use Rattle.hint_piece.specs.Followed.{Followed}
 use Rattle.hint_piece.specs.Use.{Outcome, joined, one-use, uses}
+use Rattle.hint_form.proofs.HintLaws.{longest-small}
+use Rattle.digit.proofs.Sizes.{Octets}
+use Rattle.hint_piece.proofs.UsesLaws.{uses-none, uses-past, uses-step}
+use Rattle.hint_piece.proofs.Bounds.{one-size}
+use Rattle.hint_piece.proofs.Outcomes.{size-of, followed-as, followed-none, followed-next, followed-joined, followed-fault}
 use Rattle.hint_piece.proofs.print_uses.Statement.{statement}
 use Rattle.hint_piece.proofs.print_uses.Tie as tie
 

@@ -1,11 +1,11 @@
 -- `put_optional` is right: 0 writes nothing, any other byte itself.
 -- Assumes nothing.
-use borrow.Author.Needs.{needs}
-use mathlib.Core.Path.{ap, sym}
 use native.Mathlib.Omega.{arith}
+use mathlib.Core.Path.{ap, sym}
 use lib.ListN.{length}
-use Rattle.hint_piece.proofs.UsesLaws.{optional-none, optional-some}
+use borrow.Author.Needs.{needs}
 use Rattle.buffer.proofs.Writing.{wrote-as, wrote-none}
+use Rattle.hint_piece.proofs.UsesLaws.{optional-none, optional-some}
 use Rattle.hint_piece.proofs.put_optional.Statement.{statement}
 use Rattle.hint_piece.proofs.put_optional.Tie as tie
 

@@ -1,7 +1,7 @@
 -- `repeats_of` is right: the test picks the case.
 -- Assumes nothing.
-use borrow.Author.Needs.{needs}
 use native.Mathlib.Omega.{arith}
+use borrow.Author.Needs.{needs}
 use Rattle.hint_piece.proofs.repeats_of.Statement.{statement}
 use Rattle.hint_piece.proofs.repeats_of.Tie as tie
 

@@ -1,11 +1,11 @@
 -- `use_octets` is right: where fewer octets are left than the length says, taking more takes the same.
 -- Assumes nothing.
-use borrow.Author.Needs.{needs}
 use Prim.Native.Nat.{ℕ, _-_, _+_}
-use mathlib.Core.Path.{ap, sym, _∙_, _≡_}
 use native.Mathlib.Omega.{arith}
+use mathlib.Core.Path.{ap, sym, _∙_, _≡_}
 use lib.ListN.{take, drop, length, length-drop}
 use lib.Seq.{take-all}
+use borrow.Author.Needs.{needs}
 use Rattle.hint_piece.proofs.use_octets.Statement.{statement}
 use Rattle.hint_piece.proofs.use_octets.Tie as tie
 

@@ -2,19 +2,12 @@
 -- whole. The measure is the octets left.
 -- Assumes nothing.
 use Prim.Native.Nat.{ℕ, _+_, _-_, _*_, _≤_, _<_}
+use native.Mathlib.Omega.{arith}
 use mathlib.Core.Path.{_≡_, refl, ap, sym, subst, _∙_}
 use mathlib.Core.Bool.{true}
 use mathlib.Core.List.{List}
-use native.Mathlib.Omega.{arith}
-use borrow.Author.Needs.{needs}
 use lib.ListN.{length}
-use Rattle.hint_form.proofs.PieceLaws.{cut-from, Readable, pieces-from, pieces-allowed, piece-there, stuck-step, hint-pieces}
-use Rattle.hint.proofs.PrintingLaws.{Turned, print-from, print-start, print-end, print-turn, turn-next, turn-last, turn-either}
-use Rattle.hint_piece.proofs.UsesLaws.{uses-start-near, uses-octets-small, uses-end-after, uses-end-is}
-use Rattle.digit.proofs.Sizes.{Octets}
-use Rattle.hint_piece.proofs.Bounds.{uses-size}
-use Rattle.hint_form.proofs.HintLaws.{Allowed, longest-small, found-whole, found-nothing, piece-allowed}
-use Rattle.hint_piece.proofs.Outcomes.{followed-as, followed-none, followed-next, followed-joined, followed-fault}
+use borrow.Author.Needs.{needs}
 use Rattle.hint_piece.specs.declared.Progress.the-variants.{To, Fault}
 use Rattle.hint_piece.specs.declared.Progress.{Progress}
 use Rattle.hint_form.specs.declared.Piece.{Piece}
@@ -23,6 +16,13 @@ use Rattle.character.specs.Cut.{stuck-at}
 use Rattle.hint_form.specs.Hint.{pieces-in, is-piece, piece-at, piece-end, read-hint}
 use Rattle.hint_piece.specs.Use.{piece-text, Outcome, uses, repeats, uses-start, uses-end}
 use Rattle.hint.specs.Print.{printing}
+use Rattle.hint_form.proofs.PieceLaws.{cut-from, Readable, pieces-from, pieces-allowed, piece-there, stuck-step, hint-pieces}
+use Rattle.hint_piece.proofs.UsesLaws.{uses-start-near, uses-octets-small, uses-end-after, uses-end-is}
+use Rattle.digit.proofs.Sizes.{Octets}
+use Rattle.hint_piece.proofs.Bounds.{uses-size}
+use Rattle.hint_form.proofs.HintLaws.{Allowed, longest-small, found-whole, found-nothing, piece-allowed}
+use Rattle.hint_piece.proofs.Outcomes.{followed-as, followed-none, followed-next, followed-joined, followed-fault}
+use Rattle.hint.proofs.PrintingLaws.{Turned, print-from, print-start, print-end, print-turn, turn-next, turn-last, turn-either}
 use Rattle.hint.proofs.pieces.print_pieces.Statement.{statement}
 use Rattle.hint.proofs.pieces.print_pieces.Tie as tie
 
