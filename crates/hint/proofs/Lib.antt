@@ -1,13 +1,4 @@
-pub mod Writing
-pub mod DigitLaws
-pub mod HintLaws
-pub mod CutLaws
-pub mod CharacterLaws
-pub mod Outcomes
-pub mod Bounds
-pub mod UsesLaws
 pub mod PrintingLaws
-pub mod SignedLaws
 pub mod Answers
 pub mod Laws
 pub mod Examples

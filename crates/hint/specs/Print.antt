@@ -1,76 +1,12 @@
--- Printing octets by pieces (document 01, "Printing by hint"): pieces, their uses, the octets of a use.
+-- Printing octets by pieces (document 01, "Printing by hint"): the pieces in turn, the last of which repeats.
 -- Assumes nothing.
-use Prim.Native.Nat.{ℕ, zero, suc, _+_, _*_}
-use mathlib.Core.Bool.{Bool, true, false, cond, not, _&&_, _||_}
-use mathlib.Core.List.{List, [], _∷_, _++_}
-use lib.Dec.{leb, eqb}
-use lib.ListN.{length, take, drop}
-use Rattle.hint.specs.Buffer.{byteAt}
-use Rattle.hint.specs.Digits.{baseOf, digits, bigEndian}
-use Rattle.hint.specs.Cut.{Cut, whole, stuck, cut}
-use Rattle.hint.specs.Character.{characterSize}
-use Rattle.hint.specs.declared.Piece.{Piece}
-
--- what printing comes to: the bytes, or the place of the first octet that isn't of its format
-pub data Outcome : Type 0 where
-  printed : List ℕ → Outcome
-  fault : ℕ → Outcome
-
--- one after the other; the first fault decides
-unfoldable pub joined : Outcome → Outcome → Outcome
-joined (printed a) (printed b) = printed (a ++ b)
-joined (printed a) (fault place) = fault place
-joined (fault place) o = fault place
-
--- the formats that pass characters on
-unfoldable pub passes : ℕ → Bool
-passes format = eqb format 97 || eqb format 116
-
--- octets that were cut into characters are printed as they are; the place of a fault counts from the value's start
-unfoldable pub passed : ℕ → List ℕ → Cut → Outcome
-passed at octets (whole places) = printed octets
-passed at octets (stuck i) = fault (at + i)
-
--- the octets of one use, which start at a place of the value: a and t pass them on, x d o print a big-endian number
-unfoldable pub useText : ℕ → ℕ → List ℕ → Outcome
-useText format at octets =
-    cond (passes format) (passed at octets (cut (characterSize format octets) (length octets)))
-    (printed (digits (baseOf format) (bigEndian 0 octets)))
-
--- one byte, or none where it is 0
-unfoldable pub optional : ℕ → List ℕ
-optional b = cond (eqb b 0) [] (b ∷ [])
-
--- the byte that follows a use after which the next octet is at a place and so many uses are left: none, 0, where no octet remains;
--- the terminator, if any, after the last; else the separator, if any
-unfoldable pub following : Piece → ℕ → List ℕ → ℕ → ℕ
-following p left value next =
-    cond (leb (length value) next) 0 (cond (eqb left 0 && not (eqb (p .terminator) 0)) (p .terminator) (p .separator))
-
--- one use at a place, with so many left after it: its octets' text and what follows
-unfoldable pub oneUse : Piece → ℕ → List ℕ → ℕ → Outcome
-oneUse p left value at =
-    joined (useText (p .format) at (take (p .size) (drop at value))) (printed (optional (following p left value (at + p .size))))
-
--- so many uses of a piece, the first at a place; with no octet left printing ends
-unfoldable pub uses : ℕ → Piece → List ℕ → ℕ → Outcome
-uses zero p value at = printed []
-uses (suc left) p value at =
-    elim (leb (length value) at) [
-      | true ↦ printed []
-      | false ↦ joined (oneUse p left value at) (uses left p value (at + p .size))
-    ]
-
--- how often a piece is used, and where its uses start: after `*` the octet there is the repeat count
-unfoldable pub repeats : Piece → List ℕ → ℕ → ℕ
-repeats p value at = cond (p .starred) (byteAt value at) 1
-
-unfoldable pub usesStart : Piece → ℕ → ℕ
-usesStart p at = cond (p .starred) (at + 1) at
-
--- where the octets of a piece end; past the value's end where fewer were left
-unfoldable pub usesEnd : Piece → List ℕ → ℕ → ℕ
-usesEnd p value at = usesStart p at + repeats p value at * p .size
+use Prim.Native.Nat.{ℕ, zero, suc}
+use mathlib.Core.Bool.{true, false}
+use mathlib.Core.List.{List, [], _∷_}
+use lib.Dec.{leb}
+use lib.ListN.{length}
+use Rattle.hint_form.specs.declared.Piece.{Piece}
+use Rattle.hint_piece.specs.Use.{Outcome, printed, joined, uses-end, piece-text}
 
 -- the pieces after one; the last piece repeats
 unfoldable pub turn : Piece → List Piece → List Piece
@@ -78,17 +14,16 @@ turn p [] = p ∷ []
 turn p (q ∷ ps) = q ∷ ps
 
 -- printing from a place of the value on by the pieces in turn, in a number of steps at most
-unfoldable pub printingWithin : ℕ → List Piece → List ℕ → ℕ → Outcome
-printingWithin zero ps value at = printed []
-printingWithin (suc steps) [] value at = printed []
-printingWithin (suc steps) (p ∷ ps) value at =
+unfoldable pub printing-within : ℕ → List Piece → List ℕ → ℕ → Outcome
+printing-within zero ps value at = printed []
+printing-within (suc steps) [] value at = printed []
+printing-within (suc steps) (p ∷ ps) value at =
     elim (leb (length value) at) [
       | true ↦ printed []
       | false ↦
-          joined (uses (repeats p value at) p value (usesStart p at))
-          (printingWithin steps (turn p ps) value (usesEnd p value at))
+          joined (piece-text p value at) (printing-within steps (turn p ps) value (uses-end p value at))
     ]
 
 -- the whole value. A piece takes an octet at least, the count or one of its length, so as many steps as octets suffice
 unfoldable pub printing : List Piece → List ℕ → Outcome
-printing ps value = printingWithin (length value) ps value 0
+printing ps value = printing-within (length value) ps value 0

@@ -1,23 +1,18 @@
 // Prints a value by its DISPLAY-HINT: octets by octet-format pieces, integers by one integer format (RFC 2579, 3.1).
 // The caller lends the output buffer. Nothing is asked of the arguments: what cannot be printed is refused.
-mod buffer;
-mod character;
-mod digit;
-mod grammar;
 mod pieces;
-mod signed;
 
 ghost use mathlib.Core.Path.{_≡_};
-ghost use Rattle.hint.specs.Answer.{numberOf, placeOf, lengthOf};
-ghost use Rattle.hint.specs.Answer.{Answered, octetsVerdict, integerVerdict, octetsPart, integerPart};
 ghost use lib.ListN.{length};
+ghost use Rattle.hint.specs.Answer.{number-of, place-of, length-of, Answered, octets-verdict, integer-verdict, octets-part, integer-part};
 use buffer::clear;
-use grammar::form_of;
-use grammar::is_hint;
+use hint_form::form_of;
+use hint_form::is_hint;
+use hint_integer::in_range;
+use hint_integer::is_bad;
+use hint_integer::print_signed;
+use hint_piece::Progress;
 use pieces::print_pieces;
-use signed::in_range;
-use signed::is_bad;
-use signed::print_signed;
 
 // What a call answers. Answer.antt gives the number, place and length of each case.
 pub enum Answer {
@@ -36,7 +31,7 @@ pub enum Answer {
 impl Answer {
     // The paper's number: 0 for a text, 30 to 34 for a refusal.
     pub fn number(self) -> u64
-        ensures { λ r. ⌜ r ≡ numberOf self ⌝ }
+        ensures { λ r. ⌜ r ≡ number-of self ⌝ }
     {
         match self {
             Answer::Printed(_) => 0,
@@ -50,7 +45,7 @@ impl Answer {
 
     // The place of refusal 33, and 0 for any other answer.
     pub fn place(self) -> usize
-        ensures { λ r. ⌜ r ≡ placeOf self ⌝ }
+        ensures { λ r. ⌜ r ≡ place-of self ⌝ }
     {
         match self {
             Answer::Printed(_) => 0,
@@ -64,7 +59,7 @@ impl Answer {
 
     // The text's length, and 0 for a refusal.
     pub fn length(self) -> usize
-        ensures { λ r. ⌜ r ≡ lengthOf self ⌝ }
+        ensures { λ r. ⌜ r ≡ length-of self ⌝ }
     {
         match self {
             Answer::Printed(n) => n,
@@ -77,50 +72,11 @@ impl Answer {
     }
 }
 
-// One octet-format specification. A separator or terminator of 0 is none.
-pub struct Piece {
-    pub starred: bool,
-    pub size: usize,
-    pub format: u8,
-    pub separator: u8,
-    pub terminator: u8,
-}
-
-// A number of a hint, and the place after it.
-pub struct Number {
-    pub value: usize,
-    pub next: usize,
-}
-
-// A hint for integers: a base, or a decimal point before so many digits.
-pub enum Form {
-    Base(u64),
-    Point(u64),
-    Bad,
-}
-
-// Where something is found first.
-pub enum Search {
-    At(usize),
-    Nowhere,
-}
-
-// Printing has come to this place of the output, or found this octet at fault.
-pub enum Progress {
-    To(usize),
-    Fault(usize),
-}
-
-// What stands at a place of a hint: a piece and the place after it, or none.
-pub enum Found {
-    Whole(Piece, usize),
-    Nothing,
-}
-
 // Prints octets by a hint for octets. Works on the first 4,096 bytes of the output: the text, then zeros. A refusal zeroes
 // them too, but for a buffer that is shorter, of which nothing changes.
 pub fn octets(hint: &[u8], value: &[u8], out: &mut [u8]) -> Answer
-    ensures { λ r. ⌜ Answered octetsPart (octetsVerdict (length (now (out .entry))) (now (hint .entry)) (now (value .entry))) r (now (out .entry)) (now (out .exit)) ⌝ }
+    ensures { λ r. ⌜ Answered octets-part (octets-verdict (length (now (out .entry))) (now (hint .entry)) (now (value .entry)))
+        r (now (out .entry)) (now (out .exit)) ⌝ }
 {
     if out.len() < 4096 {
         return Answer::ShortBuffer;
@@ -143,7 +99,8 @@ pub fn octets(hint: &[u8], value: &[u8], out: &mut [u8]) -> Answer
 
 // Prints an integer by a hint for integers, likewise in the first 64 bytes of the output.
 pub fn integer(hint: &[u8], value: i64, out: &mut [u8]) -> Answer
-    ensures { λ r. ⌜ Answered integerPart (integerVerdict (length (now (out .entry))) (now (hint .entry)) value) r (now (out .entry)) (now (out .exit)) ⌝ }
+    ensures { λ r. ⌜ Answered integer-part (integer-verdict (length (now (out .entry))) (now (hint .entry)) value)
+        r (now (out .entry)) (now (out .exit)) ⌝ }
 {
     if out.len() < 64 {
         return Answer::ShortBuffer;

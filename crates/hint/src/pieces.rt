@@ -1,168 +1,25 @@
 // Prints octets by the pieces of a hint.
+ghost use Prim.Native.Nat.{_≤_};
 ghost use mathlib.Core.Path.{_≡_};
 ghost use mathlib.Core.Bool.{true};
-ghost use Prim.Native.Nat.{_+_, _-_, _*_, _≤_, _<_};
-ghost use lib.ListN.{length, take, drop};
-ghost use Rattle.hint.specs.Hint.{longest, readHint};
-ghost use Rattle.hint.specs.Print.{passes, useText, optional, following, oneUse, uses, repeats, usesStart, usesEnd, printing};
-ghost use Rattle.hint.specs.Inner.{Wrote, Followed, isPieces, piecesIn};
-use crate::Found;
-use crate::Piece;
-use crate::Progress;
-use crate::Search;
-use crate::buffer::copy;
-use crate::buffer::put;
-use crate::character::first_fault;
-use crate::digit::base_of;
-use crate::digit::big_endian;
-use crate::digit::print_digits;
-use crate::grammar::piece_at;
-
-// Whether a format passes characters on.
-fn passes_on(format: u8) -> bool
-    ensures { λ r. ⌜ r ≡ passes format ⌝ }
-{
-    format == b'a' || format == b't'
-}
-
-// Writes the text of one use, whose octets start at a place of the value, or answers the octet at fault.
-fn print_use(s: &[u8], at: usize, format: u8, out: &mut [u8], pos: usize) -> Progress
-    requires { ⌜ (0 < length (now s)) × (length (now s) ≤ longest format) × (at ≤ 1024) ⌝ }
-    requires { ⌜ pos + 4 * length (now s) ≤ length (now out) ⌝ }
-    ensures { λ r. ⌜ Followed (useText format at (now (s .entry))) pos r (now (out .entry)) (now (out .exit)) ⌝ }
-{
-    if !passes_on(format) {
-        let n = big_endian(s);
-        let base = base_of(format);
-        return Progress::To(print_digits(n, base, out, pos));
-    }
-    if let Search::At(i) = first_fault(format, s) {
-        return Progress::Fault(at + i);
-    }
-    Progress::To(copy(s, out, pos))
-}
-
-// Writes one byte, or nothing where it is 0, and answers the place after it.
-fn put_optional(out: &mut [u8], at: usize, b: u8) -> usize
-    requires { ⌜ at + length (optional b) ≤ length (now out) ⌝ }
-    ensures { λ r. ⌜ Wrote (optional b) at r (now (out .entry)) (now (out .exit)) ⌝ }
-{
-    if b == 0 {
-        return at;
-    }
-    put(out, at, b)
-}
-
-// The byte that follows a use, or 0.
-fn following_byte(piece: Piece, left: usize, value: &[u8], next: usize) -> u8
-    ensures { λ r. ⌜ r ≡ following piece left (now (value .entry)) next ⌝ }
-{
-    if value.len() <= next {
-        return 0;
-    }
-    if left != 0 {
-        return piece.separator;
-    }
-    if piece.terminator == 0 {
-        return piece.separator;
-    }
-    piece.terminator
-}
-
-// The octets of the use that starts at a place: as many as the length says, or the fewer left.
-fn use_octets(value: &[u8], at: usize, size: usize) -> &[u8]
-    requires { ⌜ at ≤ length (now value) ⌝ }
-    ensures { λ r. ⌜ now r ≡ take size (drop at (now (value .entry))) ⌝ }
-{
-    if size < value.len() - at {
-        &value[at..at + size]
-    } else {
-        &value[at..]
-    }
-}
-
-// Writes one use and what follows it.
-fn print_one(
-    value: &[u8],
-    at: usize,
-    piece: Piece,
-    left: usize,
-    out: &mut [u8],
-    pos: usize,
-) -> Progress
-    requires { ⌜ (at < length (now value)) × (length (now value) ≤ 1024) ⌝ }
-    requires { ⌜ (0 < piece .size) × (piece .size ≤ longest (piece .format)) ⌝ }
-    requires { ⌜ pos + 4 * (length (now value) - at) ≤ length (now out) ⌝ }
-    ensures { λ r. ⌜ Followed (oneUse piece left (now (value .entry)) at) pos r (now (out .entry)) (now (out .exit)) ⌝ }
-{
-    let size = piece.size;
-    let octets = use_octets(value, at, size);
-    match print_use(octets, at, piece.format, out, pos) {
-        Progress::To(next) => {
-            let mark = following_byte(piece, left, value, at + size);
-            Progress::To(put_optional(out, next, mark))
-        }
-        Progress::Fault(place) => Progress::Fault(place),
-    }
-}
-
-// Writes so many uses of a piece, or fewer where no octet is left.
-fn print_uses(
-    value: &[u8],
-    start: usize,
-    piece: Piece,
-    count: usize,
-    out: &mut [u8],
-    pos: usize,
-) -> Progress
-    requires { ⌜ (length (now value) ≤ 1024) × (start ≤ 1024) ⌝ }
-    requires { ⌜ (0 < piece .size) × (piece .size ≤ longest (piece .format)) ⌝ }
-    requires { ⌜ pos + 4 * (length (now value) - start) ≤ length (now out) ⌝ }
-    ensures { λ r. ⌜ Followed (uses count piece (now (value .entry)) start) pos r (now (out .entry)) (now (out .exit)) ⌝ }
-{
-    let size = piece.size;
-    let mut left = count;
-    let mut at = start;
-    let mut next = pos;
-    while 0 < left {
-        if value.len() <= at {
-            return Progress::To(next);
-        }
-        left -= 1;
-        match print_one(value, at, piece, left, out, next) {
-            Progress::To(n) => {
-                next = n;
-            }
-            Progress::Fault(place) => {
-                return Progress::Fault(place);
-            }
-        }
-        at += size;
-    }
-    Progress::To(next)
-}
-
-// How often a piece is used.
-fn repeats_of(piece: Piece, value: &[u8], at: usize) -> usize
-    requires { ⌜ at < length (now value) ⌝ }
-    ensures { λ r. ⌜ r ≡ repeats piece (now (value .entry)) at ⌝ }
-{
-    if piece.starred { value[at] as usize } else { 1 }
-}
-
-// Where its uses start.
-fn uses_start(piece: Piece, at: usize) -> usize
-    requires { ⌜ at ≤ 1024 ⌝ }
-    ensures { λ r. ⌜ r ≡ usesStart piece at ⌝ }
-{
-    if piece.starred { at + 1 } else { at }
-}
+ghost use lib.ListN.{length};
+ghost use Rattle.hint_form.specs.Hint.{read-hint, is-pieces, pieces-in};
+ghost use Rattle.hint_piece.specs.Followed.{Followed};
+ghost use Rattle.hint.specs.Print.{printing};
+use hint_form::Found;
+use hint_form::piece_at;
+use hint_piece::Progress;
+use hint_piece::print_uses;
+use hint_piece::repeats_of;
+use hint_piece::uses_start;
 
 // Writes a value by the pieces of a hint, the last of which repeats, or answers the octet at fault.
 pub fn print_pieces(hint: &[u8], value: &[u8], out: &mut [u8]) -> Progress
-    requires { ⌜ isPieces (readHint (now hint)) ≡ true ⌝ }
-    requires { ⌜ (length (now value) ≤ 1024) × (length (now out) ≡ 4096) ⌝ }
-    ensures { λ r. ⌜ Followed (printing (piecesIn (readHint (now (hint .entry)))) (now (value .entry))) 0 r (now (out .entry)) (now (out .exit)) ⌝ }
+    requires readable { ⌜ is-pieces (read-hint (now hint)) ≡ true ⌝ }
+    requires short { ⌜ length (now value) ≤ 1024 ⌝ }
+    requires room { ⌜ length (now out) ≡ 4096 ⌝ }
+    ensures { λ r. ⌜ Followed (printing (pieces-in (read-hint (now (hint .entry)))) (now (value .entry)))
+        0 r (now (out .entry)) (now (out .exit)) ⌝ }
 {
     let mut cursor = 0;
     let mut at = 0;

@@ -12,7 +12,7 @@ use words::Number;
 use words::Octets;
 ghost use Prim.Native.Nat.{_≤_};
 ghost use lib.ListN.{length};
-ghost use Rattle.hint.specs.Answer.{lengthOf};
+ghost use Rattle.hint.specs.Answer.{length-of};
 
 fn main() {
     let mut space = io::large_buffer();
@@ -112,7 +112,7 @@ fn print_integer(hint_word: &[u8], value: i64) {
 
 // Prints the text that was printed, or the refusal.
 fn print_answer(answer: Answer, out: &[u8])
-    requires { ⌜ lengthOf answer ≤ length (now out) ⌝ }
+    requires { ⌜ length-of answer ≤ length (now out) ⌝ }
 {
     let n = answer.length();
     if answer.number() == 0 {

@@ -1,32 +1,59 @@
 -- `integer` is right: the tests are the verdict's, in its order; the part is zeroed before the text is written.
 -- Assumes nothing.
-use borrow.Author.Needs.{needs}
-use mathlib.Core.Path.{_≡_, refl, ap, sym, subst, _∙_}
-use mathlib.Core.List.{_++_}
-use mathlib.Core.Bool.{true, false}
+use Prim.Native.Nat.{ℕ}
 use native.Mathlib.Omega.{arith}
-use borrow.Author.Tests.{not-true, not-false}
-use lib.IntN.{ℤ}
-use lib.ListN.{length, take, drop, length-take}
+use mathlib.Core.Path.{_≡_, refl, ap, sym, subst, _∙_}
+use mathlib.Core.List.{List}
+use lib.ListN.{length, length-take}
 use mir.Facts.{toZ-ofZ}
 use mir.Syntax.{w64}
 use mir.Val.{toZ, ofZ}
-use Rattle.hint.proofs.SignedLaws.{form-usable}
+use borrow.Author.Needs.{needs}
+use borrow.Author.Tests.{not-true, not-false}
+use Rattle.hint_form.specs.declared.Form.{Form}
+use Rattle.hint_integer.specs.Signed.{in-range, signed}
+use Rattle.hint_form.specs.Form.{Usable, is-bad, read-form}
+use Rattle.hint.specs.declared.Answer.the-variants.{BadHint, OutOfRange}
+use Rattle.hint.specs.Answer.{Verdict, integer-verdict}
+use Rattle.buffer.proofs.Writing.{wrote-as}
+use Rattle.hint_form.proofs.FormLaws.{form-usable}
 use Rattle.hint.proofs.Answers.{answered-short, answered-refusal, answered-text, integer-short, integer-hint, integer-range, integer-text}
-use Rattle.hint.specs.declared.Answer.the-variants.{Printed, BadHint, OutOfRange}
-use Rattle.hint.specs.declared.Form.{Form}
-use Rattle.hint.specs.Answer.{Verdict, Answered, integerVerdict, inRange, signed}
-use Rattle.hint.specs.Inner.{Wrote, Usable, isBad}
-use Rattle.hint.specs.Hint.{readForm}
 use Rattle.hint.proofs.integer.Statement.{statement}
 use Rattle.hint.proofs.integer.Tie as tie
+
+-- once the form is tested: where the call started, where the part was zeroed, and the verdict
+abbrev start : tie.After-is-bad → tie.Start
+start d = d .before .before .before .before .before .before .before .before .before
+
+abbrev zeroed : tie.After-is-bad → tie.After-clear
+zeroed d = d .before .before .before .before
+
+abbrev hint : tie.After-is-bad → List ℕ
+hint d = start d .args .hint .now
+
+abbrev verdict : tie.After-is-bad → Verdict
+verdict d = let a = start d .args in integer-verdict (length (a .out .now)) (a .hint .now) (a .value)
+
+-- the form, and whether it is bad
+form-known : (d : tie.After-is-bad) → d .before .form-of .result ≡ read-form (hint d)
+form-known d = d .before .form-of .ensures
+
+bad-known : (d : tie.After-is-bad) → is-bad (read-form (hint d)) ≡ d .is-bad .result
+bad-known d = sym (d .is-bad .ensures ∙ ap is-bad (form-known d))
+
+-- the integer as the machine's bits have it, and whether it is in the range
+value-known : (d : tie.After-is-bad) → toZ w64 (ofZ w64 (start d .args .value)) ≡ start d .args .value
+value-known d = toZ-ofZ (start d .fits .value)
+
+range-known : (d : tie.After-in-range) → in-range (start (d .before .before) .args .value) ≡ d .in-range .result
+range-known d = sym (d .in-range .ensures ∙ ap in-range (value-known (d .before .before)))
 
 returns : tie.Need-returns
 returns c =
     let a = c .before .before .before .args in
-    let h = a .hint .now in
-    let o = a .out .now in
-    answered-short 64 (integerVerdict (length o) h (a .value)) o (integer-short (length o) h (a .value) (c .if1 .taken))
+    let room = length (a .out .now) in
+    answered-short 64 (integer-verdict room (a .hint .now) (a .value)) (a .out .now)
+    (integer-short room (a .hint .now) (a .value) (c .if1 .taken))
 
 clear-requires : tie.Need-clear-requires
 clear-requires c κs = search needs
@@ -42,14 +69,12 @@ same-length c = search needs
 
 returns-2 : tie.Need-returns-2
 returns-2 c =
-    let a = c .before .before .before .before .before .before .before .before .before .before .args in
-    let h = a .hint .now in
-    let o = a .out .now in
-    let same = toZ-ofZ (c .before .before .before .before .before .before .before .before .before .before .fits .value) in
-    let form : c .before .before .form-of .result ≡ readForm h = c .before .before .form-of .ensures in
-    let bad : c .before .is-bad .result ≡ isBad (readForm h) = c .before .is-bad .ensures ∙ ap isBad form in
-    answered-refusal 64 (integerVerdict (length o) h (a .value)) BadHint o (c .before .before .before .before .before .clear .last .0) 32 0
-    (integer-hint (length o) h (a .value) (c .before .before .before .before .before .before .before .if1 .left) (sym bad ∙ c .if2 .taken)) refl refl refl refl (c .before .before .before .before .before .clear .ensures)
+    let d = c .before in
+    let a = start d .args in
+    let clear = zeroed d .clear in
+    let room = zeroed d .before .before .if1 .left in
+    let why = integer-hint (length (a .out .now)) (hint d) (a .value) room (bad-known d ∙ c .if2 .taken) in
+    answered-refusal 64 (verdict d) BadHint (a .out .now) (clear .last .0) 32 0 why refl refl refl refl (clear .ensures)
 
 in-range-requires : tie.Need-in-range-requires
 in-range-requires c κs = search needs
@@ -59,15 +84,13 @@ same-length-2 c = search needs
 
 returns-3 : tie.Need-returns-3
 returns-3 c =
-    let a = c .before .before .before .before .before .before .before .before .before .before .before .before .args in
-    let h = a .hint .now in
-    let o = a .out .now in
-    let same = toZ-ofZ (c .before .before .before .before .before .before .before .before .before .before .before .before .fits .value) in
-    let form : c .before .before .before .before .form-of .result ≡ readForm h = c .before .before .before .before .form-of .ensures in
-    let bad : c .before .before .before .is-bad .result ≡ isBad (readForm h) = c .before .before .before .is-bad .ensures ∙ ap isBad form in
-    let out-of : inRange (a .value) ≡ false = sym (c .before .in-range .ensures ∙ ap inRange same) ∙ not-true _ (c .if3 .taken) in
-    answered-refusal 64 (integerVerdict (length o) h (a .value)) OutOfRange o (c .before .before .before .before .before .before .before .clear .last .0) 34 0
-    (integer-range (length o) h (a .value) (c .before .before .before .before .before .before .before .before .before .if1 .left) (sym bad ∙ c .before .before .if2 .left) out-of) refl refl refl refl (c .before .before .before .before .before .before .before .clear .ensures)
+    let d = c .before .before .before in
+    let a = start d .args in
+    let clear = zeroed d .clear in
+    let room = zeroed d .before .before .if1 .left in
+    let outside = range-known (c .before) ∙ not-true _ (c .if3 .taken) in
+    let why = integer-range (length (a .out .now)) (hint d) (a .value) room (bad-known d ∙ c .before .before .if2 .left) outside in
+    answered-refusal 64 (verdict d) OutOfRange (a .out .now) (clear .last .0) 34 0 why refl refl refl refl (clear .ensures)
 
 slice-relend-prefix-print-signed : tie.Need-slice-relend-prefix-print-signed
 slice-relend-prefix-print-signed c = search needs
@@ -77,34 +100,27 @@ slice-aggregate-print-signed c = search needs
 
 print-signed-requires : tie.Need-print-signed-requires
 print-signed-requires c κs =
-    let a = c .before .before .before .before .before .before .before .before .before .before .before .before .before .args in
-    let h = a .hint .now in
-    let o = a .out .now in
-    let same = toZ-ofZ (c .before .before .before .before .before .before .before .before .before .before .before .before .before .fits .value) in
-    let form : c .before .before .before .before .before .form-of .result ≡ readForm h = c .before .before .before .before .before .form-of .ensures in
-    let bad : c .before .before .before .before .is-bad .result ≡ isBad (readForm h) = c .before .before .before .before .is-bad .ensures ∙ ap isBad form in
-    let cleared = c .before .before .before .before .before .before .before .before .clear .last .0 in
-    let kept = c .before .before .before .before .before .before .before .before .clear .kept .0 in
-    (subst Usable (sym form) (form-usable h), (sym (c .before .before .in-range .ensures) ∙ not-false _ (c .before .if3 .left), omega (arith, length-take 64 cleared, c .before .before .before .before .before .before .before .before .before .before .if1 .left)))
+    let d = c .before .before .before .before in
+    let usable = subst Usable (sym (form-known d)) (form-usable (hint d)) in
+    let range = sym (c .before .before .in-range .ensures) ∙ not-false _ (c .before .if3 .left) in
+    let kept = zeroed d .clear .kept .0 in
+    (usable, (range, omega (arith, length-take 64 (zeroed d .clear .last .0), zeroed d .before .before .if1 .left)))
 
 same-length-3 : tie.Need-same-length-3
 same-length-3 c = search needs
 
 returns-4 : tie.Need-returns-4
 returns-4 c =
-    let a = c .before .before .before .before .before .before .before .before .before .before .before .before .before .before .before .before .args in
-    let h = a .hint .now in
-    let o = a .out .now in
-    let same = toZ-ofZ (c .before .before .before .before .before .before .before .before .before .before .before .before .before .before .before .before .fits .value) in
-    let form : c .before .before .before .before .before .before .before .before .form-of .result ≡ readForm h = c .before .before .before .before .before .before .before .before .form-of .ensures in
-    let bad : c .before .before .before .before .before .before .before .is-bad .result ≡ isBad (readForm h) = c .before .before .before .before .before .before .before .is-bad .ensures ∙ ap isBad form in
-    let within : inRange (a .value) ≡ true = sym (c .before .before .before .before .before .in-range .ensures ∙ ap inRange same) ∙ not-false _ (c .before .before .before .before .if3 .left) in
-    let done : Wrote (signed (readForm h) (a .value)) 0 (c .before .before .print-signed .result) (take 64 (c .before .before .before .before .before .before .before .before .before .before .before .clear .last .0)) (c .before .before .print-signed .last .1 .1 .0) =
-    subst (λ (z : ℤ). Wrote (signed (readForm h) z) 0 (c .before .before .print-signed .result) (take 64 (c .before .before .before .before .before .before .before .before .before .before .before .clear .last .0)) (c .before .before .print-signed .last .1 .1 .0)) same
-    (subst (λ (f : Form). Wrote (signed f (toZ w64 (ofZ w64 (a .value)))) 0 (c .before .before .print-signed .result) (take 64 (c .before .before .before .before .before .before .before .before .before .before .before .clear .last .0)) (c .before .before .print-signed .last .1 .1 .0)) form (c .before .before .print-signed .ensures)) in
-    subst (λ (u : Verdict). Answered 64 u (Printed (c .before .before .print-signed .result)) o (c .before .before .print-signed .last .1 .1 .0 ++ drop 64 (c .before .before .before .before .before .before .before .before .before .before .before .clear .last .0)))
-    (sym (integer-text (length o) h (a .value) (c .before .before .before .before .before .before .before .before .before .before .before .before .before .if1 .left) (sym bad ∙ c .before .before .before .before .before .before .if2 .left) within))
-    (answered-text 64 o (c .before .before .before .before .before .before .before .before .before .before .before .clear .last .0) (c .before .before .before .before .before .before .before .before .before .before .before .clear .ensures) done)
+    let range = c .before .before .before .before .before in
+    let d = range .before .before in
+    let a = start d .args in
+    let clear = zeroed d .clear in
+    let room = zeroed d .before .before .if1 .left in
+    let within = range-known range ∙ not-false _ (c .before .before .before .before .if3 .left) in
+    let same =
+    ap (λ (f : Form). signed f (toZ w64 (ofZ w64 (a .value)))) (form-known d) ∙ ap (signed (read-form (hint d))) (value-known d) in
+    let why = integer-text (length (a .out .now)) (hint d) (a .value) room (bad-known d ∙ range .before .if2 .left) within in
+    answered-text 64 (a .out .now) (clear .last .0) (clear .ensures) why (wrote-as same (c .before .before .print-signed .ensures))
 
 pub integer-spec : {M : Type 1} → statement M
 integer-spec =

@@ -1,28 +1,57 @@
--- `octets` is right: the tests are the verdict's, in its order; the part is zeroed before anything is written, and again after a fault.
+-- `octets` is right: the tests are the verdict's, in its order; the part is zeroed before anything is written, and again
+-- after a fault.
 -- Assumes nothing.
-use borrow.Author.Needs.{needs}
-use mathlib.Core.Path.{_≡_, refl, sym, subst, _∙_}
+use Prim.Native.Nat.{ℕ, _≤_}
 use native.Mathlib.Omega.{arith}
-use borrow.Author.Tests.{not-true, not-false}
+use mathlib.Core.List.{List}
+use mathlib.Core.Path.{_≡_, refl, sym, _∙_}
 use lib.ListN.{length, take, length-take}
-use Rattle.hint.proofs.Answers.{answered-short, answered-refusal, answered-printed, zeros-again, fault-refusal, octets-short, octets-long, octets-hint, octets-printed}
-use Rattle.hint.specs.declared.Progress.the-variants.{To, Fault}
-use Rattle.hint.specs.declared.Progress.{Progress}
+use borrow.Author.Needs.{needs}
+use borrow.Author.Tests.{not-true, not-false}
+use Rattle.hint_piece.specs.Use.{Outcome}
+use Rattle.hint_piece.specs.declared.Progress.the-variants.{To, Fault}
+use Rattle.hint_piece.specs.declared.Progress.{Progress}
+use Rattle.hint_piece.specs.Followed.{Followed}
+use Rattle.hint_form.specs.Hint.{pieces-in, read-hint}
 use Rattle.hint.specs.declared.Answer.the-variants.{LongValue, BadHint, BadOctet}
-use Rattle.hint.specs.Answer.{octetsVerdict}
-use Rattle.hint.specs.Inner.{Followed, piecesIn}
+use Rattle.hint.specs.Answer.{Verdict, of-outcome, octets-verdict}
 use Rattle.hint.specs.Print.{printing}
-use Rattle.hint.specs.Hint.{readHint}
+use Rattle.hint_piece.proofs.Outcomes.{followed-as}
+use Rattle.hint.proofs.Answers.{answered-short, answered-refusal, answered-printed, zeros-again, fault-refusal, octets-short, octets-long, octets-hint, octets-printed}
 use Rattle.hint.proofs.octets.Statement.{statement}
 use Rattle.hint.proofs.octets.Tie as tie
+
+-- once the part is zeroed: where the call started, and the verdict
+abbrev start : tie.After-clear → tie.Start
+start d = d .before .before .before .before .before .before
+
+abbrev verdict : tie.After-clear → Verdict
+verdict d = let a = start d .args in octets-verdict (length (a .out .now)) (a .hint .now) (a .value .now)
+
+-- once the pieces are printed: where the part was zeroed, and what they come to
+abbrev zeroed : tie.After-print-pieces → tie.After-clear
+zeroed d = d .before .before .before .before .before .before .before
+
+abbrev outcome : tie.After-print-pieces → Outcome
+outcome d = let a = start (zeroed d) .args in printing (pieces-in (read-hint (a .hint .now))) (a .value .now)
+
+by-printing : (d : tie.After-print-pieces) → verdict (zeroed d) ≡ of-outcome (outcome d)
+by-printing d =
+    let a = start (zeroed d) .args in
+    let hint = sym (d .before .before .before .is-hint .ensures) ∙ not-false _ (d .before .before .if3 .left) in
+    let room = zeroed d .before .before .if1 .left in
+    octets-printed (length (a .out .now)) (a .hint .now) (a .value .now) room (d .before .before .before .before .if2 .left) hint
+
+followed : (d : tie.After-print-pieces) (r : Progress) → d .print-pieces .result ≡ r
+    → Followed (outcome d) 0 r (take 4096 (zeroed d .clear .last .0)) (d .print-pieces .last .1 .1 .0)
+followed d r e = followed-as refl e (d .print-pieces .ensures)
 
 returns : tie.Need-returns
 returns c =
     let a = c .before .before .before .before .args in
-    let h = a .hint .now in
-    let v = a .value .now in
-    let o = a .out .now in
-    answered-short 4096 (octetsVerdict (length o) h v) o (octets-short (length o) h v (c .if1 .taken))
+    let room = length (a .out .now) in
+    answered-short 4096 (octets-verdict room (a .hint .now) (a .value .now)) (a .out .now)
+    (octets-short room (a .hint .now) (a .value .now) (c .if1 .taken))
 
 clear-requires : tie.Need-clear-requires
 clear-requires c κs = search needs
@@ -32,11 +61,10 @@ same-length c = search needs
 
 returns-2 : tie.Need-returns-2
 returns-2 c =
-    let a = c .before .before .before .before .before .before .before .before .before .args in
-    let h = a .hint .now in
-    let v = a .value .now in
-    let o = a .out .now in
-    answered-refusal 4096 (octetsVerdict (length o) h v) LongValue o (c .before .before .before .clear .last .0) 31 0 (octets-long (length o) h v (c .before .before .before .before .before .if1 .left) (c .if2 .taken)) refl refl refl refl (c .before .before .before .clear .ensures)
+    let d = c .before .before .before in
+    let a = start d .args in
+    let why = octets-long (length (a .out .now)) (a .hint .now) (a .value .now) (d .before .before .if1 .left) (c .if2 .taken) in
+    answered-refusal 4096 (verdict d) LongValue (a .out .now) (d .clear .last .0) 31 0 why refl refl refl refl (d .clear .ensures)
 
 is-hint-requires : tie.Need-is-hint-requires
 is-hint-requires c κs = search needs
@@ -46,27 +74,30 @@ same-length-2 c = search needs
 
 returns-3 : tie.Need-returns-3
 returns-3 c =
-    let a = c .before .before .before .before .before .before .before .before .before .before .before .args in
-    let h = a .hint .now in
-    let v = a .value .now in
-    let o = a .out .now in
+    let d = c .before .before .before .before .before in
+    let a = start d .args in
     let no = sym (c .before .is-hint .ensures) ∙ not-true _ (c .if3 .taken) in
-    answered-refusal 4096 (octetsVerdict (length o) h v) BadHint o (c .before .before .before .before .before .clear .last .0) 32 0 (octets-hint (length o) h v (c .before .before .before .before .before .before .before .if1 .left) (c .before .before .if2 .left) no) refl refl refl refl (c .before .before .before .before .before .clear .ensures)
+    let room = d .before .before .if1 .left in
+    let why = octets-hint (length (a .out .now)) (a .hint .now) (a .value .now) room (c .before .before .if2 .left) no in
+    answered-refusal 4096 (verdict d) BadHint (a .out .now) (d .clear .last .0) 32 0 why refl refl refl refl (d .clear .ensures)
+
+-- the part of the zeroed buffer has 4,096 bytes
+part-long : (d : tie.After-clear) → 4096 ≤ length (start d .args .out .now) → length (take 4096 (d .clear .last .0)) ≡ 4096
+part-long d room = length-take 4096 (d .clear .last .0) ∙ omega (arith, d .clear .kept .0)
 
 slice-relend-prefix-print-pieces : tie.Need-slice-relend-prefix-print-pieces
 slice-relend-prefix-print-pieces c = search needs
 
 slice-aggregate-print-pieces : tie.Need-slice-aggregate-print-pieces
 slice-aggregate-print-pieces c =
-    let o = c .before .before .before .before .before .before .clear .last .0 in
-    let kept = c .before .before .before .before .before .before .clear .kept .0 in
-    sym (length-take 4096 o ∙ omega (arith, c .before .before .before .before .before .before .before .before .if1 .left))
+    let d = c .before .before .before .before .before .before in
+    sym (part-long d (d .before .before .if1 .left))
 
 print-pieces-requires : tie.Need-print-pieces-requires
 print-pieces-requires c κs =
-    let o = c .before .before .before .before .before .before .clear .last .0 in
-    let kept = c .before .before .before .before .before .before .clear .kept .0 in
-    (sym (c .before .before .is-hint .ensures) ∙ not-false _ (c .before .if3 .left), (c .before .before .before .if2 .left, length-take 4096 o ∙ omega (arith, c .before .before .before .before .before .before .before .before .if1 .left)))
+    let d = c .before .before .before .before .before .before in
+    let hint = sym (c .before .before .is-hint .ensures) ∙ not-false _ (c .before .if3 .left) in
+    (hint, (c .before .before .before .if2 .left, part-long d (d .before .before .if1 .left)))
 
 enum-known-n : tie.Need-enum-known-n
 enum-known-n c = search needs
@@ -82,33 +113,28 @@ same-length-3 c = search needs
 
 returns-4 : tie.Need-returns-4
 returns-4 c =
-    let a = c .before .before .before .before .before .before .before .before .before .before .before .before .before .before .before .before .before .before .args in
-    let h = a .hint .now in
-    let v = a .value .now in
-    let o = a .out .now in
-    let yes₁ = sym (c .before .before .before .before .before .before .before .before .is-hint .ensures) ∙ not-false _ (c .before .before .before .before .before .before .before .if3 .left) in
-    let done : Followed (printing (piecesIn (readHint h)) v) 0 (To (c .before .n .given .0 .0)) (take 4096 (c .before .before .before .before .before .before .before .before .before .before .before .before .clear .last .0)) (c .before .before .before .before .before .print-pieces .last .1 .1 .0) =
-    subst (λ (r : Progress). Followed (printing (piecesIn (readHint h)) v) 0 r (take 4096 (c .before .before .before .before .before .before .before .before .before .before .before .before .clear .last .0)) (c .before .before .before .before .before .print-pieces .last .1 .1 .0)) (c .before .n .given .1) (c .before .before .before .before .before .print-pieces .ensures) in
-    answered-printed 4096 o (c .before .before .before .before .before .before .before .before .before .before .before .before .clear .last .0) (c .before .before .before .before .before .before .before .before .before .before .before .before .clear .ensures) (octets-printed (length o) h v (c .before .before .before .before .before .before .before .before .before .before .before .before .before .before .if1 .left) (c .before .before .before .before .before .before .before .before .before .if2 .left) yes₁) done
+    let d = c .before .before .before .before .before in
+    let clear = zeroed d .clear in
+    let given = c .before .n .given in
+    let done = followed d (To (given .0 .0)) (given .1) in
+    answered-printed 4096 (start (zeroed d) .args .out .now) (clear .last .0) (clear .ensures) (by-printing d) done
 
 same-length-4 : tie.Need-same-length-4
 same-length-4 c = search needs
 
 returns-5 : tie.Need-returns-5
 returns-5 c =
-    let a = c .before .before .before .before .before .before .before .before .before .before .before .before .before .before .before .before .before .before .before .before .before .before .args in
-    let h = a .hint .now in
-    let v = a .value .now in
-    let o = a .out .now in
-    let yes₁ = sym (c .before .before .before .before .before .before .before .before .before .before .before .before .is-hint .ensures) ∙ not-false _ (c .before .before .before .before .before .before .before .before .before .before .before .if3 .left) in
-    let at = c .before .before .before .before .before .place .given .0 .0 in
-    let done : Followed (printing (piecesIn (readHint h)) v) 0 (Fault at) (take 4096 (c .before .before .before .before .before .before .before .before .before .before .before .before .before .before .before .before .clear .last .0)) (c .before .before .before .before .before .before .before .before .before .print-pieces .last .1 .1 .0) =
-    subst (λ (r : Progress). Followed (printing (piecesIn (readHint h)) v) 0 r (take 4096 (c .before .before .before .before .before .before .before .before .before .before .before .before .before .before .before .before .clear .last .0)) (c .before .before .before .before .before .before .before .before .before .print-pieces .last .1 .1 .0)) (c .before .before .before .before .before .place .given .1) (c .before .before .before .before .before .before .before .before .before .print-pieces .ensures) in
-    let kept = c .before .before .before .before .before .before .before .before .before .before .before .before .before .before .before .before .clear .kept .0 in
-    let long : length (c .before .before .before .before .before .before .before .before .before .print-pieces .last .1 .1 .0) ≡ 4096 = c .before .before .before .before .before .before .before .before .before .print-pieces .kept .1 .1 .0 ∙ length-take 4096 (c .before .before .before .before .before .before .before .before .before .before .before .before .before .before .before .before .clear .last .0) ∙ omega (arith, c .before .before .before .before .before .before .before .before .before .before .before .before .before .before .before .before .before .before .if1 .left) in
-    answered-refusal 4096 (octetsVerdict (length o) h v) (BadOctet at) o (c .before .before .clear2 .last .0) 33 at
-    (octets-printed (length o) h v (c .before .before .before .before .before .before .before .before .before .before .before .before .before .before .before .before .before .before .if1 .left) (c .before .before .before .before .before .before .before .before .before .before .before .before .before .if2 .left) yes₁ ∙ fault-refusal done) refl refl refl refl
-    (zeros-again 4096 o (c .before .before .before .before .before .before .before .before .before .before .before .before .before .before .before .before .clear .last .0) (c .before .before .before .before .before .before .before .before .before .before .before .before .before .before .before .before .clear .ensures) (c .before .before .before .before .before .before .before .before .before .print-pieces .last .1 .1 .0) (c .before .before .clear2 .last .0) long (c .before .before .clear2 .ensures))
+    let d = c .before .before .before .before .before .before .before .before .before in
+    let o = start (zeroed d) .args .out .now in
+    let clear = zeroed d .clear in
+    let again = c .before .before .clear2 in
+    let given = c .before .before .before .before .before .place .given in
+    let at = given .0 .0 in
+    let part : List ℕ = d .print-pieces .last .1 .1 .0 in
+    let long : length part ≡ 4096 = d .print-pieces .kept .1 .1 .0 ∙ part-long (zeroed d) (zeroed d .before .before .if1 .left) in
+    let why = by-printing d ∙ fault-refusal (followed d (Fault at) (given .1)) in
+    let zeros = zeros-again 4096 o (clear .last .0) (clear .ensures) part (again .last .0) long (again .ensures) in
+    answered-refusal 4096 (verdict (zeroed d)) (BadOctet at) o (again .last .0) 33 at why refl refl refl refl zeros
 
 pub octets-spec : {M : Type 1} → statement M
 octets-spec =

@@ -1,0 +1,3 @@
+pub mod HintLaws
+pub mod PieceLaws
+pub mod FormLaws

@@ -1,0 +1,3 @@
+pub mod Outcomes
+pub mod Bounds
+pub mod UsesLaws
