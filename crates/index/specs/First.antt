@@ -1,7 +1,8 @@
 -- Searches by index: the first index from a on, below b, where a test holds; whether there is one; whether the test holds at
--- all of them.
+-- all of them; and those where it does.
 -- Assumes nothing.
 use mathlib.Core.Bool.{Bool, cond, not}
+use mathlib.Core.List.{List, [], _∷_}
 use Prim.Native.Nat.{ℕ, zero, suc, _-_}
 use lib.Dec.{ltb}
 
@@ -21,3 +22,12 @@ any test a b = ltb (first test a b) b
 -- the test holds at every index from a on, below b
 unfoldable pub all : (ℕ → Bool) → ℕ → ℕ → Bool
 all test a b = not (any (λ (i : ℕ). not (test i)) a b)
+
+-- those of n indices from a on where the test holds, in rising order
+unfoldable pub hits-of : (ℕ → Bool) → ℕ → ℕ → List ℕ
+hits-of test a zero = []
+hits-of test a (suc n) = cond (test a) (a ∷ hits-of test (suc a) n) (hits-of test (suc a) n)
+
+-- the indices from a on, below b, where the test holds, in rising order
+unfoldable pub hits : (ℕ → Bool) → ℕ → ℕ → List ℕ
+hits test a b = hits-of test a (b - a)

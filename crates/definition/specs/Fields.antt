@@ -1,0 +1,86 @@
+-- The fields of a definition: the tokens from its name, d, up to its end, e.
+-- Assumes nothing.
+use mathlib.Core.Bool.{Bool, cond, _&&_, _||_}
+use mathlib.Core.List.{List}
+use Prim.Native.Nat.{ℕ, _+_, _-_}
+use lib.Dec.{ltb, eqb}
+use Rattle.index.specs.First.{first}
+use Rattle.terminal.specs.Terminal.{left-brace, right-brace, left-paren, right-paren, Upper, assign, current, not-accessible, AUGMENTS, BITS, DEFVAL, INDEX, INTEGER, MAX-ACCESS, OBJECT, OBJECTS, OCTET, SEQUENCE, SIZE, STATUS, SYNTAX, UNITS}
+use Rattle.definition.specs.Landmark.{class-at, kind-at, has-oid, object, sequence-type}
+use Rattle.definition.specs.declared.Span.{Span}
+use Rattle.definition.specs.declared.Fields.{Fields}
+use Rattle.definition.specs.declared.Restriction.{Restriction}
+use Rattle.definition.specs.declared.Restriction.the-variants.{Free, Ranges, Sizes, Enumeration}
+use Rattle.definition.specs.declared.Syntax.{Syntax}
+use Rattle.definition.specs.declared.Syntax.the-variants.{Integer, Named, Octets, ObjectIdentifier, Bits, SequenceOf}
+
+-- the first token of this class from a on, below b; b where there is none
+abbrev pub find : List ℕ → ℕ → ℕ → ℕ → ℕ
+find cs class a b = first (λ (i : ℕ). eqb (class-at cs i) class) a b
+
+-- the tokens from a up to b
+abbrev pub span : ℕ → ℕ → Span
+span a b = record { from = a; to = b }
+
+-- none of them
+abbrev pub nowhere : ℕ → Span
+nowhere e = span e e
+
+-- what stands between the braces after the word of this class, if the definition has it: { directly follows the word
+unfoldable pub braced-after : List ℕ → ℕ → ℕ → ℕ → Span
+braced-after cs class d e =
+    cond (ltb (find cs class d e) e) (span (find cs class d e + 2) (find cs right-brace (find cs class d e + 2) e)) (nowhere e)
+
+-- the number, from 1 on, of the word after the word of this class, among words that start with `base`; 0 where there is none
+unfoldable pub word-after : List ℕ → ℕ → ℕ → ℕ → ℕ → ℕ
+word-after cs class base d e =
+    cond (ltb (find cs class d e) e) (class-at cs (find cs class d e + 1) - base + 1) 0
+
+-- the word that ends an object's syntax
+abbrev pub ends-syntax : List ℕ → ℕ → Bool
+ends-syntax cs i = eqb (class-at cs i) UNITS || eqb (class-at cs i) MAX-ACCESS
+
+-- the syntax, without the word SYNTAX: up to UNITS or MAX-ACCESS in an object, and to the definition's end in a convention
+unfoldable pub syntax-span : List ℕ → ℕ → ℕ → Span
+syntax-span cs d e =
+    cond (ltb (find cs SYNTAX d e) e) (span (find cs SYNTAX d e + 1) (first (ends-syntax cs) (find cs SYNTAX d e + 1) e)) (nowhere e)
+
+-- the columns of a SEQUENCE type: what stands between its braces
+unfoldable pub columns-span : List ℕ → ℕ → ℕ → Span
+columns-span cs d e = cond (eqb (kind-at cs d) sequence-type) (braced-after cs SEQUENCE d e) (nowhere e)
+
+-- the OID: what stands between the braces after `::=`, its head first
+unfoldable pub oid-span : List ℕ → ℕ → ℕ → Span
+oid-span cs d e = cond (has-oid (kind-at cs d)) (braced-after cs assign d e) (nowhere e)
+
+-- all of them
+unfoldable pub fields-of : List ℕ → ℕ → ℕ → Fields
+fields-of cs d e = record {
+  kind = kind-at cs d;
+  status = word-after cs STATUS current d e;
+  access = word-after cs MAX-ACCESS not-accessible d e;
+  syntax = syntax-span cs d e;
+  index = braced-after cs INDEX d e;
+  augments = braced-after cs AUGMENTS d e;
+  has_default = ltb (find cs DEFVAL d e) e;
+  objects = braced-after cs OBJECTS d e;
+  columns = columns-span cs d e;
+  oid = oid-span cs d e;
+}
+
+-- the restriction that starts at token r, in a definition that ends at e: sizes are ( SIZE ( .. ) ), ranges ( .. ), an
+-- enumeration { .. }; each with what stands between its brackets
+unfoldable pub restriction-at : List ℕ → ℕ → ℕ → Restriction
+restriction-at cs r e =
+    cond (eqb (class-at cs r) left-brace) (Enumeration (span (r + 1) (find cs right-brace (r + 1) e)))
+    (cond (eqb (class-at cs r) left-paren && eqb (class-at cs (r + 1)) SIZE) (Sizes (span (r + 3) (find cs right-paren (r + 3) e)))
+    (cond (eqb (class-at cs r) left-paren) (Ranges (span (r + 1) (find cs right-paren (r + 1) e))) Free))
+
+-- the syntax that starts at token s, in a definition that ends at e, by its first word
+unfoldable pub syntax-at : List ℕ → ℕ → ℕ → Syntax
+syntax-at cs s e =
+    cond (eqb (class-at cs s) INTEGER) (Integer (restriction-at cs (s + 1) e))
+    (cond (eqb (class-at cs s) Upper) (Named (record { 0 = s }) (restriction-at cs (s + 1) e))
+    (cond (eqb (class-at cs s) OCTET) (Octets (restriction-at cs (s + 2) e))
+    (cond (eqb (class-at cs s) OBJECT) ObjectIdentifier
+    (cond (eqb (class-at cs s) BITS) (Bits (restriction-at cs (s + 1) e)) (SequenceOf (record { 0 = s + 2 }))))))

@@ -1,0 +1,2 @@
+pub mod Landmark
+pub mod Fields

@@ -1,0 +1,1 @@
+// What a derived token sequence defines.

@@ -1,0 +1,143 @@
+-- The built-in symbols: document 01, "Built-in symbols". One table has each symbol's name, the module that offers it, and what it
+-- is. `iso` needs no import and stands by itself.
+-- Assumes nothing.
+use mathlib.Core.Bool.{Bool, true, false, _&&_}
+use mathlib.Core.List.{List, [], _∷_, _++_, map}
+use Prim.Native.Nat.{ℕ}
+use Prim.Native.String.{String}
+use lib.Dec.{ltb}
+use lib.ListN.{length, getD}
+use Rattle.index.specs.First.{first}
+use Rattle.lexicon.specs.Word.{bytes, same}
+
+-- what a symbol is
+pub data What : Type 0 where
+  -- a name with an OID: its numbers
+  oid : List ℕ → What
+  -- a type: its class, as "Records" numbers the classes
+  type : ℕ → What
+  -- a macro
+  macro : What
+
+pub record Symbol : Type 0 where
+  pub name : List ℕ
+  -- the module that offers it, by its index among the modules
+  pub module-index : ℕ
+  pub what : What
+
+-- the modules that can be imported from
+unfoldable pub modules : List (List ℕ)
+modules = bytes "SNMPv2-SMI" ∷ bytes "SNMPv2-TC" ∷ []
+
+-- `iso`, and its OID
+unfoldable pub iso-name : List ℕ
+iso-name = bytes "iso"
+
+unfoldable pub iso-oid : List ℕ
+iso-oid = 1 ∷ []
+
+-- The classes that built-in types have, from "Records".
+
+abbrev pub integer : ℕ
+integer = 1
+
+abbrev pub enumerated : ℕ
+enumerated = 2
+
+abbrev pub octets : ℕ
+octets = 3
+
+abbrev pub object-identifier : ℕ
+object-identifier = 4
+
+abbrev pub bits : ℕ
+bits = 5
+
+abbrev pub ip-address : ℕ
+ip-address = 6
+
+abbrev pub counter32 : ℕ
+counter32 = 7
+
+abbrev pub gauge32 : ℕ
+gauge32 = 8
+
+abbrev pub unsigned32 : ℕ
+unsigned32 = 9
+
+abbrev pub time-ticks : ℕ
+time-ticks = 10
+
+abbrev pub opaque : ℕ
+opaque = 11
+
+abbrev pub counter64 : ℕ
+counter64 = 12
+
+-- a symbol of SNMPv2-SMI, and one of SNMPv2-TC
+unfoldable pub of-smi : String → What → Symbol
+of-smi s w = record { name = bytes s; module-index = 0; what = w }
+
+unfoldable pub of-tc : String → What → Symbol
+of-tc s w = record { name = bytes s; module-index = 1; what = w }
+
+-- internet 1.3.6.1, and what lies below it
+unfoldable pub internet : List ℕ
+internet = 1 ∷ 3 ∷ 6 ∷ 1 ∷ []
+
+unfoldable pub below-internet : List ℕ → What
+below-internet numbers = oid (internet ++ numbers)
+
+-- the symbols
+unfoldable pub symbols : List Symbol
+symbols =
+    of-smi "org" (oid (1 ∷ 3 ∷ []))
+    ∷ of-smi "dod" (oid (1 ∷ 3 ∷ 6 ∷ []))
+    ∷ of-smi "internet" (below-internet [])
+    ∷ of-smi "directory" (below-internet (1 ∷ []))
+    ∷ of-smi "mgmt" (below-internet (2 ∷ []))
+    ∷ of-smi "experimental" (below-internet (3 ∷ []))
+    ∷ of-smi "private" (below-internet (4 ∷ []))
+    ∷ of-smi "security" (below-internet (5 ∷ []))
+    ∷ of-smi "snmpV2" (below-internet (6 ∷ []))
+    ∷ of-smi "mib-2" (below-internet (2 ∷ 1 ∷ []))
+    ∷ of-smi "transmission" (below-internet (2 ∷ 1 ∷ 10 ∷ []))
+    ∷ of-smi "enterprises" (below-internet (4 ∷ 1 ∷ []))
+    ∷ of-smi "snmpDomains" (below-internet (6 ∷ 1 ∷ []))
+    ∷ of-smi "snmpProxys" (below-internet (6 ∷ 2 ∷ []))
+    ∷ of-smi "snmpModules" (below-internet (6 ∷ 3 ∷ []))
+    ∷ of-smi "zeroDotZero" (oid (0 ∷ 0 ∷ []))
+    ∷ of-smi "Integer32" (type integer)
+    ∷ of-smi "IpAddress" (type ip-address)
+    ∷ of-smi "Counter32" (type counter32)
+    ∷ of-smi "Gauge32" (type gauge32)
+    ∷ of-smi "Unsigned32" (type unsigned32)
+    ∷ of-smi "TimeTicks" (type time-ticks)
+    ∷ of-smi "Opaque" (type opaque)
+    ∷ of-smi "Counter64" (type counter64)
+    ∷ of-smi "MODULE-IDENTITY" macro
+    ∷ of-smi "OBJECT-IDENTITY" macro
+    ∷ of-smi "OBJECT-TYPE" macro
+    ∷ of-smi "NOTIFICATION-TYPE" macro
+    ∷ of-tc "TEXTUAL-CONVENTION" macro
+    ∷ of-tc "DisplayString" (type octets)
+    ∷ of-tc "PhysAddress" (type octets)
+    ∷ of-tc "MacAddress" (type octets)
+    ∷ of-tc "DateAndTime" (type octets)
+    ∷ of-tc "TAddress" (type octets)
+    ∷ of-tc "TestAndIncr" (type integer)
+    ∷ of-tc "TimeInterval" (type integer)
+    ∷ of-tc "TruthValue" (type enumerated)
+    ∷ of-tc "RowStatus" (type enumerated)
+    ∷ of-tc "StorageType" (type enumerated)
+    ∷ of-tc "AutonomousType" (type object-identifier)
+    ∷ of-tc "InstancePointer" (type object-identifier)
+    ∷ of-tc "VariablePointer" (type object-identifier)
+    ∷ of-tc "RowPointer" (type object-identifier)
+    ∷ of-tc "TDomain" (type object-identifier)
+    ∷ of-tc "TimeStamp" (type time-ticks)
+    ∷ []
+
+-- the symbols' names
+unfoldable pub symbol-names : List (List ℕ)
+symbol-names = map (λ (s : Symbol). s .name) symbols
