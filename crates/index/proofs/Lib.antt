@@ -1,2 +1,4 @@
 pub mod Tested
 pub mod Search
+pub mod Hits
+pub mod Judged

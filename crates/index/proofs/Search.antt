@@ -109,6 +109,17 @@ module _ (test : ℕ → Bool) where
       go (yes h) = absurd (true-false (first-holds a b h l) (none (first test a b) (inside .0) h))
       go (no h) = omega (arith, inside)
 
+  -- the first index is the same for a search that starts later, but not after it
+  pub first-later : (a i b : ℕ) → a ≤ i → i ≤ first test a b → i ≤ b → first test i b ≡ first test a b
+  first-later a i b l h m = go (decLt (first test a b) b)
+    where
+      go : Dec (first test a b < b) → first test i b ≡ first test a b
+      go (yes k) =
+          first-is i b (first test a b) h k (first-holds a b k (omega arith)) (λ j p q. first-passed a b j (omega arith) q)
+      go (no k) =
+          let end : first test a b ≡ b = omega (arith, first-inside a b (omega arith)) in
+          first-end i b m (λ j p q. first-passed a b j (omega arith) (omega arith)) ∙ sym end
+
   -- ---- the loop that searches from a, below b, and is at i: nothing passed has a hit
 
   abbrev pub Searched : ℕ → ℕ → ℕ → Type 0
@@ -145,6 +156,10 @@ module _ (test : ℕ → Bool) where
   any-index a b l e =
       let h : first test a b < b = ltb-true (first test a b) b e in
       (first test a b, first-inside a b l .0, h, first-holds a b h l)
+
+  pub any-first : (a b : ℕ) → any test a b ≡ true → first test a b < b
+  unfolding any
+  any-first a b e = ltb-true (first test a b) b e
 
   pub any-none : (a b i : ℕ) → any test a b ≡ false → a ≤ i → i < b → test i ≡ false
   any-none a b i e l h = answers (test i) (λ t. absurd (true-false (any-at a b i l h t) e)) (λ f. f)
