@@ -161,6 +161,14 @@ module _ (test : ℕ → Bool) where
   unfolding any
   any-first a b e = ltb-true (first test a b) b e
 
+  -- a search that finds has something to search
+  pub any-some : (a b : ℕ) → any test a b ≡ true → a ≤ b
+  any-some a b e = go (decLt b a)
+    where
+      go : Dec (b < a) → a ≤ b
+      go (yes h) = absurd (omega (arith, any-first a b e, first-none a b (omega arith)))
+      go (no h) = omega arith
+
   pub any-none : (a b i : ℕ) → any test a b ≡ false → a ≤ i → i < b → test i ≡ false
   any-none a b i e l h = answers (test i) (λ t. absurd (true-false (any-at a b i l h t) e)) (λ f. f)
 
@@ -190,3 +198,19 @@ module _ (test : ℕ → Bool) where
   not-all a b l e =
       let found = any-index (λ (j : ℕ). not (test j)) a b l (not-false _ e) in
       (found .0, found .1, found .2, not-true (test (found .0)) (found .3))
+
+-- tests that agree wherever they are asked find the same
+module _ (p q : ℕ → Bool) where
+  pub first-same : (a b : ℕ) → a ≤ b → ((i : ℕ) → a ≤ i → i < b → p i ≡ q i) → first p a b ≡ first q a b
+  first-same a b l same = go (decLt (first q a b) b)
+    where
+      inside : (a ≤ first q a b) × (first q a b ≤ b)
+      inside = first-inside q a b l
+
+      go : Dec (first q a b < b) → first p a b ≡ first q a b
+      go (yes h) =
+          first-is p a b (first q a b) (inside .0) h (same (first q a b) (inside .0) h ∙ first-holds q a b h l)
+          (λ i m k. same i m (omega arith) ∙ first-passed q a b i m k)
+      go (no h) =
+          let end : first q a b ≡ b = omega (arith, inside) in
+          first-end p a b l (λ i m k. same i m k ∙ first-passed q a b i m (omega arith)) ∙ sym end

@@ -5,11 +5,12 @@ use mathlib.Core.List.{List, [], _∷_}
 use Prim.Native.Nat.{ℕ}
 use Rattle.index.specs.First.{first, any}
 
--- A rule: its number, how many things it is tested at, whether it is broken at one of them, and the place of each. The things are
--- counted in the order of their places.
+-- A rule: its number, the indices from `from` on, below `to`, that it is tested at, whether it is broken at one of them, and the
+-- place of each. The indices go in the order of their places.
 pub record Rule : Type 0 where
   pub number : ℕ
-  pub size : ℕ
+  pub from : ℕ
+  pub to : ℕ
   pub breach : ℕ → Bool
   pub place : ℕ → ℕ
 
@@ -21,7 +22,7 @@ pub data Judgement : Type 0 where
 -- the rule, where it is broken anywhere, at its earliest breach; and else what the rules after it say
 abbrev pub judge-before : Rule → Judgement → Judgement
 judge-before r after =
-    cond (any (r .breach) 0 (r .size)) (broken (r .number) (r .place (first (r .breach) 0 (r .size)))) after
+    cond (any (r .breach) (r .from) (r .to)) (broken (r .number) (r .place (first (r .breach) (r .from) (r .to)))) after
 
 -- the first rule that is broken anywhere, at its earliest breach
 unfoldable pub judge : List Rule → Judgement
