@@ -1,4 +1,5 @@
 pub mod Tested
 pub mod Search
 pub mod Hits
+pub mod Collected
 pub mod Judged

@@ -3,8 +3,10 @@
 -- Assumes nothing.
 use mathlib.Core.Bool.{Bool, cond, not}
 use mathlib.Core.List.{List, [], _∷_}
-use Prim.Native.Nat.{ℕ, zero, suc, _-_}
+use mathlib.Core.Path.{_≡_}
+use Prim.Native.Nat.{ℕ, zero, suc, _-_, _≤_, _<_}
 use lib.Dec.{ltb}
+use lib.ListN.{length, getD}
 
 -- the first of n indices from a on where the test holds, or the index after them
 unfoldable pub first-of : (ℕ → Bool) → ℕ → ℕ → ℕ
@@ -31,3 +33,9 @@ hits-of test a (suc n) = cond (test a) (a ∷ hits-of test (suc a) n) (hits-of t
 -- the indices from a on, below b, where the test holds, in rising order
 unfoldable pub hits : (ℕ → Bool) → ℕ → ℕ → List ℕ
 hits test a b = hits-of test a (b - a)
+
+-- the first n entries of an array are a list
+pub record Listed (list array : List ℕ) (n : ℕ) : Type 0 where
+  pub counted : length list ≡ n
+  pub room : n ≤ length array
+  pub entry : (k : ℕ) → k < n → getD array k 0 ≡ getD list k 0

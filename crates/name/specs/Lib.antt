@@ -1,0 +1,4 @@
+pub mod Import
+pub mod Lead
+pub mod Use
+pub mod Refusal

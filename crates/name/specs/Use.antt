@@ -1,0 +1,89 @@
+-- The uses of names in a module, and the kind that each needs: document 01, refusal 11.
+-- Assumes nothing.
+use mathlib.Core.Bool.{Bool, true, false, cond, _&&_, _||_}
+use mathlib.Core.List.{List}
+use Prim.Native.Nat.{ℕ, zero, suc, _-_}
+use lib.Dec.{eqb}
+use lib.ListN.{getD}
+use Rattle.terminal.specs.Terminal.{terminals, Upper, left-brace, right-brace, assign, AUGMENTS, INDEX, OBJECT-TYPE, OBJECTS, OF, SEQUENCE, SYNTAX}
+use Rattle.token.specs.Token.{Meaning}
+use Rattle.symbol.specs.Symbol.{What, oid, type, macro, what-is}
+use Rattle.definition.specs.Landmark.{class-at, is-lower, is-macro, definitions, kind-at, has-oid, object, convention, sequence-type}
+use Rattle.name.specs.Import.{classes-of, spelled}
+use Rattle.name.specs.Lead.{leads-to}
+use Rattle.name.specs.declared.Lead.{Lead}
+use Rattle.name.specs.declared.Lead.the-variants.{Iso, Import, Definition, Nothing}
+use Rattle.name.specs.declared.Need.{Need}
+use Rattle.name.specs.declared.Need.the-variants.{NoName, Macro, Type, ObjectType, Head, Object, Sequence}
+
+-- the class of the word directly before the braces that token i stands in; no terminal where it stands in none
+unfoldable pub enclosing : List ℕ → ℕ → ℕ
+enclosing cs zero = terminals
+enclosing cs (suc i) =
+    cond (eqb (class-at cs i) left-brace) (class-at cs (i - 1))
+    (cond (eqb (class-at cs i) right-brace) terminals (enclosing cs i))
+
+-- what an Upper at token i is used as: after OF a SEQUENCE type; after SYNTAX a type, in an object, where SYNTAX stands after
+-- OBJECT-TYPE, or in a convention; after a lower the type of a column. Elsewhere it is no use: a definition's own name
+unfoldable pub upper-need : List ℕ → ℕ → Need
+upper-need cs i =
+    cond (eqb (class-at cs (i - 1)) OF) Sequence
+    (cond (eqb (class-at cs (i - 1)) SYNTAX) (cond (eqb (class-at cs (i - 2)) OBJECT-TYPE) ObjectType Type)
+    (cond (is-lower (class-at cs (i - 1))) Type NoName))
+
+-- the braces after these words hold names of objects: INDEX, AUGMENTS, OBJECTS, SEQUENCE
+unfoldable pub lists-objects : ℕ → Bool
+lists-objects word = eqb word INDEX || eqb word AUGMENTS || eqb word OBJECTS || eqb word SEQUENCE
+
+-- what a lower at token i, in braces after this word, is used as: an object; or, first in the braces after `::=`, an OID's head.
+-- Elsewhere it is no use: a definition's own name, a label, a value
+unfoldable pub lower-need : List ℕ → ℕ → ℕ → Need
+lower-need cs word i =
+    cond (lists-objects word) Object
+    (cond (eqb word assign && eqb (class-at cs (i - 1)) left-brace) Head NoName)
+
+-- what token i is used as
+unfoldable pub need-at : List ℕ → ℕ → Need
+need-at cs i =
+    cond (is-macro (class-at cs i)) Macro
+    (cond (eqb (class-at cs i) Upper) (upper-need cs i)
+    (cond (is-lower (class-at cs i)) (lower-need cs (enclosing cs i) i) NoName))
+
+-- a built-in symbol serves a need: a macro, a type or a head
+unfoldable pub symbol-serves : What → Need → Bool
+symbol-serves macro Macro = true
+symbol-serves (type c) Type = true
+symbol-serves (type c) ObjectType = true
+symbol-serves (oid ns) Head = true
+symbol-serves w need = false
+
+-- a definition of this kind serves a need: a convention as a type, a SEQUENCE type after OF or as an object's type, an object as an
+-- object, and what has an OID as a head
+unfoldable pub kind-serves : ℕ → Need → Bool
+kind-serves kind Type = eqb kind convention
+kind-serves kind ObjectType = eqb kind convention || eqb kind sequence-type
+kind-serves kind Sequence = eqb kind sequence-type
+kind-serves kind Object = eqb kind object
+kind-serves kind Head = has-oid kind
+kind-serves kind need = false
+
+-- `iso` is a head
+unfoldable pub iso-serves : Need → Bool
+iso-serves Head = true
+iso-serves need = false
+
+-- what a name leads to serves the need
+unfoldable pub serves : List ℕ → Lead → Need → Bool
+serves cs Iso need = iso-serves need
+serves cs (Import k) need = symbol-serves (what-is k) need
+serves cs (Definition r) need = kind-serves (kind-at cs (getD (definitions cs) (r .0) 0)) need
+serves cs Nothing need = false
+
+-- token i is used as a name, and its name isn't known in the kind needed
+unfoldable pub is-unknown : List Meaning → ℕ → Need → Bool
+is-unknown ms i NoName = false
+is-unknown ms i need = not-served (serves (classes-of ms) (leads-to ms (spelled ms i)) need)
+  where
+    not-served : Bool → Bool
+    not-served true = false
+    not-served false = true
