@@ -12,11 +12,8 @@ use Rattle.token.specs.Token.{Meaning}
 use Rattle.symbol.specs.Symbol.{iso-name}
 use Rattle.definition.specs.Landmark.{definitions}
 use Rattle.name.specs.Import.{classes-of, spelled, imports, imports-end, offered}
+use Rattle.name.specs.Collect.{most-definitions}
 use Rattle.name.specs.Use.{need-at, is-unknown}
-
--- the most definitions that a module may have
-abbrev pub most-definitions : ℕ
-most-definitions = 512
 
 -- 8: a 513th definition
 unfoldable pub too-many : List Meaning → Rule

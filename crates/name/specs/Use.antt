@@ -14,7 +14,7 @@ use Rattle.name.specs.Lead.{leads-to}
 use Rattle.name.specs.declared.Lead.{Lead}
 use Rattle.name.specs.declared.Lead.the-variants.{Iso, Import, Definition, Nothing}
 use Rattle.name.specs.declared.Need.{Need}
-use Rattle.name.specs.declared.Need.the-variants.{NoName, Macro, Type, ObjectType, Head, Object, Sequence}
+use Rattle.name.specs.declared.Need.the-variants.{NoName, Macro, TypeName, ObjectType, Head, Object, Sequence}
 
 -- the class of the word directly before the braces that token i stands in; no terminal where it stands in none
 unfoldable pub enclosing : List ℕ → ℕ → ℕ
@@ -28,8 +28,8 @@ enclosing cs (suc i) =
 unfoldable pub upper-need : List ℕ → ℕ → Need
 upper-need cs i =
     cond (eqb (class-at cs (i - 1)) OF) Sequence
-    (cond (eqb (class-at cs (i - 1)) SYNTAX) (cond (eqb (class-at cs (i - 2)) OBJECT-TYPE) ObjectType Type)
-    (cond (is-lower (class-at cs (i - 1))) Type NoName))
+    (cond (eqb (class-at cs (i - 1)) SYNTAX) (cond (eqb (class-at cs (i - 2)) OBJECT-TYPE) ObjectType TypeName)
+    (cond (is-lower (class-at cs (i - 1))) TypeName NoName))
 
 -- the braces after these words hold names of objects: INDEX, AUGMENTS, OBJECTS, SEQUENCE
 unfoldable pub lists-objects : ℕ → Bool
@@ -52,7 +52,7 @@ need-at cs i =
 -- a built-in symbol serves a need: a macro, a type or a head
 unfoldable pub symbol-serves : What → Need → Bool
 symbol-serves macro Macro = true
-symbol-serves (type c) Type = true
+symbol-serves (type c) TypeName = true
 symbol-serves (type c) ObjectType = true
 symbol-serves (oid ns) Head = true
 symbol-serves w need = false
@@ -60,7 +60,7 @@ symbol-serves w need = false
 -- a definition of this kind serves a need: a convention as a type, a SEQUENCE type after OF or as an object's type, an object as an
 -- object, and what has an OID as a head
 unfoldable pub kind-serves : ℕ → Need → Bool
-kind-serves kind Type = eqb kind convention
+kind-serves kind TypeName = eqb kind convention
 kind-serves kind ObjectType = eqb kind convention || eqb kind sequence-type
 kind-serves kind Sequence = eqb kind sequence-type
 kind-serves kind Object = eqb kind object
