@@ -1,0 +1,71 @@
+-- `find_syntax_end` is right: what it passed doesn't end a syntax, and the first token that does, or the end, stops it.
+-- Assumes nothing.
+use mathlib.Core.Path.{refl, sym, _∙_}
+use mathlib.Core.List.{List}
+use mathlib.Core.Bool.{Bool}
+use Prim.Native.Nat.{ℕ, _-_}
+use borrow.Author.Needs.{needs}
+use lib.ListN.{take}
+use Rattle.definition.specs.Fields.{ends-syntax}
+use Rattle.definition.proofs.Found.{Passed, passed-miss, passed-hit, passed-end}
+use Rattle.definition.proofs.field.find_syntax_end.Statement.{statement}
+use Rattle.definition.proofs.field.find_syntax_end.Tie as tie
+
+abbrev Inv-loop : tie.InvT-loop
+Inv-loop classes n a b i₀ i = Passed (ends-syntax (take n classes)) a b i
+
+abbrev μ-loop : tie.MeasureT-loop
+μ-loop classes n a b i₀ i = b - i
+
+loop-holds : tie.Need-loop-holds Inv-loop μ-loop
+loop-holds c = refl
+
+class-at-requires : tie.Need-class-at-requires Inv-loop μ-loop
+class-at-requires c κs = search needs
+
+is-syntax-end-requires : tie.Need-is-syntax-end-requires Inv-loop μ-loop
+is-syntax-end-requires c κs = search needs
+
+returns : tie.Need-returns Inv-loop μ-loop
+returns c =
+    let at = c .before .before .before .before in
+    let args = at .before .before .args in
+    passed-hit (ends-syntax (take (args .n) (args .classes .now))) (args .a) (args .b) (at .loop .i) (at .loop .inv)
+    (c .before .before .before .loop-test .taken)
+    (rw (← c .before .before .class-at .ensures) (sym (c .before .is-syntax-end .ensures) ∙ c .if1 .taken))
+
+add-i : tie.Need-add-i Inv-loop μ-loop
+add-i c = search needs
+
+loop-less : tie.Need-loop-less Inv-loop μ-loop
+loop-less c = search needs
+
+loop-again : tie.Need-loop-again Inv-loop μ-loop
+loop-again c =
+    let at = c .before .before .before .before in
+    let args = at .before .before .args in
+    passed-miss (ends-syntax (take (args .n) (args .classes .now))) (args .a) (args .b) (at .loop .i) (at .loop .inv)
+    (c .before .before .before .loop-test .taken)
+    (rw (← c .before .before .class-at .ensures) (sym (c .before .is-syntax-end .ensures) ∙ c .if1 .left))
+
+returns-2 : tie.Need-returns-2 Inv-loop μ-loop
+returns-2 c =
+    let at = c .before in
+    let args = at .before .before .args in
+    passed-end (ends-syntax (take (args .n) (args .classes .now))) (args .a) (args .b) (at .loop .i) (at .loop .inv)
+    (c .loop-test .left)
+
+pub find-syntax-end-spec : {M : Type 1} → statement M
+find-syntax-end-spec =
+    tie.close
+    (tie.spec
+    Inv-loop
+    μ-loop
+    loop-holds
+    class-at-requires
+    is-syntax-end-requires
+    returns
+    add-i
+    loop-less
+    loop-again
+    returns-2)

@@ -1,0 +1,81 @@
+-- `definition_end` is right: at no token that it passed a definition starts, and the next start, or END, stops it.
+-- Assumes nothing.
+use mathlib.Core.Path.{_≡_, refl, sym, _∙_}
+use mathlib.Core.List.{List}
+use Prim.Native.Nat.{ℕ, _+_, _-_, _≤_}
+use native.Mathlib.Omega.{arith}
+use borrow.Author.Needs.{needs}
+use lib.ListN.{length, take}
+use lib.Seq.{length-take-le}
+use Rattle.definition.specs.Landmark.{begins, last, definition-end}
+use Rattle.definition.proofs.Found.{Passed, passed-miss, passed-hit, passed-end}
+use Rattle.definition.proofs.landmark.definition_end.Statement.{statement}
+use Rattle.definition.proofs.landmark.definition_end.Tie as tie
+
+abbrev Inv-loop : tie.InvT-loop
+Inv-loop classes n d i₀ i = Passed (begins (take n classes)) (d + 1) (last (take n classes)) i
+
+abbrev μ-loop : tie.MeasureT-loop
+μ-loop classes n d i₀ i = n - 1 - i
+
+add-i : tie.Need-add-i Inv-loop μ-loop
+add-i c = search needs
+
+loop-holds : tie.Need-loop-holds Inv-loop μ-loop
+loop-holds c = refl
+
+sub-loop : tie.Need-sub-loop Inv-loop μ-loop
+sub-loop c = search needs
+
+begins-requires : tie.Need-begins-requires Inv-loop μ-loop
+begins-requires c κs = search needs
+
+returns : tie.Need-returns Inv-loop μ-loop
+unfolding definition-end
+returns c =
+    let at = c .before .before .before in
+    let start = at .before .before in
+    let cs = take (start .args .n) (start .args .classes .now) in
+    passed-hit (begins cs) (start .args .d + 1) (last cs) (at .loop .i) (at .loop .inv)
+    (omega (arith, length-take-le (start .args .n) (start .args .classes .now) (start .pre .0)))
+    (sym (c .before .begins .ensures) ∙ c .if1 .taken)
+
+add-i-2 : tie.Need-add-i-2 Inv-loop μ-loop
+add-i-2 c = search needs
+
+loop-less : tie.Need-loop-less Inv-loop μ-loop
+loop-less c = search needs
+
+loop-again : tie.Need-loop-again Inv-loop μ-loop
+loop-again c =
+    let at = c .before .before .before in
+    let start = at .before .before in
+    let cs = take (start .args .n) (start .args .classes .now) in
+    passed-miss (begins cs) (start .args .d + 1) (last cs) (at .loop .i) (at .loop .inv)
+    (omega (arith, length-take-le (start .args .n) (start .args .classes .now) (start .pre .0)))
+    (sym (c .before .begins .ensures) ∙ c .if1 .left)
+
+returns-2 : tie.Need-returns-2 Inv-loop μ-loop
+unfolding definition-end
+returns-2 c =
+    let at = c .before in
+    let start = at .before .before in
+    let cs = take (start .args .n) (start .args .classes .now) in
+    passed-end (begins cs) (start .args .d + 1) (last cs) (at .loop .i) (at .loop .inv)
+    (omega (arith, length-take-le (start .args .n) (start .args .classes .now) (start .pre .0)))
+
+pub definition-end-spec : {M : Type 1} → statement M
+definition-end-spec =
+    tie.close
+    (tie.spec
+    Inv-loop
+    μ-loop
+    add-i
+    loop-holds
+    sub-loop
+    begins-requires
+    returns
+    add-i-2
+    loop-less
+    loop-again
+    returns-2)
