@@ -9,11 +9,15 @@ use native.Mathlib.Omega.{arith}
 use lib.Dec.{T, leb, ltb, eqb, leb→le}
 use lib.ListN.{length, getD, take, drop, length-drop}
 use borrow.Author.Tests.{leb-true, leb-false, ltb-true, eqb-true}
-use Rattle.terminal.specs.Terminal.{number, negative, text, hex, assign, dots, left-brace, bar, lower, Upper, terminals, word-count}
-use Rattle.lexicon.specs.Byte.{class-of, quote, newline, feed, hyphen, apostrophe, colon, dot, digit, capital-hex, capital, digit-byte, hex-byte, text-byte, name-byte, comment-byte, blank-byte, two-hyphens}
+use Rattle.terminal.specs.Terminal.{number, negative, text, hex, assign, dots, left-brace, bar, lower, Upper, terminals}
+use Rattle.terminal.specs.Terminal.{word-count}
+use Rattle.lexicon.specs.Byte.{class-of, quote, newline, feed, hyphen, apostrophe, colon, dot, digit, capital-hex, capital}
+use Rattle.lexicon.specs.Byte.{digit-byte, hex-byte, text-byte, name-byte, comment-byte, blank-byte, two-hyphens}
 use Rattle.lexicon.specs.Word.{longest-name, is-name, words, word-classes, place-in, name-class}
 use Rattle.piece.specs.Decimal.{decimal}
-use Rattle.piece.specs.Piece.{Piece, gap, token, refusal, largest-number, largest-negative, span, name, misfit, non-negative, below-zero, closing, comment, after-hyphen, quoted, hex-string, after-colon, after-dot, punctuation, piece}
+use Rattle.piece.specs.Piece.{Piece, gap, token, refusal, largest-number, largest-negative, span, name, misfit}
+use Rattle.piece.specs.Piece.{non-negative, below-zero, closing, comment, after-hyphen, quoted, hex-string}
+use Rattle.piece.specs.Piece.{after-colon, after-dot, punctuation, piece}
 use Rattle.index.proofs.Search.{true-false}
 use Rattle.lexicon.proofs.Places.{inside, byte-inside}
 use Rattle.piece.proofs.Span.{span-in}
@@ -66,7 +70,8 @@ name-class-fits : (s : List ℕ) → (lower ≤ name-class s) × (name-class s <
 unfolding name-class
 name-class-fits s = go (ltb (place-in s words) word-count) refl (leb capital-hex (class-of (getD s 0 0)))
   where
-    go : (a : Bool) → ltb (place-in s words) word-count ≡ a → (b : Bool) → (lower ≤ cond a (getD word-classes (place-in s words) 0) (cond b Upper lower)) × (cond a (getD word-classes (place-in s words) 0) (cond b Upper lower) < terminals)
+    go : (a : Bool) → ltb (place-in s words) word-count ≡ a → (b : Bool)
+        → (lower ≤ cond a (getD word-classes (place-in s words) 0) (cond b Upper lower)) × (cond a (getD word-classes (place-in s words) 0) (cond b Upper lower) < terminals)
     go true e b =
         let h : place-in s words < word-count = ltb-true (place-in s words) word-count e in
         omega (arith, word-class (place-in s words) h)
