@@ -32,7 +32,8 @@ text-of c = c .before .before .args .text .now
 abbrev left-of : tie.After-run-end → List ℕ
 left-of c = drop (c .run-end .result) (text-of c)
 
-rest : (c : tie.After-run-end) → (let s = drop (c .before .before .args .at + 2) (text-of c) in drop (span comment-byte s) s ≡ left-of c)
+rest : (c : tie.After-run-end)
+    → (let s = drop (c .before .before .args .at + 2) (text-of c) in drop (span comment-byte s) s ≡ left-of c)
 rest c = rest-at (text-of c) (c .before .before .args .at + 2) _ (c .run-end .result) (sym (c .run-end .ensures))
 
 -- a hyphen stands there

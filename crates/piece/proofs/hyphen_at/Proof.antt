@@ -40,7 +40,8 @@ unfolding after-hyphen
 returns c =
     let two = c .before in
     let a = start-of (two .before) .args in
-    simp (after (two .before), two .if1 .taken, rest-at (a .text .now) (a .at + 1) 1 (a .at + 2) (omega arith)) (c .comment-at .ensures)
+    let rest = rest-at (a .text .now) (a .at + 1) 1 (a .at + 2) (omega arith) in
+    simp (after (two .before), two .if1 .taken, rest) (c .comment-at .ensures)
 
 negative-at-requires : tie.Need-negative-at-requires
 negative-at-requires c κs = search needs

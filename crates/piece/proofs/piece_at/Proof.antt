@@ -3,7 +3,8 @@
 use mathlib.Core.Path.{_≡_, refl, ap}
 use mathlib.Core.Logic.{⊎-elim}
 use mathlib.Core.Bool.{true}
-use Prim.Native.Nat.{_+_, _-_}
+use mathlib.Core.List.{List}
+use Prim.Native.Nat.{ℕ, _+_, _-_}
 use native.Mathlib.Omega.{arith}
 use borrow.Author.Tests.{le-leb, lt-leb, ne-eqb}
 use lib.ListN.{getD, drop}
@@ -27,13 +28,16 @@ class-of-requires c κs = search needs
 abbrev start-of : tie.After-class-of → tie.Start
 start-of c = c .before .before .before
 
-asked : (c : tie.After-class-of) → (let a = start-of c .args in class-of (getD (drop (a .at) (a .text .now)) 0 0) ≡ c .class-of .result)
+abbrev left-of : tie.After-class-of → List ℕ
+left-of c = drop (start-of c .args .at) (start-of c .args .text .now)
+
+asked : (c : tie.After-class-of) → class-of (getD (left-of c) 0 0) ≡ c .class-of .result
 asked c =
     let a = start-of c .args in
     first-class (a .text .now) (a .at) (c .class-of .ensures)
 
 -- what is left after that byte
-rest : (c : tie.After-class-of) → (let a = start-of c .args in drop 1 (drop (a .at) (a .text .now)) ≡ drop (a .at + 1) (a .text .now))
+rest : (c : tie.After-class-of) → drop 1 (left-of c) ≡ drop (start-of c .args .at + 1) (start-of c .args .text .now)
 rest c =
     let a = start-of c .args in
     rest-at (a .text .now) (a .at) 1 (a .at + 1) refl

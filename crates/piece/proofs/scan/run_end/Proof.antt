@@ -40,13 +40,15 @@ loop-again : tie.Need-loop-again Inv-loop μ-loop
 loop-again c =
     let turn = c .before .before in
     let l = turn .before in
-    reached-more (in-run l) (text-of l) _ _ (l .loop .inv) (turn .loop-test .taken) (sym (c .before .belongs .ensures) ∙ c .if1 .taken)
+    let answer = sym (c .before .belongs .ensures) ∙ c .if1 .taken in
+    reached-more (in-run l) (text-of l) _ _ (l .loop .inv) (turn .loop-test .taken) answer
 
 returns : tie.Need-returns Inv-loop μ-loop
 returns c =
     let turn = c .before .before in
     let l = turn .before in
-    reached-stop (in-run l) (text-of l) _ _ (l .loop .inv) (turn .loop-test .taken) (sym (c .before .belongs .ensures) ∙ c .if1 .left)
+    let answer = sym (c .before .belongs .ensures) ∙ c .if1 .left in
+    reached-stop (in-run l) (text-of l) _ _ (l .loop .inv) (turn .loop-test .taken) answer
 
 returns-2 : tie.Need-returns-2 Inv-loop μ-loop
 returns-2 c =
