@@ -1,6 +1,6 @@
 -- `colon_at` is right because the two tests after the colon are those of the definition.
 -- Assumes nothing.
-use Prim.Native.Nat.{_+_, _-_}
+use Prim.Native.Nat.{_+_}
 use native.Mathlib.Omega.{arith}
 use native.Mathlib.Nat.{add-zero}
 use Rattle.piece.specs.Piece.{after-colon}

@@ -25,7 +25,7 @@ run-end-requires c κs = search needs
 class-at-requires : tie.Need-class-at-requires
 class-at-requires c κs = search needs
 
--- where the run of the comment's bytes ended, and what is left there
+-- the text, and what is left of it where the run of the comment's bytes ended
 abbrev text-of : tie.After-run-end → List ℕ
 text-of c = c .before .before .args .text .now
 

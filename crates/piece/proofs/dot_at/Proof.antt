@@ -1,6 +1,6 @@
 -- `dot_at` is right because the test after the dot is that of the definition.
 -- Assumes nothing.
-use Prim.Native.Nat.{_+_, _-_}
+use Prim.Native.Nat.{_+_}
 use native.Mathlib.Nat.{add-zero}
 use Rattle.piece.specs.Piece.{after-dot}
 use Rattle.lexicon.proofs.Places.{first-is, first-not}

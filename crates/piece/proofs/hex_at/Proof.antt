@@ -26,7 +26,7 @@ run-end-requires c κs = search needs
 class-at-requires : tie.Need-class-at-requires
 class-at-requires c κs = search needs
 
--- what follows the apostrophe, and where the hex digits end
+-- where the hex digits start, how many there are, and the place after the byte that ends them
 abbrev text-of : tie.After-run-end → List ℕ
 text-of c = c .before .before .args .text .now
 
@@ -36,10 +36,13 @@ place-of c = c .before .before .args .at + 1
 abbrev digits-of : tie.After-run-end → ℕ
 digits-of c = span hex-byte (drop (place-of c) (text-of c))
 
+after : (c : tie.After-run-end) → place-of c + (digits-of c + 1) ≡ c .run-end .result + 1
+after c = omega (arith, c .run-end .ensures)
+
 -- an apostrophe stands there
-quote-there : (c : tie.Then1)
+apostrophe-there : (c : tie.Then1)
     → (let r = c .before .before in eqb (class-of (getD (drop (place-of r) (text-of r)) (digits-of r) 0)) apostrophe ≡ true)
-quote-there c =
+apostrophe-there c =
     let r = c .before .before in
     class-is (text-of r) (place-of r) (digits-of r) _ (sym (r .run-end .ensures)) (c .before .class-at .ensures) (c .if1 .taken)
 
@@ -63,18 +66,16 @@ unfolding hex-string
 returns c =
     let one = c .before .before in
     let r = one .before .before in
-    let place : place-of r + (digits-of r + 1) ≡ r .run-end .result + 1 = omega (arith, r .run-end .ensures) in
-    let letter = byte-is (text-of r) (place-of r) (digits-of r + 1) _ place (c .before .byte-at .ensures) (c .if2 .taken) in
-    simp (quote-there one, letter) (ap (Found.Piece hex) (omega (arith, r .run-end .ensures)))
+    let letter = byte-is (text-of r) (place-of r) (digits-of r + 1) _ (after r) (c .before .byte-at .ensures) (c .if2 .taken) in
+    simp (apostrophe-there one, letter) (ap (Found.Piece hex) (omega (arith, r .run-end .ensures)))
 
 returns-2 : tie.Need-returns-2
 unfolding hex-string
 returns-2 c =
     let one = c .before .before in
     let r = one .before .before in
-    let place : place-of r + (digits-of r + 1) ≡ r .run-end .result + 1 = omega (arith, r .run-end .ensures) in
-    let other = byte-not (text-of r) (place-of r) (digits-of r + 1) _ place (c .before .byte-at .ensures) (c .if2 .left) in
-    simp (quote-there one, other, add-zero)
+    let other = byte-not (text-of r) (place-of r) (digits-of r + 1) _ (after r) (c .before .byte-at .ensures) (c .if2 .left) in
+    simp (apostrophe-there one, other, add-zero)
 
 returns-3 : tie.Need-returns-3
 unfolding hex-string

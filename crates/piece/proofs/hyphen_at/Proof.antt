@@ -1,7 +1,7 @@
 -- `hyphen_at` is right because the class after the hyphen decides as in the definition.
 -- Assumes nothing.
 use mathlib.Core.Path.{_≡_, sym, _∙_}
-use Prim.Native.Nat.{_+_, _-_}
+use Prim.Native.Nat.{_+_}
 use native.Mathlib.Omega.{arith}
 use native.Mathlib.Nat.{add-zero}
 use Rattle.piece.specs.Piece.{after-hyphen}

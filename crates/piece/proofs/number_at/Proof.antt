@@ -2,7 +2,6 @@
 -- Assumes nothing.
 use mathlib.Core.Path.{_≡_, sym, ap, _∙_}
 use mathlib.Core.Bool.{false}
-use Prim.Native.Nat.{_-_}
 use native.Mathlib.Omega.{arith}
 use native.Mathlib.Nat.{add-zero}
 use lib.ListN.{drop}
@@ -20,10 +19,10 @@ digit-run-requires c κs = search needs
 is-misfit-requires : tie.Need-is-misfit-requires
 is-misfit-requires c κs = search needs
 
--- the digits are no misfit
 abbrev start-of : tie.After-is-misfit → tie.Start
 start-of c = c .before .before .before
 
+-- the digits are no misfit
 fine : (c : tie.Else1) → (let a = start-of (c .before) .args in misfit (drop (a .at) (a .text .now)) ≡ false)
 fine c = sym (c .before .is-misfit .ensures) ∙ c .if1 .left
 
