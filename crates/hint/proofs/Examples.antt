@@ -33,7 +33,8 @@ pub record Examples : Type 0 where
 
 pub examples : Examples
 unfolding bytes octets-verdict by-pieces of-outcome read-hint pieces-of cut cut-within before piece-size piece-end piece-at is-piece
-    terminator-of separator-of format-place length-place starred longest numeric bounded allowed number-at number-after mark-size mark-at mark digit
+    terminator-of separator-of format-place length-place starred longest numeric bounded allowed number-at number-after
+    mark-size mark-at mark digit
     printing printing-within turn uses-end uses-start repeats uses one-use following optional use-text passed passes joined
     character-size sequence-size tails second-high second-low lead-size tail between big-endian digits digits-within glyph base-of
     integer-verdict by-form in-range signed magnitude integer-format read-form read-point pointed

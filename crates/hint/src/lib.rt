@@ -14,7 +14,7 @@ use hint_integer::print_signed;
 use hint_piece::Progress;
 use pieces::print_pieces;
 
-// What a call answers. Answer.antt gives the number, place and length of each case.
+// What a call answers. specs/Answer.antt gives the number, place and length of each case.
 pub enum Answer {
     // The text's length.
     Printed(usize),

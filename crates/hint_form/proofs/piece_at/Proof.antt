@@ -3,9 +3,7 @@
 use Prim.Native.Nat.{ℕ, _+_, _≤_}
 use native.Mathlib.Omega.{arith}
 use mathlib.Core.Path.{_≡_, sym, ap, _∙_}
-use mathlib.Core.Bool.{Bool, cond, not, _&&_}
 use mathlib.Core.List.{List}
-use lib.Dec.{eqb}
 use borrow.Author.Needs.{needs}
 use borrow.Author.Tests.{not-true, not-false}
 use Rattle.buffer.specs.Buffer.{byte-at}
@@ -67,15 +65,11 @@ separator-known d = d .mark-at .ensures ∙ ap (λ (v : Number). mark-at (text (
 terminator-known : (d : tie.After-terminator-at) → d .terminator-at .result ≡ terminator-of (text (ended d)) (place (ended d))
 unfolding terminator-of format-place
 terminator-known d =
-    let h = text (ended d) in
-    let i = place (ended d) in
-    let star = d .before .before .is-starred in
-    let separator = d .before .mark-at in
-    let at : ℕ = format-place h i + 2 in
-    d .terminator-at .ensures
-    ∙ ap (λ (v : Number). cond (star .result && not (eqb (separator .result) 0)) (mark-at h (v .next + 2)) 0) (number-known (ended d))
-    ∙ ap (λ (t : Bool). cond (t && not (eqb (separator .result) 0)) (mark-at h at) 0) (star .ensures)
-    ∙ ap (λ (b : ℕ). cond (starred h i && not (eqb b 0)) (mark-at h at) 0) (separator-known (d .before))
+    let read = d .terminator-at .ensures in
+    let star = d .before .before .is-starred .ensures in
+    let separator = separator-known (d .before) in
+    let next = ap (λ (v : Number). v .next) (number-known (ended d)) in
+    cc
 
 -- the format stands at most four bytes after the piece's start
 place-near : (d : tie.After-number-at) → d .number-at .result .next ≤ place d + 4
