@@ -6,10 +6,10 @@ use Prim.Native.String.{String, [] as none, _∷_ as char-and}
 use mathlib.Core.Path.{_≡_, refl}
 use mathlib.Core.List.{List, [], _∷_}
 use lib.IntN.{negsuc}
-use Rattle.hint_form.specs.Form.{base-of, integer-format, read-point, read-form}
+use Rattle.hint_form.specs.Hint.{base-of, digit, mark, mark-at, mark-size, number-after, number-at, allowed, bounded, longest, numeric, passes, starred, length-place, format-place, separator-of, terminator-of, is-piece, piece-at, piece-end, piece-size, pieces-of, read-hint}
+use Rattle.hint_integer.specs.Form.{integer-format, read-point, read-form}
 use Rattle.digit.specs.Digits.{glyph, digits-within, digits, pointed, big-endian}
 use Rattle.character.specs.Cut.{before, cut-within, cut}
-use Rattle.hint_form.specs.Hint.{digit, mark, mark-at, mark-size, number-after, number-at, allowed, bounded, longest, numeric, passes, starred, length-place, format-place, separator-of, terminator-of, is-piece, piece-at, piece-end, piece-size, pieces-of, read-hint}
 use Rattle.character.specs.Character.{between, tail, lead-size, second-low, second-high, tails, sequence-size, character-size}
 use Rattle.hint_piece.specs.Use.{joined, passed, use-text, optional, following, one-use, uses, repeats, uses-start, uses-end}
 use Rattle.hint_integer.specs.Signed.{magnitude, signed, in-range}
