@@ -3,13 +3,15 @@
 use Prim.Native.Nat.{ℕ, _+_, _≤_}
 use native.Mathlib.Omega.{arith}
 use mathlib.Core.Path.{_≡_, sym, ap, _∙_}
+use mathlib.Core.Bool.{Bool, cond, not, _&&_}
 use mathlib.Core.List.{List}
+use lib.Dec.{eqb}
 use borrow.Author.Needs.{needs}
 use borrow.Author.Tests.{not-true, not-false}
 use Rattle.buffer.specs.Buffer.{byte-at}
 use Rattle.hint_form.specs.declared.Found.the-variants.{Whole}
 use Rattle.hint_form.specs.declared.Number.{Number}
-use Rattle.hint_form.specs.Hint.{number-at, length-place, format-place, mark-at, mark-size, separator-of, terminator-of, starred, bounded, is-piece, piece-end}
+use Rattle.hint_form.specs.Hint.{number-at, allowed, longest, length-place, format-place, mark-at, mark-size, separator-of, terminator-of, starred, bounded, is-piece, piece-end}
 use Rattle.hint_form.proofs.HintLaws.{length-place-near, number-next, mark-size-small}
 use Rattle.hint_form.proofs.piece_at.Statement.{statement}
 use Rattle.hint_form.proofs.piece_at.Tie as tie
@@ -48,13 +50,15 @@ format-known d = d .byte-at .ensures ∙ ap (λ (v : Number). byte-at (text (d .
 piece-known : (d : tie.After-is-allowed) → d .is-allowed .result ≡ is-piece (text (tested d)) (place (tested d))
 unfolding is-piece bounded
 piece-known d =
-    let read = d .is-allowed .ensures in
-    let start = tested d .before .length-place .ensures in
-    let first = d .before .before .byte-at2 .ensures in
-    let value = ap (λ (v : Number). v .value) (number-known (tested d)) in
-    let most = d .before .longest-of .ensures in
-    let format = format-known (d .before .before .before) in
-    cc
+    let h = text (tested d) in
+    let at : ℕ = length-place h (place (tested d)) in
+    let number = tested d .number-at in
+    let longest-of = d .before .longest-of in
+    let first = d .before .before .byte-at2 .ensures ∙ ap (byte-at h) (tested d .before .length-place .ensures) in
+    d .is-allowed .ensures
+    ∙ ap (λ (b : ℕ). allowed b (number .result .value) (longest-of .result)) first
+    ∙ ap (λ (v : Number). allowed (byte-at h at) (v .value) (longest-of .result)) (number-known (tested d))
+    ∙ ap (allowed (byte-at h at) (number-at h at .value)) (longest-of .ensures ∙ ap longest (format-known (d .before .before .before)))
 
 separator-known : (d : tie.After-mark-at) → d .mark-at .result ≡ separator-of (text (separated d)) (place (separated d))
 unfolding separator-of format-place
@@ -63,11 +67,15 @@ separator-known d = d .mark-at .ensures ∙ ap (λ (v : Number). mark-at (text (
 terminator-known : (d : tie.After-terminator-at) → d .terminator-at .result ≡ terminator-of (text (ended d)) (place (ended d))
 unfolding terminator-of format-place
 terminator-known d =
-    let read = d .terminator-at .ensures in
-    let star = d .before .before .is-starred .ensures in
-    let separator = separator-known (d .before) in
-    let next = ap (λ (v : Number). v .next) (number-known (ended d)) in
-    cc
+    let h = text (ended d) in
+    let i = place (ended d) in
+    let star = d .before .before .is-starred in
+    let separator = d .before .mark-at in
+    let at : ℕ = format-place h i + 2 in
+    d .terminator-at .ensures
+    ∙ ap (λ (v : Number). cond (star .result && not (eqb (separator .result) 0)) (mark-at h (v .next + 2)) 0) (number-known (ended d))
+    ∙ ap (λ (t : Bool). cond (t && not (eqb (separator .result) 0)) (mark-at h at) 0) (star .ensures)
+    ∙ ap (λ (b : ℕ). cond (starred h i && not (eqb b 0)) (mark-at h at) 0) (separator-known (d .before))
 
 -- the format stands at most four bytes after the piece's start
 place-near : (d : tie.After-number-at) → d .number-at .result .next ≤ place d + 4
@@ -157,10 +165,10 @@ returns-2 c =
     let terminator = terminator-known end in
     let first : ℕ = c .before .mark-size .result in
     let second : ℕ = c .mark-size2 .result in
-    let place = ap (λ (v : Number). v .next) number in
-    let one = c .before .mark-size .ensures in
-    let two = c .mark-size2 .ensures in
-    let next : ended end .number-at .result .next + 1 + first + second ≡ piece-end h i = cc in
+    let next : ended end .number-at .result .next + 1 + first + second ≡ piece-end h i =
+    ap (λ (v : Number). v .next + 1 + first + second) number
+    ∙ ap (λ (k : ℕ). format-place h i + 1 + k + second) (c .before .mark-size .ensures ∙ ap mark-size separator)
+    ∙ ap (λ (k : ℕ). format-place h i + 1 + mark-size (separator-of h i) + k) (c .mark-size2 .ensures ∙ ap mark-size terminator) in
     simp (sym (piece-known (ok .before)) ∙ not-false _ (ok .if1 .left))
     (λ j.
     Whole
