@@ -13,12 +13,12 @@ use lib.Seq.{take-at, drop-at}
 use borrow.Author.Tests.{lt-ltb, le-ltb}
 use Rattle.buffer.specs.Buffer.{written, Wrote}
 use Rattle.hint_form.specs.Hint.{Reading, pieces, none, read-hint, is-pieces, pieces-in}
-use Rattle.hint_form.specs.Form.{read-form, is-bad}
+use Rattle.hint_integer.specs.Form.{read-form, is-bad}
 use Rattle.hint_piece.specs.Use.{Outcome}
 use Rattle.hint_piece.specs.Followed.{Followed, wrote, failed}
 use Rattle.hint_integer.specs.Signed.{in-range, signed}
-use Rattle.hint_form.specs.declared.Form.{Form}
-use Rattle.hint_form.specs.declared.Form.the-variants.{Base, Point, Bad}
+use Rattle.hint_integer.specs.declared.Form.{Form}
+use Rattle.hint_integer.specs.declared.Form.the-variants.{Base, Point, Bad}
 use Rattle.hint_piece.specs.declared.Progress.the-variants.{To, Fault}
 use Rattle.hint.specs.Print.{printing}
 use Rattle.hint.specs.Answer.{Verdict, text, refusal, Answered, number, place, size, buffer, number-of, place-of, length-of, of-outcome, by-pieces, octets-verdict, by-form, integer-verdict}

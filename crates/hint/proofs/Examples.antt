@@ -6,10 +6,10 @@ use Prim.Native.String.{String, [] as none, _∷_ as char-and}
 use mathlib.Core.Path.{_≡_, refl}
 use mathlib.Core.List.{List, [], _∷_}
 use lib.IntN.{negsuc}
-use Rattle.hint_form.specs.Form.{base-of, integer-format, read-point, read-form}
+use Rattle.hint_form.specs.Hint.{base-of, digit, mark, mark-at, mark-size, number-after, number-at, allowed, bounded, longest, numeric, passes, starred, length-place, format-place, separator-of, terminator-of, is-piece, piece-at, piece-end, piece-size, pieces-of, read-hint}
+use Rattle.hint_integer.specs.Form.{integer-format, read-point, read-form}
 use Rattle.digit.specs.Digits.{glyph, digits-within, digits, pointed, big-endian}
 use Rattle.character.specs.Cut.{before, cut-within, cut}
-use Rattle.hint_form.specs.Hint.{digit, mark, mark-at, mark-size, number-after, number-at, allowed, bounded, longest, numeric, passes, starred, length-place, format-place, separator-of, terminator-of, is-piece, piece-at, piece-end, piece-size, pieces-of, read-hint}
 use Rattle.character.specs.Character.{between, tail, lead-size, second-low, second-high, tails, sequence-size, character-size}
 use Rattle.hint_piece.specs.Use.{joined, passed, use-text, optional, following, one-use, uses, repeats, uses-start, uses-end}
 use Rattle.hint_integer.specs.Signed.{magnitude, signed, in-range}
@@ -33,7 +33,8 @@ pub record Examples : Type 0 where
 
 pub examples : Examples
 unfolding bytes octets-verdict by-pieces of-outcome read-hint pieces-of cut cut-within before piece-size piece-end piece-at is-piece
-    terminator-of separator-of format-place length-place starred longest numeric bounded allowed number-at number-after mark-size mark-at mark digit
+    terminator-of separator-of format-place length-place starred longest numeric bounded allowed number-at number-after
+    mark-size mark-at mark digit
     printing printing-within turn uses-end uses-start repeats uses one-use following optional use-text passed passes joined
     character-size sequence-size tails second-high second-low lead-size tail between big-endian digits digits-within glyph base-of
     integer-verdict by-form in-range signed magnitude integer-format read-form read-point pointed

@@ -9,7 +9,7 @@ use lib.Dec.{leb}
 use lib.IntN.{ℤ, pos, negsuc}
 use lib.ListN.{length}
 use Rattle.hint_form.specs.Hint.{pieces, read-hint, is-pieces, pieces-in}
-use Rattle.hint_form.specs.Form.{read-form}
+use Rattle.hint_integer.specs.Form.{read-form}
 use Rattle.hint_piece.specs.Use.{piece-text, printed, repeats, uses-start, uses-end}
 use Rattle.hint_integer.specs.Signed.{in-range, signed}
 use Rattle.hint_form.specs.declared.Piece.{Piece}
@@ -20,7 +20,7 @@ use Rattle.hint_piece.proofs.Bounds.{uses-size}
 use Rattle.hint_form.proofs.PieceLaws.{AllAllowed, pieces-from, pieces-allowed, hint-pieces}
 use Rattle.hint_piece.proofs.UsesLaws.{uses-start-near, uses-end-is}
 use Rattle.hint_integer.proofs.SignedLaws.{magnitude-small, magnitude-size}
-use Rattle.hint_form.proofs.FormLaws.{form-usable}
+use Rattle.hint_integer.proofs.FormLaws.{form-usable}
 use Rattle.hint.proofs.PrintingLaws.{turn-allowed}
 
 -- printing from an octet on prints four bytes at most for each octet left

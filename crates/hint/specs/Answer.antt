@@ -9,10 +9,10 @@ use lib.Dec.{ltb, eqb}
 use lib.ListN.{length, drop, replicate}
 use lib.IntN.{ℤ}
 use Rattle.hint_form.specs.Hint.{Reading, pieces, none, read-hint}
-use Rattle.hint_form.specs.Form.{read-form}
+use Rattle.hint_integer.specs.Form.{read-form}
 use Rattle.hint_piece.specs.Use.{Outcome, printed, fault}
-use Rattle.hint_form.specs.declared.Form.{Form}
-use Rattle.hint_form.specs.declared.Form.the-variants.{Base, Point, Bad}
+use Rattle.hint_integer.specs.declared.Form.{Form}
+use Rattle.hint_integer.specs.declared.Form.the-variants.{Base, Point, Bad}
 use Rattle.hint_integer.specs.Signed.{signed, in-range}
 use Rattle.hint.specs.Print.{printing}
 use Rattle.hint.specs.declared.Answer.{Answer}

@@ -6,15 +6,15 @@ ghost use mathlib.Core.Path.{_≡_};
 ghost use lib.ListN.{length};
 ghost use Rattle.hint.specs.Answer.{number-of, place-of, length-of, Answered, octets-verdict, integer-verdict, octets-part, integer-part};
 use buffer::clear;
-use hint_form::form_of;
 use hint_form::is_hint;
+use hint_integer::form_of;
 use hint_integer::in_range;
 use hint_integer::is_bad;
 use hint_integer::print_signed;
 use hint_piece::Progress;
 use pieces::print_pieces;
 
-// What a call answers. Answer.antt gives the number, place and length of each case.
+// What a call answers. specs/Answer.antt gives the number, place and length of each case.
 pub enum Answer {
     // The text's length.
     Printed(usize),

@@ -1,3 +1,2 @@
 pub mod HintLaws
 pub mod PieceLaws
-pub mod FormLaws

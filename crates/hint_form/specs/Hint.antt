@@ -1,4 +1,5 @@
--- The grammar of a hint for octets (document 01, "Printing by hint"; RFC 2579, 3.1).
+-- The grammar of a hint for octets (document 01, "Printing by hint"; RFC 2579, 3.1). A hint for integers has the same numbers
+-- and letters.
 -- A piece begins with a digit or `*`, and a separator or terminator is neither, so each hint reads in one way at most.
 -- Assumes nothing.
 use Prim.Native.Nat.{ℕ, zero, suc, _+_, _-_, _*_}
@@ -57,6 +58,10 @@ numeric format = eqb format (code "x") || eqb format (code "d") || eqb format (c
 -- the formats that pass characters on
 unfoldable pub passes : ℕ → Bool
 passes format = eqb format (code "a") || eqb format (code "t")
+
+-- the base that a format letter means: x 16, o 8, b 2, and d 10
+unfoldable pub base-of : ℕ → ℕ
+base-of format = cond (eqb format (code "x")) 16 (cond (eqb format (code "o")) 8 (cond (eqb format (code "b")) 2 10))
 
 -- the greatest length that a format allows: 8 for x d o, 255 for a t; no other byte is a format
 unfoldable pub longest : ℕ → ℕ

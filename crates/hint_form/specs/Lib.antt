@@ -1,2 +1,1 @@
 pub mod Hint
-pub mod Form

@@ -1,11 +1,10 @@
-// Reads hints: the pieces of a hint for octets, and a hint for integers.
+// Reads hints for octets: their pieces. Numbers and format letters serve hints for integers too.
 ghost use Prim.Native.Nat.{_<_, _^_};
 ghost use mathlib.Core.Path.{_≡_};
 ghost use mathlib.Core.Bool.{cond, not, _&&_};
 ghost use lib.Dec.{eqb};
 ghost use lib.ListN.{length};
-ghost use Rattle.hint_form.specs.Hint.{found, is-pieces, read-hint, digit, mark, mark-at, mark-size, number-at, allowed, longest, length-place, starred};
-ghost use Rattle.hint_form.specs.Form.{base-of, read-form, read-point};
+ghost use Rattle.hint_form.specs.Hint.{found, is-pieces, read-hint, digit, mark, mark-at, mark-size, number-at, allowed, longest, length-place, starred, base-of};
 use buffer::byte_at;
 
 // One octet-format specification. A separator or terminator of 0 is none.
@@ -27,13 +26,6 @@ pub struct Number {
 pub enum Found {
     Whole(Piece, usize),
     Nothing,
-}
-
-// A hint for integers: a base, or a decimal point before so many digits.
-pub enum Form {
-    Base(u64),
-    Point(u64),
-    Bad,
 }
 
 fn is_digit(b: u8) -> bool
@@ -74,7 +66,7 @@ fn mark_size(b: u8) -> usize
 }
 
 // The number at a place, of three digits at most, and the place after it; 0 where there is none.
-fn number_at(hint: &[u8], i: usize) -> Number
+pub fn number_at(hint: &[u8], i: usize) -> Number
     requires { ⌜ i < 2 ^ 63 ⌝ }
     ensures { λ r. ⌜ r ≡ number-at (now (hint .entry)) i ⌝ }
 {
@@ -124,7 +116,7 @@ fn length_place(hint: &[u8], i: usize) -> usize
 }
 
 // Whether a number with this first byte has no leading zero and is from 1 to a bound.
-fn is_allowed(first: u8, value: usize, most: usize) -> bool
+pub fn is_allowed(first: u8, value: usize, most: usize) -> bool
     ensures { λ r. ⌜ r ≡ allowed first value most ⌝ }
 {
     if first == b'0' {
@@ -217,40 +209,5 @@ pub fn base_of(format: u8) -> u64
         2
     } else {
         10
-    }
-}
-
-// The point of a hint d-N; Bad where it is none.
-fn point_of(hint: &[u8]) -> Form
-    ensures { λ r. ⌜ r ≡ read-point (now (hint .entry)) ⌝ }
-{
-    if byte_at(hint, 0) != b'd' {
-        return Form::Bad;
-    }
-    if byte_at(hint, 1) != b'-' {
-        return Form::Bad;
-    }
-    let number = number_at(hint, 2);
-    let places = number.value;
-    if !is_allowed(byte_at(hint, 2), places, 10) {
-        return Form::Bad;
-    }
-    if number.next != hint.len() {
-        return Form::Bad;
-    }
-    Form::Point(places as u64)
-}
-
-// The form that a hint for integers asks; Bad where it is none.
-pub fn form_of(hint: &[u8]) -> Form
-    ensures { λ r. ⌜ r ≡ read-form (now (hint .entry)) ⌝ }
-{
-    if hint.len() != 1 {
-        return point_of(hint);
-    }
-    let letter = byte_at(hint, 0);
-    match letter {
-        b'x' | b'o' | b'b' | b'd' => Form::Base(base_of(letter)),
-        _ => Form::Bad,
     }
 }

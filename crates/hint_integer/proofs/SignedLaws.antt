@@ -12,9 +12,9 @@ use lib.IntN.{ℤ, pos, negsuc, natAbs, _-ℤ_}
 use lib.Signed.{leZ, ltZ}
 use lib.ListN.{length}
 use borrow.Author.Tests.{lt-ltb, le-ltb, leb-true, leb-false, ltb-true}
-use Rattle.hint_form.specs.Form.{Usable}
-use Rattle.hint_form.specs.declared.Form.{Form}
-use Rattle.hint_form.specs.declared.Form.the-variants.{Base, Point, Bad}
+use Rattle.hint_integer.specs.Form.{Usable}
+use Rattle.hint_integer.specs.declared.Form.{Form}
+use Rattle.hint_integer.specs.declared.Form.the-variants.{Base, Point, Bad}
 use Rattle.hint_integer.specs.Signed.{in-range, magnitude, signed}
 use Rattle.digit.proofs.Sizes.{digits-short, pointed-size}
 

@@ -7,8 +7,8 @@ use mathlib.Core.List.{List, [], _∷_}
 use lib.Dec.{leb, ltb}
 use lib.IntN.{ℤ, pos, negsuc}
 use Rattle.digit.specs.Digits.{digits, pointed}
-use Rattle.hint_form.specs.declared.Form.{Form}
-use Rattle.hint_form.specs.declared.Form.the-variants.{Base, Point, Bad}
+use Rattle.hint_integer.specs.declared.Form.{Form}
+use Rattle.hint_integer.specs.declared.Form.the-variants.{Base, Point, Bad}
 
 -- the digits of a number that isn't negative
 unfoldable pub magnitude : Form → ℕ → List ℕ

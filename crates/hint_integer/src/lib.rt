@@ -1,16 +1,61 @@
-// Prints integers: a minus below zero, and then the magnitude.
+// Reads hints for integers, and prints integers by them: a minus below zero, and then the magnitude.
 ghost use Prim.Native.Nat.{_+_, _≤_};
 ghost use mathlib.Core.Path.{_≡_};
 ghost use mathlib.Core.Bool.{true};
 ghost use lib.IntN.{natAbs};
 ghost use lib.ListN.{length};
 ghost use Rattle.buffer.specs.Buffer.{Wrote};
-ghost use Rattle.hint_form.specs.Form.{Usable, is-bad};
+ghost use Rattle.hint_integer.specs.Form.{Usable, is-bad, read-form, read-point};
 ghost use Rattle.hint_integer.specs.Signed.{in-range, magnitude, signed};
+use buffer::byte_at;
 use buffer::put;
 use digit::print_digits;
 use digit::print_pointed;
-use hint_form::Form;
+use hint_form::base_of;
+use hint_form::is_allowed;
+use hint_form::number_at;
+
+// A hint for integers: a base, or a decimal point before so many digits.
+pub enum Form {
+    Base(u64),
+    Point(u64),
+    Bad,
+}
+
+// The point of a hint d-N; Bad where it is none.
+fn point_of(hint: &[u8]) -> Form
+    ensures { λ r. ⌜ r ≡ read-point (now (hint .entry)) ⌝ }
+{
+    if byte_at(hint, 0) != b'd' {
+        return Form::Bad;
+    }
+    if byte_at(hint, 1) != b'-' {
+        return Form::Bad;
+    }
+    let number = number_at(hint, 2);
+    let places = number.value;
+    if !is_allowed(byte_at(hint, 2), places, 10) {
+        return Form::Bad;
+    }
+    if number.next != hint.len() {
+        return Form::Bad;
+    }
+    Form::Point(places as u64)
+}
+
+// The form that a hint for integers asks; Bad where it is none.
+pub fn form_of(hint: &[u8]) -> Form
+    ensures { λ r. ⌜ r ≡ read-form (now (hint .entry)) ⌝ }
+{
+    if hint.len() != 1 {
+        return point_of(hint);
+    }
+    let letter = byte_at(hint, 0);
+    match letter {
+        b'x' | b'o' | b'b' | b'd' => Form::Base(base_of(letter)),
+        _ => Form::Bad,
+    }
+}
 
 // Whether an integer is from -2147483648 to 4294967295.
 pub fn in_range(value: i64) -> bool

@@ -11,10 +11,9 @@ use lib.Dec.{leb, eqb, lit≤}
 use lib.ListN.{length, take, drop, length-take, length-drop}
 use borrow.Author.Tests.{leb-true, leb-false, eqb-true}
 use Rattle.digit.specs.Digits.{digits, big-endian}
-use Rattle.hint_form.specs.Form.{base-of}
+use Rattle.hint_form.specs.Hint.{base-of, longest, numeric, passes}
 use Rattle.character.specs.Cut.{Cut, whole, stuck}
 use Rattle.character.specs.Character.{characters}
-use Rattle.hint_form.specs.Hint.{longest, numeric, passes}
 use Rattle.hint_form.specs.declared.Piece.{Piece}
 use Rattle.hint_piece.specs.Use.{Outcome, printed, passed, use-text, optional, following, one-use, uses}
 use Rattle.digit.proofs.Sizes.{Octets, octets-drop, octets-take, number-short}

@@ -6,11 +6,10 @@ use mathlib.Core.List.{List, [], _∷_, _++_}
 use lib.Dec.{leb, eqb}
 use lib.ListN.{length, take, drop}
 use Rattle.buffer.specs.Buffer.{byte-at}
-use Rattle.hint_form.specs.Form.{base-of}
+use Rattle.hint_form.specs.Hint.{base-of, passes}
 use Rattle.digit.specs.Digits.{digits, big-endian}
 use Rattle.character.specs.Cut.{Cut, whole, stuck}
 use Rattle.character.specs.Character.{characters}
-use Rattle.hint_form.specs.Hint.{passes}
 use Rattle.hint_form.specs.declared.Piece.{Piece}
 
 -- what printing comes to: the bytes, or the place of the first octet that isn't of its format

@@ -13,7 +13,8 @@ use lib.ListN.{length, getD, take, drop, length-append, length-drop}
 use lib.Seq.{drop-cons, take-append-seam, drop-append-seam, drop-append-add, getD-take, length-take-le}
 use borrow.Author.Tests.{eq-eqb, ne-eqb, eqb-true}
 use Rattle.terminal.specs.Terminal.{terminals, first-word, word-count}
-use Rattle.lexicon.specs.Word.{words, word-table, word-classes, word, bytes, same, place-in, joined, start-of, between, Within, slot, slot-of, slot-count, SlotWord, SlotTable, StartTable}
+use Rattle.lexicon.specs.Word.{words, word-table, word-classes, word, bytes, same, place-in, joined, start-of}
+use Rattle.lexicon.specs.Word.{between, Within, slot, slot-of, slot-count, SlotWord, SlotTable, StartTable}
 use Rattle.lexicon.proofs.Places.{byte-there}
 use Rattle.index.proofs.Tested.{passes, tested}
 use Rattle.index.proofs.Search.{true-false}
@@ -47,14 +48,15 @@ unfoldable pub own-slot : List ℕ → ℕ → List ℕ → Bool
 own-slot slots k w = eqb (getD slots (slot-of w) 0) (first-word + k)
 
 -- slots that pass both tests hold every word where its hash leads
-pub slot-table : (slots : List ℕ) → length slots ≡ slot-count → T (passes some-class 0 slots) → T (passes (own-slot slots) 0 words) → SlotTable slots
+pub slot-table : (slots : List ℕ) → length slots ≡ slot-count → T (passes some-class 0 slots)
+    → T (passes (own-slot slots) 0 words) → SlotTable slots
 unfolding some-class own-slot
 slot-table slots long few own =
     record {
       gives = λ slot h. record {
         few = ltb→lt (getD slots slot 0) terminals (tested some-class 0 slots few slot (omega arith));
         own = λ k l e.
-            ap (λ (i : ℕ). getD slots i 0) (sym e) ∙ eqb→eq (getD slots (slot-of (getD words k [])) 0) (first-word + k) (tested (own-slot slots) [] words own k (in-words k l));
+            ap (λ (i : ℕ). getD slots i 0) (sym e) ∙ eqb→eq _ _ (tested (own-slot slots) [] words own k (in-words k l));
       };
     }
 
@@ -72,7 +74,9 @@ unfolding place-in
 place-same s [] h = absurd (omega arith)
 place-same s (w ∷ ws) h = go (same s w) refl (place-same s ws) h
   where
-    go : (b : Bool) → same s w ≡ b → (place-in s ws < length ws → same s (getD ws (place-in s ws) []) ≡ true) → cond b 0 (suc (place-in s ws)) < suc (length ws) → same s (getD (w ∷ ws) (cond b 0 (suc (place-in s ws))) []) ≡ true
+    go : (b : Bool) → same s w ≡ b → (place-in s ws < length ws → same s (getD ws (place-in s ws) []) ≡ true)
+        → cond b 0 (suc (place-in s ws)) < suc (length ws)
+        → same s (getD (w ∷ ws) (cond b 0 (suc (place-in s ws))) []) ≡ true
     go true e r q = e
     go false e r q = r (omega arith)
 
@@ -120,7 +124,8 @@ module _ (s : List ℕ) (class : ℕ) (held : SlotWord (slot-of s) class) where
           absurd (true-false t f)
 
 -- among the joined spellings, a word's own stands where it starts
-pub word-part : (ws : List (List ℕ)) (k : ℕ) → k < length ws → drop (start-of ws k) (joined ws) ≡ getD ws k [] ++ drop (start-of ws (suc k)) (joined ws)
+pub word-part : (ws : List (List ℕ)) (k : ℕ) → k < length ws
+    → drop (start-of ws k) (joined ws) ≡ getD ws k [] ++ drop (start-of ws (suc k)) (joined ws)
 unfolding joined
 word-part [] k h = absurd (omega arith)
 word-part (w ∷ ws) zero h =
@@ -151,8 +156,12 @@ same-length xs ys h = go (same xs ys) refl
     go true e = absurd (h (ap length (same-equal xs ys e)))
     go false e = e
 
--- the part of a list from i on, byte by byte
-pub part-cons : (l : List ℕ) (i n k : ℕ) → i + n ≤ length l → k < n → take (n - k) (drop (i + k) l) ≡ getD l (i + k) 0 ∷ take (n - (k + 1)) (drop (i + (k + 1)) l)
+-- of the n bytes of a list from i on, what follows the first k; and its first byte
+abbrev pub part-after : List ℕ → ℕ → ℕ → ℕ → List ℕ
+part-after l i n k = take (n - k) (drop (i + k) l)
+
+pub part-cons : (l : List ℕ) (i n k : ℕ) → i + n ≤ length l → k < n
+    → part-after l i n k ≡ getD l (i + k) 0 ∷ part-after l i n (k + 1)
 part-cons l i n k h q =
     let a : n - k ≡ suc (n - (k + 1)) = omega arith in
     let b : suc (i + k) ≡ i + (k + 1) = omega arith in
@@ -160,15 +169,17 @@ part-cons l i n k h q =
 
 -- the loop that compares: one more byte, an end, a difference
 module _ (a b : List ℕ) (i j n k : ℕ) (ha : i + n ≤ length a) (hb : j + n ≤ length b) where
-  pub same-more : k < n → getD a (i + k) 0 ≡ getD b (j + k) 0 → same (take (n - k) (drop (i + k) a)) (take (n - k) (drop (j + k) b)) ≡ same (take (n - (k + 1)) (drop (i + (k + 1)) a)) (take (n - (k + 1)) (drop (j + (k + 1)) b))
+  pub same-more : k < n → getD a (i + k) 0 ≡ getD b (j + k) 0
+      → same (part-after a i n k) (part-after b j n k) ≡ same (part-after a i n (k + 1)) (part-after b j n (k + 1))
   unfolding same
   same-more h e = rw (part-cons a i n k ha h, part-cons b j n k hb h) (simp (eq-eqb _ _ e))
 
-  pub same-stops : k < n → (getD a (i + k) 0 ≡ getD b (j + k) 0 → ⊥) → same (take (n - k) (drop (i + k) a)) (take (n - k) (drop (j + k) b)) ≡ false
+  pub same-stops : k < n → (getD a (i + k) 0 ≡ getD b (j + k) 0 → ⊥)
+      → same (part-after a i n k) (part-after b j n k) ≡ false
   unfolding same
   same-stops h e = rw (part-cons a i n k ha h, part-cons b j n k hb h) (simp (ne-eqb _ _ e))
 
-  pub same-ends : n ≤ k → same (take (n - k) (drop (i + k) a)) (take (n - k) (drop (j + k) b)) ≡ true
+  pub same-ends : n ≤ k → same (part-after a i n k) (part-after b j n k) ≡ true
   unfolding same
   same-ends h = let z : n - k ≡ 0 = omega arith in rw z
 
@@ -187,32 +198,37 @@ start-table starts long t =
     record { gives = λ k h. eqb→eq (getD starts k 0) (start-of words k) (tested starts-there 0 starts t k (omega arith)) }
 
 -- the joined spellings, from where the word at k starts to where it ends
-module _ (spellings : List ℕ) (all : spellings ≡ joined words) (k from to : ℕ) (h : k < word-count) (starts : from ≡ start-of words k) (ends : to ≡ start-of words (k + 1)) where
-  pub word-within : Within spellings from to
-  word-within =
-      rw all (record { ordered = omega (arith, word-ends k h); inside = omega (arith, start-inside words (k + 1)) })
+module _
+    (spellings : List ℕ) (all : spellings ≡ joined words)
+    (k from to : ℕ) (h : k < word-count) (starts : from ≡ start-of words k) (ends : to ≡ start-of words (k + 1))
+  where
+    pub word-within : Within spellings from to
+    word-within =
+        rw all (record { ordered = omega (arith, word-ends k h); inside = omega (arith, start-inside words (k + 1)) })
 
-  -- they are the word's own
-  word-between : between spellings from to ≡ getD words k []
-  word-between =
-      let n : to - from ≡ length (getD words k []) = omega (arith, word-ends k h) in
-      rw (n, starts, all, word-part words k (in-words k h))
-      (take-append-seam (getD words k []) (drop (start-of words (suc k)) (joined words)))
+    -- they are the word's own
+    word-between : between spellings from to ≡ getD words k []
+    word-between =
+        let n : to - from ≡ length (getD words k []) = omega (arith, word-ends k h) in
+        rw (n, starts, all, word-part words k (in-words k h))
+        (take-append-seam (getD words k []) (drop (start-of words (suc k)) (joined words)))
 
-  pub word-compared : (name : List ℕ) {r : Bool} → r ≡ same name (between spellings from to) → r ≡ same name (getD words k [])
-  word-compared name q = q ∙ ap (same name) word-between
+    pub word-compared : (name : List ℕ) {r : Bool} → r ≡ same name (between spellings from to) → r ≡ same name (getD words k [])
+    word-compared name q = q ∙ ap (same name) word-between
 
 -- a part of a text has as many bytes as its ends lie apart
 pub between-length : (t : List ℕ) (start end : ℕ) → Within t start end → length (between t start end) ≡ end - start
 between-length t start end w = length-take-le (end - start) (drop start t) (omega (arith, length-drop start t, w .inside))
 
+-- and its byte n on is the text's at the place k
+pub between-byte : (t : List ℕ) (start end n k : ℕ) → start + n ≡ k → k < end → getD (between t start end) n 0 ≡ getD t k 0
+between-byte t start end n k e h = getD-take (end - start) (drop start t) n 0 (omega arith) ∙ byte-there t start n k e
+
 -- the slot of the name from start to end of a text
-pub slot-part : (t : List ℕ) (start end : ℕ) → start < end → end ≤ length t → slot-of (take (end - start) (drop start t)) ≡ slot (getD t start 0) (getD t (end - 1) 0) (end - start)
+pub slot-part : (t : List ℕ) (start end : ℕ) → start < end → end ≤ length t
+    → slot-of (between t start end) ≡ slot (getD t start 0) (getD t (end - 1) 0) (end - start)
 slot-part t start end h q =
-    let n : length (take (end - start) (drop start t)) ≡ end - start =
-    length-take-le (end - start) (drop start t) (omega (arith, length-drop start t)) in
-    let first : getD (take (end - start) (drop start t)) 0 0 ≡ getD t start 0 =
-    getD-take (end - start) (drop start t) 0 0 (omega arith) ∙ byte-there t start 0 start (omega arith) in
-    let last : getD (take (end - start) (drop start t)) (end - start - 1) 0 ≡ getD t (end - 1) 0 =
-    getD-take (end - start) (drop start t) (end - start - 1) 0 (omega arith) ∙ byte-there t start (end - start - 1) (end - 1) (omega arith) in
+    let n = between-length t start end (record { ordered = omega arith; inside = q }) in
+    let first = between-byte t start end 0 start (omega arith) h in
+    let last = between-byte t start end (end - start - 1) (end - 1) (omega arith) (omega arith) in
     rw (n, first, last)

@@ -3,17 +3,23 @@
 use mathlib.Core.Path.{_≡_, refl, sym, ap, subst, _∙_}
 use mathlib.Core.Bool.{Bool, true, false, cond, _&&_, _||_}
 use mathlib.Core.List.{List, [], _∷_}
-use Prim.Native.Nat.{ℕ, zero, suc, _+_, _-_, _≤_, _<_}
+use Prim.Native.Nat.{ℕ, zero, suc, _+_, _≤_, _<_}
 use native.Mathlib.Decide.{ℕ-discrete}
 use native.Mathlib.Omega.{arith}
 use lib.Dec.{leb, eqb}
 use lib.ListN.{length, getD, take, drop, length-drop}
 use lib.Seq.{getD-drop}
 use Rattle.terminal.specs.Terminal.{number, negative, text, hex, assign, dots, left-brace, bar}
-use Rattle.lexicon.specs.Byte.{class-of, quote, newline, feed, hyphen, apostrophe, colon, dot, small-hex, digit, capital-hex, capital, classed, digit-byte, hex-byte, text-byte, name-byte, comment-byte, blank-byte, two-hyphens}
+use Rattle.lexicon.specs.Byte.{class-of, quote, newline, feed, hyphen, apostrophe, colon, dot, small-hex, digit}
+use Rattle.lexicon.specs.Byte.{capital-hex, capital, classed, digit-byte, hex-byte, text-byte, name-byte, comment-byte}
+use Rattle.lexicon.specs.Byte.{blank-byte, two-hyphens}
 use Rattle.lexicon.specs.Word.{longest-name, name-class}
+use Rattle.lexicon.proofs.Places.{byte-there, first-byte}
 use Rattle.piece.specs.Decimal.{decimal}
-use Rattle.piece.specs.Piece.{Piece, gap, token, refusal, no-token, forbidden, long-name, out-of-range, largest-number, largest-negative, span, name, misfit, non-negative, below-zero, closing, comment, after-hyphen, quoted, hex-string, after-colon, after-dot, punctuation, piece, size}
+use Rattle.piece.specs.Piece.{Piece, gap, token, refusal, no-token, forbidden, long-name, out-of-range}
+use Rattle.piece.specs.Piece.{largest-number, largest-negative, span, name, misfit, non-negative, below-zero, closing}
+use Rattle.piece.specs.Piece.{comment, after-hyphen, quoted, hex-string, after-colon, after-dot, punctuation, piece}
+use Rattle.piece.specs.Piece.{size}
 
 -- two lists of equal length agree at the places up to m, and at the next unless a quote stands at m
 pub record Near (a b : List ℕ) (m : ℕ) : Type 0 where
@@ -38,7 +44,8 @@ class-blind : (low high : ℕ) → QuoteBlind (classed low high)
 class-blind low high b x y e = refl
 
 -- such a test has the same answer in both lists at every place up to m
-pair-local : (p : ℕ → ℕ → Bool) → QuoteBlind p → (a b : List ℕ) (m : ℕ) → Near a b m → (j : ℕ) → j ≤ m → p (getD a j 0) (getD a (suc j) 0) ≡ p (getD b j 0) (getD b (suc j) 0)
+pair-local : (p : ℕ → ℕ → Bool) → QuoteBlind p → (a b : List ℕ) (m : ℕ) → Near a b m → (j : ℕ) → j ≤ m
+    → p (getD a j 0) (getD a (suc j) 0) ≡ p (getD b j 0) (getD b (suc j) 0)
 pair-local p blind a b m n j h = go (ℕ-discrete j m) (ℕ-discrete (class-of (getD a j 0)) quote)
   where
     here : getD a j 0 ≡ getD b j 0
@@ -47,8 +54,7 @@ pair-local p blind a b m n j h = go (ℕ-discrete j m) (ℕ-discrete (class-of (
     go : Dec (j ≡ m) → Dec (class-of (getD a j 0) ≡ quote) → p (getD a j 0) (getD a (suc j) 0) ≡ p (getD b j 0) (getD b (suc j) 0)
     go d (yes q) = blind (getD a j 0) (getD a (suc j) 0) (getD b (suc j) 0) q ∙ ap (λ (x : ℕ). p x (getD b (suc j) 0)) here
     go (yes e) (no q) =
-        let next : getD a (suc j) 0 ≡ getD b (suc j) 0 =
-        subst (λ (k : ℕ). getD a (suc k) 0 ≡ getD b (suc k) 0) (sym e) (n .after (λ r. q (subst (λ (k : ℕ). class-of (getD a k 0) ≡ quote) (sym e) r))) in
+        let next : getD a (suc j) 0 ≡ getD b (suc j) 0 = rw e (n .after (λ r. q (rw e r))) in
         λ i. p (here i) (next i)
     go (no e) (no q) = let next = n .near (suc j) (omega arith) in λ i. p (here i) (next i)
 
@@ -67,9 +73,12 @@ span-local p blind [] [] n = refl
 span-local p blind [] (y ∷ b) n = absurd (omega (arith, n .long))
 span-local p blind (x ∷ a) [] n = absurd (omega (arith, n .long))
 span-local p blind (x ∷ a) (y ∷ b) n =
-    go (p x (getD a 0 0)) refl (pair-local p blind (x ∷ a) (y ∷ b) (cond (p x (getD a 0 0)) (suc (span p a)) 0) n 0 (omega arith)) n (span-local p blind a b)
+    let first = pair-local p blind (x ∷ a) (y ∷ b) (span p (x ∷ a)) n 0 (omega arith) in
+    go (p x (getD a 0 0)) refl first n (span-local p blind a b)
   where
-    go : (t : Bool) → p x (getD a 0 0) ≡ t → p x (getD a 0 0) ≡ p y (getD b 0 0) → Near (x ∷ a) (y ∷ b) (cond t (suc (span p a)) 0) → (Near a b (span p a) → span p b ≡ span p a) → cond (p y (getD b 0 0)) (suc (span p b)) 0 ≡ cond t (suc (span p a)) 0
+    go : (t : Bool) → p x (getD a 0 0) ≡ t → p x (getD a 0 0) ≡ p y (getD b 0 0)
+        → Near (x ∷ a) (y ∷ b) (cond t (suc (span p a)) 0) → (Near a b (span p a) → span p b ≡ span p a)
+        → cond (p y (getD b 0 0)) (suc (span p b)) 0 ≡ cond t (suc (span p a)) 0
     go true e q n ih = rw (sym q ∙ e) (ap suc (ih (near-tail x y a b (span p a) n)))
     go false e q n ih = rw (sym q ∙ e)
 
@@ -116,7 +125,7 @@ Plain (refusal r d) = ⊥
 
 name-local : (a b : List ℕ) → Plain (name a) → Near a b (size (name a)) → name b ≡ name a
 unfolding name
-name-local a b r n = go (leb (span name-byte a) longest-name) refl r n
+name-local a b r n = go (leb (span name-byte a) longest-name) r n
   where
     reading : ℕ → List ℕ → Piece
     reading k bs = cond (leb k longest-name) (token (name-class bs) k) (refusal long-name 0)
@@ -127,9 +136,12 @@ name-local a b r n = go (leb (span name-byte a) longest-name) refl r n
         let bs = take-local a b (span name-byte a) (near .long) (λ j h. near .near j (omega arith)) in
         ap (λ (j : ℕ). reading j (take j b)) k ∙ ap (reading (span name-byte a)) bs
 
-    go : (t : Bool) → leb (span name-byte a) longest-name ≡ t → Plain (cond t (token (name-class (take (span name-byte a) a)) (span name-byte a)) (refusal long-name 0)) → Near a b (size (cond t (token (name-class (take (span name-byte a) a)) (span name-byte a)) (refusal long-name 0))) → name b ≡ name a
-    go true e r near = same near
-    go false e r near = absurd r
+    choice : Bool → Piece
+    choice t = cond t (token (name-class (take (span name-byte a) a)) (span name-byte a)) (refusal long-name 0)
+
+    go : (t : Bool) → Plain (choice t) → Near a b (size (choice t)) → name b ≡ name a
+    go true r near = same near
+    go false r near = absurd r
 
 misfit-local : (a b : List ℕ) → Near a b (span digit-byte a) → misfit b ≡ misfit a
 unfolding misfit
@@ -142,12 +154,16 @@ misfit-local a b near =
 -- a number that is not negative, and one that is: they differ in what is none of a number, the limit, the class and the length
 module _ (bad : List ℕ → Bool) (limit class : ℕ) (long : ℕ → ℕ) where
   abbrev reading : Bool → ℕ → List ℕ → Piece
-  reading none k bs = cond none (refusal no-token 0) (cond (leb (decimal bs) limit) (token class (long k)) (refusal out-of-range 0))
+  reading none k bs =
+      cond none (refusal no-token 0)
+      (cond (leb (decimal bs) limit) (token class (long k)) (refusal out-of-range 0))
 
   abbrev read : List ℕ → Piece
   read s = reading (bad s) (span digit-byte s) (take (span digit-byte s) s)
 
-  digits-local : (a b : List ℕ) → (Near a b (span digit-byte a) → bad b ≡ bad a) → (Agree : ℕ → Type 0) → (Agree (long (span digit-byte a)) → Near a b (span digit-byte a)) → Plain (read a) → Agree (size (read a)) → read b ≡ read a
+  digits-local : (a b : List ℕ) → (Near a b (span digit-byte a) → bad b ≡ bad a) → (Agree : ℕ → Type 0)
+      → (Agree (long (span digit-byte a)) → Near a b (span digit-byte a)) → Plain (read a) → Agree (size (read a))
+      → read b ≡ read a
   digits-local a b none Agree near r n = go (bad a) (leb (decimal (take (span digit-byte a) a)) limit) r n
     where
       same : Near a b (span digit-byte a) → read b ≡ read a
@@ -158,7 +174,10 @@ module _ (bad : List ℕ → Bool) (limit class : ℕ) (long : ℕ → ℕ) wher
           ∙ ap (λ (j : ℕ). reading (bad a) j (take j b)) k
           ∙ ap (reading (bad a) (span digit-byte a)) bs
 
-      go : (x y : Bool) → Plain (cond x (refusal no-token 0) (cond y (token class (long (span digit-byte a))) (refusal out-of-range 0))) → Agree (size (cond x (refusal no-token 0) (cond y (token class (long (span digit-byte a))) (refusal out-of-range 0)))) → read b ≡ read a
+      choice : Bool → Bool → Piece
+      choice x y = cond x (refusal no-token 0) (cond y (token class (long (span digit-byte a))) (refusal out-of-range 0))
+
+      go : (x y : Bool) → Plain (choice x y) → Agree (size (choice x y)) → read b ≡ read a
       go true y r n = absurd r
       go false true r n = same (near n)
       go false false r n = absurd r
@@ -167,7 +186,8 @@ number-local : (a b : List ℕ) → Plain (non-negative a) → Near a b (size (n
 unfolding non-negative
 number-local a b r n = digits-local misfit largest-number number (λ k. k) a b (misfit-local a b) (Near a b) (λ l. l) r n
 
-negative-local : (x y : ℕ) (a b : List ℕ) → Plain (below-zero a) → Near (x ∷ a) (y ∷ b) (size (below-zero a)) → below-zero b ≡ below-zero a
+negative-local : (x y : ℕ) (a b : List ℕ) → Plain (below-zero a) → Near (x ∷ a) (y ∷ b) (size (below-zero a))
+    → below-zero b ≡ below-zero a
 unfolding below-zero
 negative-local x y a b r n =
     digits-local (λ (s : List ℕ). eqb (getD s 0 0) 48 || misfit s) largest-negative negative suc a b
@@ -181,23 +201,25 @@ comment-local : (x y z w : ℕ) (a b : List ℕ) → Near (x ∷ y ∷ a) (z ∷
 unfolding comment
 comment-local x y z w a b n =
     let k = span comment-byte a in
-    let m : 2 + k + closing (drop k a) ≡ suc (suc (k + closing (drop k a))) = omega arith in
-    let near : Near a b k =
-    near-least a b (k + closing (drop k a)) k (omega arith)
-    (near-tail y w a b (k + closing (drop k a)) (near-tail x z (y ∷ a) (w ∷ b) (suc (k + closing (drop k a))) (subst (λ (j : ℕ). Near (x ∷ y ∷ a) (z ∷ w ∷ b) j) m n))) in
+    let end = k + closing (drop k a) in
+    let all : Near (x ∷ y ∷ a) (z ∷ w ∷ b) (suc (suc end)) = subst (Near (x ∷ y ∷ a) (z ∷ w ∷ b)) (omega arith) n in
+    let after : Near a b end = near-tail y w a b end (near-tail x z (y ∷ a) (w ∷ b) (suc end) all) in
+    let near : Near a b k = near-least a b end k (omega arith) after in
     let e : span comment-byte b ≡ k = span-local comment-byte comment-blind a b near in
     let two : two-hyphens (getD b k 0) (getD b (suc k) 0) ≡ two-hyphens (getD a k 0) (getD a (suc k) 0) =
     sym (pair-local two-hyphens hyphens-blind a b k near k (omega arith)) in
     ap (λ (j : ℕ). gap (2 + j + closing (drop j b))) e
     ∙ ap (λ (t : Bool). gap (2 + k + cond t 2 0)) (ends b k ∙ two ∙ sym (ends a k))
   where
-    ends : (s : List ℕ) (k : ℕ) → two-hyphens (getD (drop k s) 0 0) (getD (drop k s) 1 0) ≡ two-hyphens (getD s k 0) (getD s (suc k) 0)
+    ends : (s : List ℕ) (k : ℕ)
+        → two-hyphens (getD (drop k s) 0 0) (getD (drop k s) 1 0) ≡ two-hyphens (getD s k 0) (getD s (suc k) 0)
     ends s k =
-        let p : getD (drop k s) 0 0 ≡ getD s k 0 = getD-drop k s 0 0 ∙ ap (λ (j : ℕ). getD s j 0) (omega arith) in
-        let q : getD (drop k s) 1 0 ≡ getD s (suc k) 0 = getD-drop k s 1 0 ∙ ap (λ (j : ℕ). getD s j 0) (omega arith) in
+        let p = first-byte s k in
+        let q = byte-there s k 1 (suc k) (omega arith) in
         λ i. two-hyphens (p i) (q i)
 
-hyphen-local : (x y : ℕ) (a b : List ℕ) → Plain (after-hyphen a) → Near (x ∷ a) (y ∷ b) (size (after-hyphen a)) → 1 ≤ size (after-hyphen a) → after-hyphen b ≡ after-hyphen a
+hyphen-local : (x y : ℕ) (a b : List ℕ) → Plain (after-hyphen a) → Near (x ∷ a) (y ∷ b) (size (after-hyphen a))
+    → 1 ≤ size (after-hyphen a) → after-hyphen b ≡ after-hyphen a
 unfolding after-hyphen
 hyphen-local x y [] [] r n h = refl
 hyphen-local x y [] (w ∷ b) r n h = absurd (omega (arith, n .long))
@@ -205,66 +227,100 @@ hyphen-local x y (z ∷ a) [] r n h = absurd (omega (arith, n .long))
 hyphen-local x y (z ∷ a) (w ∷ b) r n h =
     rw (sym (n .near 1 h)) (go (eqb (class-of z) hyphen) (eqb (class-of z) digit) r n (sym (n .near 1 h)))
   where
-    go : (p q : Bool) → Plain (cond p (comment a) (cond q (below-zero (z ∷ a)) (refusal no-token 0))) → Near (x ∷ z ∷ a) (y ∷ w ∷ b) (size (cond p (comment a) (cond q (below-zero (z ∷ a)) (refusal no-token 0)))) → w ≡ z → cond p (comment b) (cond q (below-zero (z ∷ b)) (refusal no-token 0)) ≡ cond p (comment a) (cond q (below-zero (z ∷ a)) (refusal no-token 0))
+    choice : Bool → Bool → List ℕ → Piece
+    choice p q s = cond p (comment s) (cond q (below-zero (z ∷ s)) (refusal no-token 0))
+
+    go : (p q : Bool) → Plain (choice p q a) → Near (x ∷ z ∷ a) (y ∷ w ∷ b) (size (choice p q a)) → w ≡ z
+        → choice p q b ≡ choice p q a
     go true q r n e = comment-local x z y w a b n
     go false true r n e = ap (λ (j : ℕ). below-zero (j ∷ b)) (sym e) ∙ negative-local x y (z ∷ a) (w ∷ b) r n
     go false false r n e = absurd r
 
-hex-local : (x y : ℕ) (a b : List ℕ) → Plain (hex-string a) → Near (x ∷ a) (y ∷ b) (size (hex-string a)) → hex-string b ≡ hex-string a
+-- a token where a test holds, and no token where it doesn't
+abbrev tested : ℕ → Bool → ℕ → Piece
+tested class t n = cond t (token class n) (refusal no-token 0)
+
+tested-local : (class m n : ℕ) (t u : Bool) (Agree : ℕ → Type 0) → (Agree n → (u ≡ t) × (m ≡ n))
+    → Plain (tested class t n) → Agree (size (tested class t n)) → tested class u m ≡ tested class t n
+tested-local class m n true u Agree f r s = λ i. tested class (f s .0 i) (f s .1 i)
+tested-local class m n false u Agree f r s = absurd r
+
+hex-local : (x y : ℕ) (a b : List ℕ) → Plain (hex-string a) → Near (x ∷ a) (y ∷ b) (size (hex-string a))
+    → hex-string b ≡ hex-string a
 unfolding hex-string
-hex-local x y a b r n = go (eqb (class-of (getD a (span hex-byte a) 0)) apostrophe && eqb (getD a (span hex-byte a + 1) 0) 72) refl r n
+hex-local x y a b r n =
+    tested-local hex (l + 3) (k + 3) (ends k a) (ends l b) (Near (x ∷ a) (y ∷ b)) same r n
   where
     k : ℕ
     k = span hex-byte a
 
-    go : (t : Bool) → (eqb (class-of (getD a (span hex-byte a) 0)) apostrophe && eqb (getD a (span hex-byte a + 1) 0) 72) ≡ t → Plain (cond t (token hex (span hex-byte a + 3)) (refusal no-token 0)) → Near (x ∷ a) (y ∷ b) (size (cond t (token hex (span hex-byte a + 3)) (refusal no-token 0))) → cond (eqb (class-of (getD b (span hex-byte b) 0)) apostrophe && eqb (getD b (span hex-byte b + 1) 0) 72) (token hex (span hex-byte b + 3)) (refusal no-token 0) ≡ cond (eqb (class-of (getD a (span hex-byte a) 0)) apostrophe && eqb (getD a (span hex-byte a + 1) 0) 72) (token hex (span hex-byte a + 3)) (refusal no-token 0)
-    go true e r n =
-        let m : k + 3 ≡ suc (k + 2) = omega arith in
-        let tail : Near a b (k + 2) = near-tail x y a b (k + 2) (subst (λ (j : ℕ). Near (x ∷ a) (y ∷ b) j) m n) in
-        let same : span hex-byte b ≡ k = span-local hex-byte (class-blind small-hex capital-hex) a b (near-least a b (k + 2) k (omega arith) tail) in
+    l : ℕ
+    l = span hex-byte b
+
+    ends : ℕ → List ℕ → Bool
+    ends j s = eqb (class-of (getD s j 0)) apostrophe && eqb (getD s (j + 1) 0) 72
+
+    same : Near (x ∷ a) (y ∷ b) (k + 3) → (ends l b ≡ ends k a) × (l + 3 ≡ k + 3)
+    same n =
+        let tail : Near a b (k + 2) = near-tail x y a b (k + 2) (subst (Near (x ∷ a) (y ∷ b)) (omega arith) n) in
+        let as-long : l ≡ k =
+        span-local hex-byte (class-blind small-hex capital-hex) a b (near-less a b (k + 2) k (omega arith) tail) in
         let here : getD b k 0 ≡ getD a k 0 = sym (tail .near k (omega arith)) in
         let next : getD b (k + 1) 0 ≡ getD a (k + 1) 0 = sym (tail .near (k + 1) (omega arith)) in
-        rw (same, here, next)
-    go false e r n = absurd r
+        (rw (as-long, here, next), rw as-long)
 
-colon-local : (x y : ℕ) (a b : List ℕ) → Plain (after-colon a) → Near (x ∷ a) (y ∷ b) (size (after-colon a)) → after-colon b ≡ after-colon a
+colon-local : (x y : ℕ) (a b : List ℕ) → Plain (after-colon a) → Near (x ∷ a) (y ∷ b) (size (after-colon a))
+    → after-colon b ≡ after-colon a
 unfolding after-colon
-colon-local x y a b r n = go (eqb (getD a 0 0) 58 && eqb (getD a 1 0) 61) refl r n
+colon-local x y a b r n = tested-local assign 3 3 (ends a) (ends b) (Near (x ∷ a) (y ∷ b)) same r n
   where
-    go : (t : Bool) → (eqb (getD a 0 0) 58 && eqb (getD a 1 0) 61) ≡ t → Plain (cond t (token assign 3) (refusal no-token 0)) → Near (x ∷ a) (y ∷ b) (size (cond t (token assign 3) (refusal no-token 0))) → cond (eqb (getD b 0 0) 58 && eqb (getD b 1 0) 61) (token assign 3) (refusal no-token 0) ≡ cond (eqb (getD a 0 0) 58 && eqb (getD a 1 0) 61) (token assign 3) (refusal no-token 0)
-    go true e r n =
+    ends : List ℕ → Bool
+    ends s = eqb (getD s 0 0) 58 && eqb (getD s 1 0) 61
+
+    same : Near (x ∷ a) (y ∷ b) 3 → (ends b ≡ ends a) × (_≡_ {A = ℕ} 3 3)
+    same n =
         let first : getD b 0 0 ≡ getD a 0 0 = sym (n .near 1 (omega arith)) in
         let second : getD b 1 0 ≡ getD a 1 0 = sym (n .near 2 (omega arith)) in
-        rw (first, second)
-    go false e r n = absurd r
+        (rw (first, second), refl)
 
 dot-local : (x y : ℕ) (a b : List ℕ) → Plain (after-dot a) → Near (x ∷ a) (y ∷ b) (size (after-dot a)) → after-dot b ≡ after-dot a
 unfolding after-dot
-dot-local x y a b r n = go (eqb (getD a 0 0) 46) r n
-  where
-    go : (t : Bool) → Plain (cond t (token dots 2) (refusal no-token 0)) → Near (x ∷ a) (y ∷ b) (size (cond t (token dots 2) (refusal no-token 0))) → cond (eqb (getD b 0 0) 46) (token dots 2) (refusal no-token 0) ≡ cond (eqb (getD a 0 0) 46) (token dots 2) (refusal no-token 0)
-    go true r n = let first : getD b 0 0 ≡ getD a 0 0 = sym (n .near 1 (omega arith)) in rw first
-    go false r n = absurd r
+dot-local x y a b r n =
+    tested-local dots 2 2 (eqb (getD a 0 0) 46) (eqb (getD b 0 0) 46) (Near (x ∷ a) (y ∷ b))
+    (λ n. (ap (λ (z : ℕ). eqb z 46) (sym (n .near 1 (omega arith))), refl))
+    r
+    n
 
 -- a text is no plain piece
 quoted-plain : (a : List ℕ) → Plain (quoted a) → ⊥
 unfolding quoted
 quoted-plain a r = go (leb (length a) (span text-byte a)) (eqb (class-of (getD a (span text-byte a) 0)) quote) r
   where
-    go : (p q : Bool) → Plain (cond p (refusal no-token 0) (cond q (token text (span text-byte a + 2)) (refusal forbidden (span text-byte a + 1)))) → ⊥
+    choice : Bool → Bool → Piece
+    choice p q =
+        cond p (refusal no-token 0)
+        (cond q (token text (span text-byte a + 2)) (refusal forbidden (span text-byte a + 1)))
+
+    go : (p q : Bool) → Plain (choice p q) → ⊥
     go true q r = r
     go false true r = r refl
     go false false r = r
 
-punctuation-local : (c x y : ℕ) (a b : List ℕ) → Plain (punctuation c a) → Near (x ∷ a) (y ∷ b) (size (punctuation c a)) → 1 ≤ size (punctuation c a) → punctuation c b ≡ punctuation c a
+punctuation-local : (c x y : ℕ) (a b : List ℕ) → Plain (punctuation c a) → Near (x ∷ a) (y ∷ b) (size (punctuation c a))
+    → 1 ≤ size (punctuation c a) → punctuation c b ≡ punctuation c a
 unfolding punctuation
-punctuation-local c x y a b r n h = go (leb left-brace c && leb c bar) (eqb c hyphen) (eqb c quote) (eqb c colon) (eqb c dot) (eqb c apostrophe) r n h
+punctuation-local c x y a b r n h =
+    go (leb left-brace c && leb c bar) (eqb c hyphen) (eqb c quote) (eqb c colon) (eqb c dot) (eqb c apostrophe) r n h
   where
     choice : Bool → Bool → Bool → Bool → Bool → Bool → List ℕ → Piece
     choice p q t u v w s =
-        cond p (token c 1) (cond q (after-hyphen s) (cond t (quoted s) (cond u (after-colon s) (cond v (after-dot s) (cond w (hex-string s) (refusal no-token 0))))))
+        cond p (token c 1)
+        (cond q (after-hyphen s)
+        (cond t (quoted s)
+        (cond u (after-colon s) (cond v (after-dot s) (cond w (hex-string s) (refusal no-token 0))))))
 
-    go : (p q t u v w : Bool) → Plain (choice p q t u v w a) → Near (x ∷ a) (y ∷ b) (size (choice p q t u v w a)) → 1 ≤ size (choice p q t u v w a) → choice p q t u v w b ≡ choice p q t u v w a
+    go : (p q t u v w : Bool) → Plain (choice p q t u v w a) → Near (x ∷ a) (y ∷ b) (size (choice p q t u v w a))
+        → 1 ≤ size (choice p q t u v w a) → choice p q t u v w b ≡ choice p q t u v w a
     go true q t u v w r n h = refl
     go false true t u v w r n h = hyphen-local x y a b r n h
     go false false true u v w r n h = absurd (quoted-plain a r)
@@ -274,22 +330,26 @@ punctuation-local c x y a b r n h = go (leb left-brace c && leb c bar) (eqb c hy
     go false false false false false false r n h = absurd r
 
 -- a plain piece is the same in both lists
-pub piece-local : (x y : ℕ) (a b : List ℕ) → Plain (piece (x ∷ a)) → Near (x ∷ a) (y ∷ b) (size (piece (x ∷ a))) → 1 ≤ size (piece (x ∷ a)) → piece (y ∷ b) ≡ piece (x ∷ a)
+pub piece-local : (x y : ℕ) (a b : List ℕ) → Plain (piece (x ∷ a)) → Near (x ∷ a) (y ∷ b) (size (piece (x ∷ a)))
+    → 1 ≤ size (piece (x ∷ a)) → piece (y ∷ b) ≡ piece (x ∷ a)
 unfolding piece
 piece-local x y a b r n h =
-    same ∙ go (leb (class-of x) capital) (eqb (class-of x) digit) (leb newline (class-of x) && leb (class-of x) feed) r n h
+    ap (λ (z : ℕ). by-class (class-of z) y b) first
+    ∙ go (leb (class-of x) capital) (eqb (class-of x) digit) (leb newline (class-of x) && leb (class-of x) feed) r n h
   where
     first : y ≡ x
     first = sym (n .near 0 (omega arith))
 
     choice : Bool → Bool → Bool → ℕ → List ℕ → Piece
     choice p q t z s =
-        cond p (cond q (non-negative (z ∷ s)) (name (z ∷ s))) (cond t (gap (span blank-byte (z ∷ s))) (punctuation (class-of z) s))
+        cond p (cond q (non-negative (z ∷ s)) (name (z ∷ s)))
+        (cond t (gap (span blank-byte (z ∷ s))) (punctuation (class-of z) s))
 
-    same : choice (leb (class-of y) capital) (eqb (class-of y) digit) (leb newline (class-of y) && leb (class-of y) feed) y b ≡ choice (leb (class-of x) capital) (eqb (class-of x) digit) (leb newline (class-of x) && leb (class-of x) feed) y b
-    same = ap (λ (z : ℕ). choice (leb (class-of z) capital) (eqb (class-of z) digit) (leb newline (class-of z) && leb (class-of z) feed) y b) first
+    by-class : ℕ → ℕ → List ℕ → Piece
+    by-class c z s = choice (leb c capital) (eqb c digit) (leb newline c && leb c feed) z s
 
-    go : (p q t : Bool) → Plain (choice p q t x a) → Near (x ∷ a) (y ∷ b) (size (choice p q t x a)) → 1 ≤ size (choice p q t x a) → choice p q t y b ≡ choice p q t x a
+    go : (p q t : Bool) → Plain (choice p q t x a) → Near (x ∷ a) (y ∷ b) (size (choice p q t x a))
+        → 1 ≤ size (choice p q t x a) → choice p q t y b ≡ choice p q t x a
     go true true t r n h = number-local (x ∷ a) (y ∷ b) r n
     go true false t r n h = name-local (x ∷ a) (y ∷ b) r n
     go false q true r n h = ap gap (span-local blank-byte (class-blind newline feed) (x ∷ a) (y ∷ b) n)

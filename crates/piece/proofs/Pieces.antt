@@ -9,11 +9,15 @@ use native.Mathlib.Omega.{arith}
 use lib.Dec.{T, leb, ltb, eqb, leb→le}
 use lib.ListN.{length, getD, take, drop, length-drop}
 use borrow.Author.Tests.{leb-true, leb-false, ltb-true, eqb-true}
-use Rattle.terminal.specs.Terminal.{number, negative, text, hex, assign, dots, left-brace, bar, lower, Upper, terminals, word-count}
-use Rattle.lexicon.specs.Byte.{class-of, quote, newline, feed, hyphen, apostrophe, colon, dot, digit, capital-hex, capital, digit-byte, hex-byte, text-byte, name-byte, comment-byte, blank-byte, two-hyphens}
+use Rattle.terminal.specs.Terminal.{number, negative, text, hex, assign, dots, left-brace, bar, lower, Upper, terminals}
+use Rattle.terminal.specs.Terminal.{word-count}
+use Rattle.lexicon.specs.Byte.{class-of, quote, newline, feed, hyphen, apostrophe, colon, dot, digit, capital-hex, capital}
+use Rattle.lexicon.specs.Byte.{digit-byte, hex-byte, text-byte, name-byte, comment-byte, blank-byte, two-hyphens}
 use Rattle.lexicon.specs.Word.{longest-name, is-name, words, word-classes, place-in, name-class}
 use Rattle.piece.specs.Decimal.{decimal}
-use Rattle.piece.specs.Piece.{Piece, gap, token, refusal, largest-number, largest-negative, span, name, misfit, non-negative, below-zero, closing, comment, after-hyphen, quoted, hex-string, after-colon, after-dot, punctuation, piece}
+use Rattle.piece.specs.Piece.{Piece, gap, token, refusal, largest-number, largest-negative, span, name, misfit}
+use Rattle.piece.specs.Piece.{non-negative, below-zero, closing, comment, after-hyphen, quoted, hex-string}
+use Rattle.piece.specs.Piece.{after-colon, after-dot, punctuation, piece}
 use Rattle.index.proofs.Search.{true-false}
 use Rattle.lexicon.proofs.Places.{inside, byte-inside}
 use Rattle.piece.proofs.Span.{span-in}
@@ -66,7 +70,10 @@ name-class-fits : (s : List ℕ) → (lower ≤ name-class s) × (name-class s <
 unfolding name-class
 name-class-fits s = go (ltb (place-in s words) word-count) refl (leb capital-hex (class-of (getD s 0 0)))
   where
-    go : (a : Bool) → ltb (place-in s words) word-count ≡ a → (b : Bool) → (lower ≤ cond a (getD word-classes (place-in s words) 0) (cond b Upper lower)) × (cond a (getD word-classes (place-in s words) 0) (cond b Upper lower) < terminals)
+    chosen : Bool → Bool → ℕ
+    chosen a b = cond a (getD word-classes (place-in s words) 0) (cond b Upper lower)
+
+    go : (a : Bool) → ltb (place-in s words) word-count ≡ a → (b : Bool) → (lower ≤ chosen a b) × (chosen a b < terminals)
     go true e b =
         let h : place-in s words < word-count = ltb-true (place-in s words) word-count e in
         omega (arith, word-class (place-in s words) h)
@@ -178,10 +185,12 @@ quoted-fits b bs first =
 hex-fits : (b : ℕ) (bs : List ℕ) → Fit (b ∷ bs) (hex-string bs)
 unfolding hex-string
 hex-fits b bs =
-    by-test (b ∷ bs) (eqb (class-of (getD bs (span hex-byte bs) 0)) apostrophe && eqb (getD bs (span hex-byte bs + 1) 0) 72)
-    (λ e. let h = both-true (eqb (class-of (getD bs (span hex-byte bs) 0)) apostrophe) (eqb (getD bs (span hex-byte bs + 1) 0) 72) e in
-    let l : span hex-byte bs + 1 < length bs = byte-inside bs (span hex-byte bs + 1) 72 (eqb-true (getD bs (span hex-byte bs + 1) 0) 72 (h .1)) (omega arith) in
-    other-fits (b ∷ bs) hex (span hex-byte bs + 3) (omega arith) (omega arith) (omega arith) (omega arith))
+    let n = span hex-byte bs in
+    let closed = eqb (class-of (getD bs n 0)) apostrophe in
+    let letter = eqb (getD bs (n + 1) 0) 72 in
+    by-test (b ∷ bs) (closed && letter)
+    (λ e. let l : n + 1 < length bs = byte-inside bs (n + 1) 72 (eqb-true _ _ (both-true closed letter e .1)) (omega arith) in
+    other-fits (b ∷ bs) hex (n + 3) (omega arith) (omega arith) (omega arith) (omega arith))
     (λ e. omega arith)
 
 colon-fits : (b : ℕ) (bs : List ℕ) → Fit (b ∷ bs) (after-colon bs)

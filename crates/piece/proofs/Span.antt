@@ -14,14 +14,17 @@ use Rattle.piece.specs.Piece.{span}
 pub next-byte : (t : List ℕ) (i : ℕ) → getD (drop (suc i) t) 0 0 ≡ getD t (i + 1) 0
 next-byte t i = getD-drop (suc i) t 0 0 ∙ ap (λ (k : ℕ). getD t k 0) (omega arith)
 
-span-here : (p : ℕ → ℕ → Bool) (t : List ℕ) (i : ℕ) → i < length t → span p (drop i t) ≡ cond (p (getD t i 0) (getD t (i + 1) 0)) (suc (span p (drop (suc i) t))) 0
+span-here : (p : ℕ → ℕ → Bool) (t : List ℕ) (i : ℕ) → i < length t
+    → span p (drop i t) ≡ cond (p (getD t i 0) (getD t (i + 1) 0)) (suc (span p (drop (suc i) t))) 0
 unfolding span
 span-here p t i h = rw (drop-cons t i 0 h, next-byte t i)
 
-pub span-more : (p : ℕ → ℕ → Bool) (t : List ℕ) (i : ℕ) → i < length t → p (getD t i 0) (getD t (i + 1) 0) ≡ true → span p (drop i t) ≡ suc (span p (drop (suc i) t))
+pub span-more : (p : ℕ → ℕ → Bool) (t : List ℕ) (i : ℕ) → i < length t → p (getD t i 0) (getD t (i + 1) 0) ≡ true
+    → span p (drop i t) ≡ suc (span p (drop (suc i) t))
 span-more p t i h e = span-here p t i h ∙ ap (λ (b : Bool). cond b (suc (span p (drop (suc i) t))) 0) e
 
-pub span-stop : (p : ℕ → ℕ → Bool) (t : List ℕ) (i : ℕ) → i < length t → p (getD t i 0) (getD t (i + 1) 0) ≡ false → span p (drop i t) ≡ 0
+pub span-stop : (p : ℕ → ℕ → Bool) (t : List ℕ) (i : ℕ) → i < length t → p (getD t i 0) (getD t (i + 1) 0) ≡ false
+    → span p (drop i t) ≡ 0
 span-stop p t i h e = span-here p t i h ∙ ap (λ (b : Bool). cond b (suc (span p (drop (suc i) t))) 0) e
 
 pub span-end : (p : ℕ → ℕ → Bool) (t : List ℕ) (i : ℕ) → length t ≤ i → span p (drop i t) ≡ 0
@@ -46,12 +49,14 @@ span-end-in p t at h = omega (arith, span-in p (drop at t), length-drop at t)
 abbrev pub Reached : (ℕ → ℕ → Bool) → List ℕ → ℕ → ℕ → Type 0
 Reached p t at i = (at ≤ i) × (i ≤ length t) × (i + span p (drop i t) ≡ at + span p (drop at t))
 
-pub reached-more : (p : ℕ → ℕ → Bool) (t : List ℕ) (at i : ℕ) → Reached p t at i → i < length t → p (getD t i 0) (getD t (i + 1) 0) ≡ true → Reached p t at (i + 1)
+pub reached-more : (p : ℕ → ℕ → Bool) (t : List ℕ) (at i : ℕ) → Reached p t at i → i < length t
+    → p (getD t i 0) (getD t (i + 1) 0) ≡ true → Reached p t at (i + 1)
 reached-more p t at i r h q =
     let m : span p (drop i t) ≡ suc (span p (drop (i + 1) t)) = rw (add-one i) (span-more p t i h q) in
     (omega arith, omega arith, omega arith)
 
-pub reached-stop : (p : ℕ → ℕ → Bool) (t : List ℕ) (at i : ℕ) → Reached p t at i → i < length t → p (getD t i 0) (getD t (i + 1) 0) ≡ false → i ≡ at + span p (drop at t)
+pub reached-stop : (p : ℕ → ℕ → Bool) (t : List ℕ) (at i : ℕ) → Reached p t at i → i < length t
+    → p (getD t i 0) (getD t (i + 1) 0) ≡ false → i ≡ at + span p (drop at t)
 reached-stop p t at i r h q = let m : span p (drop i t) ≡ 0 = span-stop p t i h q in omega arith
 
 pub reached-end : (p : ℕ → ℕ → Bool) (t : List ℕ) (at i : ℕ) → Reached p t at i → length t ≤ i → i ≡ at + span p (drop at t)

@@ -55,10 +55,12 @@ array-place ts old size i true inside =
     List·getD-append (starts ts) (drop (length (starts ts)) old) 0 i (rw length-map (ltb-true i (length ts) inside))
 array-place ts old size i false outside = refl
 
-place-held : (ts : List Tok) (old : List ℕ) (size i : ℕ) → cond (ltb i (length ts)) (getD (overlaid (starts ts) old) i 0) size ≡ place-of ts size i
+place-held : (ts : List Tok) (old : List ℕ) (size i : ℕ)
+    → cond (ltb i (length ts)) (getD (overlaid (starts ts) old) i 0) size ≡ place-of ts size i
 place-held ts old size i = array-place ts old size i (ltb i (length ts)) refl ∙ place-is ts size i
 
-placed-is : (ts : List Tok) (old : List ℕ) (size : ℕ) (v : Verdict) → placed (length ts) (overlaid (starts ts) old) size v ≡ answer-to ts size v
+placed-is : (ts : List Tok) (old : List ℕ) (size : ℕ) (v : Verdict)
+    → placed (length ts) (overlaid (starts ts) old) size v ≡ answer-to ts size v
 placed-is ts old size derived = refl
 placed-is ts old size (refused-at i) = ap (λ (p : ℕ). Underived (length ts) (record { 0 = p })) (place-held ts old size i)
 
@@ -77,15 +79,19 @@ module _
     pub counted-table : (n : ℕ) → a ≡ Tokens n → TokenTable t (cut t .tokens) classes starts′ ends n
     counted-table n is = rw (all-counted n is) table
 
+    -- its answer is the one to how it ends
+    answer-is : (x : TokenAnswer) (e : Ending) → a ≡ x → cut t .ending ≡ e → x ≡ token-answer (length (cut t .tokens)) e
+    answer-is x e is ending = sym is ∙ held .answered ∙ ap (token-answer (length (cut t .tokens))) ending
+
     -- a text that the cut refuses
     pub uncut-parses : (n : ℕ) (p : Place) → a ≡ Refused n p → Parses t (Uncut n p) × Tabled t (Uncut n p) classes starts′ ends
     uncut-parses n p is = (
       record {
         uncut = λ m q ending.
-            let same : Refused n p ≡ Refused m (record { 0 = q }) = sym is ∙ held .answered ∙ ap (token-answer (length (cut t .tokens))) ending in
+            let same : Refused n p ≡ Refused m (record { 0 = q }) = answer-is _ (refused m q) is ending in
             cc;
         judged = λ ending.
-            let same : Refused n p ≡ Tokens (length (cut t .tokens)) = sym is ∙ held .answered ∙ ap (token-answer (length (cut t .tokens))) ending in
+            let same : Refused n p ≡ Tokens (length (cut t .tokens)) = answer-is _ whole is ending in
             let zero-one : _≡_ {A = ℕ} 0 1 = cc in
             absurd (omega arith);
       },
@@ -97,17 +103,21 @@ module _
     tabled (refused-at i) = table
 
     -- a text that cuts into tokens
-    pub judged-parses : (n : ℕ) (r : Answer) → a ≡ Tokens n → r ≡ placed n starts′ (length t) (run module-automaton (take n classes)) → Parses t r × Tabled t r classes starts′ ends
+    pub judged-parses : (n : ℕ) (r : Answer) → a ≡ Tokens n
+        → r ≡ placed n starts′ (length t) (run module-automaton (take n classes))
+        → Parses t r × Tabled t r classes starts′ ends
     judged-parses n r is answer =
         let ts = cut t .tokens in
-        let verdict = run module-automaton (map class-of-token ts) in
-        let all : take (length ts) (overlaid (map class-of-token ts) old-classes) ≡ map class-of-token ts =
-        take-at (map class-of-token ts) (drop (length (map class-of-token ts)) old-classes) (length ts) (length-map ts class-of-token) in
+        let sequence = map class-of-token ts in
+        let verdict = run module-automaton sequence in
+        let all : take (length ts) (overlaid sequence old-classes) ≡ sequence =
+        take-at sequence (drop (length sequence) old-classes) (length ts) (length-map ts class-of-token) in
+        let is-placed = placed-is ts old-starts (length t) verdict in
         let right : r ≡ answer-to ts (length t) verdict =
-        answer ∙ rw (all-counted n is, held .classes-held, held .starts-held, all) (placed-is ts old-starts (length t) verdict) in (
+        answer ∙ rw (all-counted n is, held .classes-held, held .starts-held, all) is-placed in (
           record {
             uncut = λ m p ending.
-                let same : Tokens n ≡ Refused m (record { 0 = p }) = sym is ∙ held .answered ∙ ap (token-answer (length (cut t .tokens))) ending in
+                let same : Tokens n ≡ Refused m (record { 0 = p }) = answer-is _ (refused m p) is ending in
                 let zero-one : _≡_ {A = ℕ} 0 1 = cc in
                 absurd (omega arith);
             judged = λ ending. (verdict, run-judges ts, right);
@@ -136,7 +146,8 @@ module _ (t : List ℕ) (answer : Answer) (right : Parses t answer) where
 
 -- a text that is answered `Derived n`
 module _ (t : List ℕ) (n : ℕ) (right : Parses t (Derived n)) where
-  derived-of : (v : Verdict) → Judges (cut t .tokens) v → Derived n ≡ answer-to (cut t .tokens) (length t) v → cut t .ending ≡ whole → DerivedText t n
+  derived-of : (v : Verdict) → Judges (cut t .tokens) v → Derived n ≡ answer-to (cut t .tokens) (length t) v
+      → cut t .ending ≡ whole → DerivedText t n
   derived-of derived judges is ending =
       let counted : n ≡ length (cut t .tokens) = cc in
       record { cut-whole = ending; counted = sym counted; derives = judges .accepts .0 refl }
@@ -153,12 +164,15 @@ module _ (t : List ℕ) (n : ℕ) (right : Parses t (Derived n)) where
   derived-text = derived-at (cut t .ending) refl
 
 -- the table that an answer comes with
-module _ (t : List ℕ) (answer : Answer) (n : ℕ) (classes starts′ ends : List ℕ) (tabled : Tabled t answer classes starts′ ends) where
-  pub derived-table : answer ≡ Derived n → TokenTable t (cut t .tokens) classes starts′ ends n
-  derived-table is = subst (λ (x : Answer). Tabled t x classes starts′ ends) is tabled
+module _
+    (t : List ℕ) (answer : Answer) (n : ℕ) (classes starts′ ends : List ℕ)
+    (tabled : Tabled t answer classes starts′ ends)
+  where
+    pub derived-table : answer ≡ Derived n → TokenTable t (cut t .tokens) classes starts′ ends n
+    derived-table is = subst (λ (x : Answer). Tabled t x classes starts′ ends) is tabled
 
-  pub underived-table : (at : Place) → answer ≡ Underived n at → TokenTable t (cut t .tokens) classes starts′ ends n
-  underived-table at is = subst (λ (x : Answer). Tabled t x classes starts′ ends) is tabled
+    pub underived-table : (at : Place) → answer ≡ Underived n at → TokenTable t (cut t .tokens) classes starts′ ends n
+    underived-table at is = subst (λ (x : Answer). Tabled t x classes starts′ ends) is tabled
 
 -- a text has one right answer
 module _ (t : List ℕ) (x y : Answer) (p : Parses t x) (q : Parses t y) where

@@ -17,11 +17,14 @@ module _ (r : Reading) (v : Verdict) (count size : ℕ) (starts : List ℕ) (ran
   pub derived-placed : r ≡ Reading.Derived → Derived count ≡ placed count starts size v
   derived-placed is = ap (placed count starts size) (sym (ap verdict is) ∙ ran)
 
-  refused-placed : (index : TokenIndex) → r ≡ Refused index → placed count starts size (refused (index .0)) ≡ placed count starts size v
+  refused-placed : (index : TokenIndex) → r ≡ Refused index
+      → placed count starts size (refused (index .0)) ≡ placed count starts size v
   refused-placed index is = ap (placed count starts size) (sym (ap verdict is) ∙ ran)
 
-  pub token-placed : (index : TokenIndex) → r ≡ Refused index → index .0 < count → Underived count (record { 0 = getD starts (index .0) 0 }) ≡ placed count starts size v
+  pub token-placed : (index : TokenIndex) → r ≡ Refused index → index .0 < count
+      → Underived count (record { 0 = getD starts (index .0) 0 }) ≡ placed count starts size v
   token-placed index is before = rw (← refused-placed index is) (simp (lt-ltb _ _ before))
 
-  pub end-placed : (index : TokenIndex) → r ≡ Refused index → count ≤ index .0 → Underived count (record { 0 = size }) ≡ placed count starts size v
+  pub end-placed : (index : TokenIndex) → r ≡ Refused index → count ≤ index .0
+      → Underived count (record { 0 = size }) ≡ placed count starts size v
   end-placed index is past = rw (← refused-placed index is) (simp (le-ltb _ _ past))

@@ -22,83 +22,96 @@ counted count n whole e = (cc, refl)
 counted count n (refused r p) e = let z : _≡_ {A = ℕ} 0 1 = cc in absurd (omega arith)
 
 -- what is laid over the start of an array leaves its length
-overlaid-length : (field : Tok → ℕ) (ts : List Tok) (held old : List ℕ) → held ≡ overlaid (map field ts) old → length ts ≤ longest-text → length old ≡ longest-text → length held ≡ longest-text
+overlaid-length : (field : Tok → ℕ) (ts : List Tok) (held old : List ℕ) → held ≡ overlaid (map field ts) old
+    → length ts ≤ longest-text → length old ≡ longest-text → length held ≡ longest-text
 overlaid-length field ts held old is room long =
     rw is (simp (length-append, length-drop, length-map) (omega arith))
 
--- the table of all tokens that the cut of a text read
-module _ (text : List ℕ) (answer : Answer) (classes starts ends classes′ starts′ ends′ : List ℕ) (lent : Lent text classes starts ends) (held : Held text answer classes starts ends classes′ starts′ ends′) where
-  read : (i : ℕ) → i < length (cut text .tokens) → entry text classes′ starts′ ends′ i ≡ getD (cut text .tokens) i no-token
-  unfolding entry tok meaning
-  read i h =
-      let ts = cut text .tokens in
-      let c = ap (λ (l : List ℕ). getD l i 0) (held .classes-held) ∙ held-at class-of-token ts classes i no-token refl h in
-      let s = ap (λ (l : List ℕ). getD l i 0) (held .starts-held) ∙ held-at (λ (x : Tok). x .start) ts starts i no-token refl h in
-      let e = ap (λ (l : List ℕ). getD l i 0) (held .ends-held) ∙ held-at (λ (x : Tok). x .end) ts ends i no-token refl h in
-      rw (c, s, e) (sym (sound-at text 0 ts (rising text) i no-token h .made))
+-- and has each token's entry at its index
+overlaid-at : (field : Tok → ℕ) (ts : List Tok) (held old : List ℕ) (i : ℕ) → field no-token ≡ 0
+    → held ≡ overlaid (map field ts) old → i < length ts → getD held i 0 ≡ field (getD ts i no-token)
+overlaid-at field ts held old i none is h = rw is (held-at field ts old i no-token none h)
 
-  pub cut-table : TokenTable text (cut text .tokens) classes′ starts′ ends′ (length (cut text .tokens))
-  cut-table =
-      let ts = cut text .tokens in
-      let room : length ts ≤ longest-text = omega (arith, few text, lent .short) in
-      record {
-        counted = refl;
-        few = room;
-        classes-long = overlaid-length class-of-token ts classes′ classes (held .classes-held) room (lent .classes-long);
-        starts-long = overlaid-length (λ (t : Tok). t .start) ts starts′ starts (held .starts-held) room (lent .starts-long);
-        ends-long = overlaid-length (λ (t : Tok). t .end) ts ends′ ends (held .ends-held) room (lent .ends-long);
-        entry-is = read;
-        sound = λ i h. sound-at text 0 ts (rising text) i no-token h;
-      }
+-- the table of all tokens that the cut of a text read
+module _
+    (text : List ℕ) (answer : Answer) (classes starts ends classes′ starts′ ends′ : List ℕ)
+    (lent : Lent text classes starts ends) (held : Held text answer classes starts ends classes′ starts′ ends′)
+  where
+    read : (i : ℕ) → i < length (cut text .tokens) → entry text classes′ starts′ ends′ i ≡ getD (cut text .tokens) i no-token
+    unfolding entry tok meaning
+    read i h =
+        let ts = cut text .tokens in
+        let c = overlaid-at class-of-token ts classes′ classes i refl (held .classes-held) h in
+        let s = overlaid-at (λ (x : Tok). x .start) ts starts′ starts i refl (held .starts-held) h in
+        let e = overlaid-at (λ (x : Tok). x .end) ts ends′ ends i refl (held .ends-held) h in
+        rw (c, s, e) (sym (sound-at text 0 ts (rising text) i no-token h .made))
+
+    pub cut-table : TokenTable text (cut text .tokens) classes′ starts′ ends′ (length (cut text .tokens))
+    cut-table =
+        let ts = cut text .tokens in
+        let room : length ts ≤ longest-text = omega (arith, few text, lent .short) in
+        record {
+          counted = refl;
+          few = room;
+          classes-long = overlaid-length class-of-token ts classes′ classes (held .classes-held) room (lent .classes-long);
+          starts-long = overlaid-length (λ (t : Tok). t .start) ts starts′ starts (held .starts-held) room (lent .starts-long);
+          ends-long = overlaid-length (λ (t : Tok). t .end) ts ends′ ends (held .ends-held) room (lent .ends-long);
+          entry-is = read;
+          sound = λ i h. sound-at text 0 ts (rising text) i no-token h;
+        }
 
 -- the entry at i of a table
-module _ (text : List ℕ) (ts : List Tok) (classes starts ends : List ℕ) (n : ℕ) (t : TokenTable text ts classes starts ends n) (i : ℕ) (h : i < n) where
-  pub class-at : getD classes i 0 ≡ getD ts i no-token .says .class
-  unfolding entry tok meaning
-  class-at = ap class-of-token (t .entry-is i h)
+module _
+    (text : List ℕ) (ts : List Tok) (classes starts ends : List ℕ) (n : ℕ) (t : TokenTable text ts classes starts ends n)
+    (i : ℕ) (h : i < n)
+  where
+    pub class-at : getD classes i 0 ≡ getD ts i no-token .says .class
+    unfolding entry tok meaning
+    class-at = ap class-of-token (t .entry-is i h)
 
-  pub start-at : getD starts i 0 ≡ getD ts i no-token .start
-  unfolding entry tok
-  start-at = ap (λ (x : Tok). x .start) (t .entry-is i h)
+    pub start-at : getD starts i 0 ≡ getD ts i no-token .start
+    unfolding entry tok
+    start-at = ap (λ (x : Tok). x .start) (t .entry-is i h)
 
-  pub end-at : getD ends i 0 ≡ getD ts i no-token .end
-  unfolding entry tok
-  end-at = ap (λ (x : Tok). x .end) (t .entry-is i h)
+    pub end-at : getD ends i 0 ≡ getD ts i no-token .end
+    unfolding entry tok
+    end-at = ap (λ (x : Tok). x .end) (t .entry-is i h)
 
-  pub entry-sound : Sound text (tok (getD classes i 0) (getD starts i 0) (getD ends i 0) (between text (getD starts i 0) (getD ends i 0)))
-  unfolding entry
-  entry-sound = rw (t .entry-is i h) (t .sound i h)
+    pub entry-sound : Sound text
+        (tok (getD classes i 0) (getD starts i 0) (getD ends i 0) (between text (getD starts i 0) (getD ends i 0)))
+    unfolding entry
+    entry-sound = rw (t .entry-is i h) (t .sound i h)
 
-  -- the token's bytes lie in the text, and it has one at least
-  pub entry-place : (getD starts i 0 < getD ends i 0) × (getD ends i 0 ≤ length text)
-  unfolding tok
-  entry-place = (entry-sound .nonempty, entry-sound .inside)
+    -- the token's bytes lie in the text, and it has one at least
+    pub entry-place : (getD starts i 0 < getD ends i 0) × (getD ends i 0 ≤ length text)
+    unfolding tok
+    entry-place = (entry-sound .nonempty, entry-sound .inside)
 
-  -- the list of what the tokens say has there what the token says
-  pub said-at : said (meanings ts) i ≡ getD ts i no-token .says
-  unfolding tok
-  said-at = List·getD-map (λ (x : Tok). x .says) ts i no-token
+    -- the list of what the tokens say has there what the token says
+    pub said-at : said (meanings ts) i ≡ getD ts i no-token .says
+    unfolding tok
+    said-at = List·getD-map (λ (x : Tok). x .says) ts i no-token
 
-  -- which its class and its bytes make
-  pub said-is : said (meanings ts) i ≡ meaning (getD classes i 0) (between text (getD starts i 0) (getD ends i 0))
-  unfolding entry tok
-  said-is = said-at ∙ sym (ap (λ (x : Tok). x .says) (t .entry-is i h))
+    -- which its class and its bytes make
+    pub said-is : said (meanings ts) i ≡ meaning (getD classes i 0) (between text (getD starts i 0) (getD ends i 0))
+    unfolding entry tok
+    said-is = said-at ∙ sym (ap (λ (x : Tok). x .says) (t .entry-is i h))
 
-  -- the spelling is all its bytes where it is a name, and empty where it is none: it lies in the text
-  abbrev Spelled : ℕ → ℕ → Type 0
-  Spelled start end = Within text start end × (said (meanings ts) i .spelling ≡ between text start end)
+    -- the spelling is all its bytes where it is a name, and empty where it is none: it lies in the text
+    abbrev Spelled : ℕ → ℕ → Type 0
+    Spelled start end = Within text start end × (said (meanings ts) i .spelling ≡ between text start end)
 
-  pub no-name-part : getD classes i 0 < lower → (start : ℕ) → start ≡ getD starts i 0 → Spelled start start
-  unfolding meaning spelling-of
-  no-name-part other start is =
-      let none : start - start ≡ 0 = omega arith in (
-        record { ordered = omega arith; inside = omega (arith, entry-place) },
-        ap (λ (m : Meaning). m .spelling) said-is ∙ rw none (simp (lt-leb lower (getD classes i 0) other)),
-      )
+    pub no-name-part : getD classes i 0 < lower → (start : ℕ) → start ≡ getD starts i 0 → Spelled start start
+    unfolding meaning spelling-of
+    no-name-part other start is =
+        let none : start - start ≡ 0 = omega arith in (
+          record { ordered = omega arith; inside = omega (arith, entry-place) },
+          ap (λ (m : Meaning). m .spelling) said-is ∙ rw none (simp (lt-leb lower (getD classes i 0) other)),
+        )
 
-  pub name-part : lower ≤ getD classes i 0 → (start end : ℕ) → start ≡ getD starts i 0 → end ≡ getD ends i 0 → Spelled start end
-  unfolding meaning spelling-of
-  name-part name start end is to = (
-    record { ordered = omega (arith, entry-place); inside = omega (arith, entry-place) },
-    ap (λ (m : Meaning). m .spelling) said-is ∙ rw (is, to) (simp (le-leb lower (getD classes i 0) name)),
-  )
+    pub name-part : lower ≤ getD classes i 0 → (start end : ℕ) → start ≡ getD starts i 0 → end ≡ getD ends i 0 → Spelled start end
+    unfolding meaning spelling-of
+    name-part name start end is to = (
+      record { ordered = omega (arith, entry-place); inside = omega (arith, entry-place) },
+      ap (λ (m : Meaning). m .spelling) said-is ∙ rw (is, to) (simp (le-leb lower (getD classes i 0) name)),
+    )

@@ -2,19 +2,26 @@
 -- Assumes nothing.
 use mathlib.Core.Path.{_≡_, refl, sym, ap, _∙_}
 use mathlib.Core.List.{List, [], _∷_}
-use Prim.Native.Nat.{ℕ, zero, suc, pred, _+_, _-_, _≤_, _<_}
+use Prim.Native.Nat.{ℕ, zero, suc, pred, _+_, _≤_, _<_}
 use native.Mathlib.Nat.{add-zero}
 use native.Mathlib.Omega.{arith}
-use lib.ListN.{length, getD, take, drop, drop-of-length-le}
+use lib.ListN.{length, getD, drop, drop-of-length-le}
 use lib.Seq.{drop-cons, drop-nil, drop-drop}
-use Rattle.token.specs.Token.{tok}
 use Rattle.piece.specs.Piece.{Piece, gap, token, refusal, piece, size}
-use Rattle.token.specs.Cut.{whole, refused, Cut, starting-with, cut-from, cut}
+use Rattle.token.specs.Cut.{Ending, whole, Cut, starting-with, cut-from, cut}
 use Rattle.piece.proofs.Pieces.{Fit, piece-fits}
 
 -- the cut of what is left of t at the place `at`
 abbrev pub left : List ℕ → ℕ → Cut
 left t at = cut-from at 0 (drop at t)
+
+-- the cut that starts with the piece p at that place, and goes on after it
+abbrev pub from-piece : List ℕ → ℕ → Piece → Cut
+from-piece t at p = starting-with at (drop at t) p (left t (at + size p))
+
+-- the cut that has no token
+abbrev pub ended : Ending → Cut
+ended e = record { tokens = []; ending = e }
 
 pub left-whole : (t : List ℕ) → left t 0 ≡ cut t
 unfolding cut
@@ -29,14 +36,16 @@ pass (b ∷ bs) at (suc n) =
     let e : suc at + n ≡ at + suc n = omega arith in
     pass bs (suc at) n ∙ ap (λ (k : ℕ). cut-from k 0 (drop n bs)) e
 
-step : (t : List ℕ) (at : ℕ) (p : Piece) → at < length t → piece (drop at t) ≡ p → left t at ≡ starting-with at (drop at t) p (cut-from (suc at) (pred (size p)) (drop (suc at) t))
+-- the piece p at the place `at`, where s starts, and what comes after its first byte
+abbrev first-then : List ℕ → ℕ → List ℕ → Piece → Cut
+first-then t at s p = starting-with at s p (cut-from (suc at) (pred (size p)) (drop (suc at) t))
+
+step : (t : List ℕ) (at : ℕ) (p : Piece) → at < length t → piece (drop at t) ≡ p → left t at ≡ first-then t at (drop at t) p
 unfolding cut-from
 step t at p h e = go (drop at t) (drop-cons t at 0 h) e
   where
-    go : (s : List ℕ) → s ≡ getD t at 0 ∷ drop (suc at) t → piece s ≡ p → cut-from at 0 s ≡ starting-with at s p (cut-from (suc at) (pred (size p)) (drop (suc at) t))
-    go s q r =
-        let r′ : piece (getD t at 0 ∷ drop (suc at) t) ≡ p = ap piece (sym q) ∙ r in
-        rw q (ap (λ (x : Piece). starting-with at (getD t at 0 ∷ drop (suc at) t) x (cut-from (suc at) (pred (size x)) (drop (suc at) t))) r′)
+    go : (s : List ℕ) → s ≡ getD t at 0 ∷ drop (suc at) t → piece s ≡ p → cut-from at 0 s ≡ first-then t at s p
+    go s q r = rw q (ap (first-then t at (getD t at 0 ∷ drop (suc at) t)) (ap piece (sym q) ∙ r))
 
 -- what comes after a piece of m bytes is what is left after it
 after : (t : List ℕ) (at m : ℕ) → 1 ≤ m → cut-from (suc at) (pred m) (drop (suc at) t) ≡ left t (at + m)
@@ -49,14 +58,16 @@ after t at m h =
 pub step-gap : (t : List ℕ) (at m : ℕ) → at < length t → piece (drop at t) ≡ gap m → 1 ≤ m → left t at ≡ left t (at + m)
 step-gap t at m h e p = step t at (gap m) h e ∙ after t at m p
 
-pub step-token : (t : List ℕ) (at c m : ℕ) → at < length t → piece (drop at t) ≡ token c m → 1 ≤ m → left t at ≡ record { tokens = tok c at (at + m) (take m (drop at t)) ∷ left t (at + m) .tokens; ending = left t (at + m) .ending }
+pub step-token : (t : List ℕ) (at c m : ℕ) → at < length t → piece (drop at t) ≡ token c m → 1 ≤ m
+    → left t at ≡ from-piece t at (token c m)
 step-token t at c m h e p =
-    step t at (token c m) h e ∙ ap (λ (rest : Cut). starting-with at (drop at t) (token c m) rest) (after t at m p)
+    step t at (token c m) h e ∙ ap (starting-with at (drop at t) (token c m)) (after t at m p)
 
-pub step-refusal : (t : List ℕ) (at r d : ℕ) → at < length t → piece (drop at t) ≡ refusal r d → left t at ≡ record { tokens = []; ending = refused r (at + d) }
+pub step-refusal : (t : List ℕ) (at r d : ℕ) → at < length t → piece (drop at t) ≡ refusal r d
+    → left t at ≡ from-piece t at (refusal r d)
 step-refusal t at r d h e = step t at (refusal r d) h e
 
-pub step-end : (t : List ℕ) (at : ℕ) → length t ≤ at → left t at ≡ record { tokens = []; ending = whole }
+pub step-end : (t : List ℕ) (at : ℕ) → length t ≤ at → left t at ≡ ended whole
 unfolding cut-from
 step-end t at h = rw (drop-of-length-le t h)
 

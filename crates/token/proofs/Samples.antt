@@ -10,7 +10,8 @@ use Rattle.terminal.specs.Terminal.{terminals}
 use Rattle.lexicon.specs.Byte.{class-of, class-in, rows}
 use Rattle.lexicon.specs.Word.{bytes, word, word-table, words, word-classes, same, place-in, name-class}
 use Rattle.piece.specs.Decimal.{decimal-after}
-use Rattle.piece.specs.Piece.{span, name, misfit, non-negative, below-zero, comment, after-hyphen, quoted, hex-string, after-colon, after-dot, punctuation, piece}
+use Rattle.piece.specs.Piece.{span, name, misfit, non-negative, below-zero, comment, after-hyphen, quoted, hex-string}
+use Rattle.piece.specs.Piece.{after-colon, after-dot, punctuation, piece}
 use Rattle.token.specs.Token.{Tok, tok, meaning, spelling-of, value-of}
 use Rattle.token.specs.Cut.{Ending, whole, refused, cut-from, cut}
 use Rattle.index.proofs.Tested.{passes, tested, and-left, and-right}
@@ -42,7 +43,8 @@ is-whole (refused n p) = false
 single : ℕ → List ℕ → Bool
 single class text = one-of class (cut text .tokens) && is-whole (cut text .ending)
 
-sampled : (class : ℕ) (text : List ℕ) (tokens : List Tok) (ending : Ending) → cut text ≡ record { tokens = tokens; ending = ending } → T (one-of class tokens) → T (is-whole ending) → Sample class
+sampled : (class : ℕ) (text : List ℕ) (tokens : List Tok) (ending : Ending)
+    → cut text ≡ record { tokens = tokens; ending = ending } → T (one-of class tokens) → T (is-whole ending) → Sample class
 unfolding one-of is-whole
 sampled class text [] ending is o w = absurd o
 sampled class text (t ∷ []) whole is o w = record { text = text; token = t; cuts = is; classed = eqb→eq (t .says .class) class o }
@@ -54,7 +56,9 @@ unfolding samples words word-table
 enough = refl
 
 all-single : T (passes single 0 samples)
-unfolding single one-of is-whole samples bytes class-of class-in rows word word-table words word-classes same place-in name-class tok meaning decimal-after spelling-of value-of span name misfit non-negative below-zero comment after-hyphen quoted hex-string after-colon after-dot punctuation piece cut-from cut
+unfolding single one-of is-whole samples bytes class-of class-in rows word word-table words word-classes same place-in name-class
+    tok meaning decimal-after spelling-of value-of span name misfit non-negative below-zero comment after-hyphen quoted hex-string
+    after-colon after-dot punctuation piece cut-from cut
 all-single = tt
 
 pub sample : (class : ℕ) → class < terminals → Sample class

@@ -38,10 +38,11 @@ returns c =
 
 add-i : tie.Need-add-i Inv-loop μ-loop
 add-i c =
-    let a = c .before .before .before .before .before .args in
+    let start = c .before .before .before .before .before in
+    let a = start .args in
     let small = character-small (a .format) (a .s .now) (c .before .before .before .loop .i) in
     let size = c .before .character-size .ensures in
-    omega (arith, c .before .before .before .before .before .good)
+    omega (arith, start .good)
 
 loop-less : tie.Need-loop-less Inv-loop μ-loop
 loop-less c = omega arith

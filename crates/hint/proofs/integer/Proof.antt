@@ -10,13 +10,13 @@ use mir.Syntax.{w64}
 use mir.Val.{toZ, ofZ}
 use borrow.Author.Needs.{needs}
 use borrow.Author.Tests.{not-true, not-false}
-use Rattle.hint_form.specs.declared.Form.{Form}
+use Rattle.hint_integer.specs.declared.Form.{Form}
 use Rattle.hint_integer.specs.Signed.{in-range, signed}
-use Rattle.hint_form.specs.Form.{Usable, is-bad, read-form}
+use Rattle.hint_integer.specs.Form.{Usable, is-bad, read-form}
 use Rattle.hint.specs.declared.Answer.the-variants.{BadHint, OutOfRange}
 use Rattle.hint.specs.Answer.{Verdict, integer-verdict}
 use Rattle.buffer.proofs.Writing.{wrote-as}
-use Rattle.hint_form.proofs.FormLaws.{form-usable}
+use Rattle.hint_integer.proofs.FormLaws.{form-usable}
 use Rattle.hint.proofs.Answers.{answered-short, answered-refusal, answered-text, integer-short, integer-hint, integer-range, integer-text}
 use Rattle.hint.proofs.integer.Statement.{statement}
 use Rattle.hint.proofs.integer.Tie as tie

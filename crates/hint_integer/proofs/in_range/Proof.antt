@@ -11,12 +11,14 @@ use Rattle.hint_integer.proofs.in_range.Tie as tie
 returns : tie.Need-returns
 returns c =
     let same = toZ-ofZ (c .before .fits .value) in
-    ap (λ (z : ℤ). leZ z (pos 4294967295)) same ∙ range-high (c .before .args .value) (ap (λ (z : ℤ). leZ (negsuc 2147483647) z) (sym same) ∙ c .if1 .taken)
+    let low = ap (λ (z : ℤ). leZ (negsuc 2147483647) z) (sym same) ∙ c .if1 .taken in
+    ap (λ (z : ℤ). leZ z (pos 4294967295)) same ∙ range-high (c .before .args .value) low
 
 returns-2 : tie.Need-returns-2
 returns-2 c =
     let same = toZ-ofZ (c .before .fits .value) in
-    ap (λ (z : ℤ). leZ (negsuc 2147483647) z) same ∙ range-low (c .before .args .value) (ap (λ (z : ℤ). leZ (negsuc 2147483647) z) (sym same) ∙ c .if1 .left)
+    let low = ap (λ (z : ℤ). leZ (negsuc 2147483647) z) (sym same) ∙ c .if1 .left in
+    ap (λ (z : ℤ). leZ (negsuc 2147483647) z) same ∙ range-low (c .before .args .value) low
 
 pub in-range-spec : {M : Type 1} → statement M
 in-range-spec = tie.close (tie.spec returns returns-2)

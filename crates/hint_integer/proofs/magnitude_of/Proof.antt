@@ -22,7 +22,8 @@ sub-result c =
     subst (SFits w64) (sym is) (record { sfits = omega arith })
 
 -- the integer negated is its magnitude, also as the machine's bits have it
-negative : (c : tie.Then1) → toZ w64 (ofZ w64 (pos 0 -ℤ toZ w64 (ofZ w64 (c .before .args .value)))) ≡ pos (natAbs (c .before .args .value))
+negative : (c : tie.Then1)
+    → toZ w64 (ofZ w64 (pos 0 -ℤ toZ w64 (ofZ w64 (c .before .args .value)))) ≡ pos (natAbs (c .before .args .value))
 negative c =
     let v = c .before .args .value in
     let same = toZ-ofZ (c .before .fits .value) in

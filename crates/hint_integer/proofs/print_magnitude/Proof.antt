@@ -4,8 +4,8 @@ use native.Mathlib.Omega.{arith}
 use mathlib.Core.Path.{ap, sym, subst}
 use lib.ListN.{length}
 use borrow.Author.Needs.{needs}
-use Rattle.hint_form.specs.declared.Form.{Form}
-use Rattle.hint_form.specs.Form.{Usable}
+use Rattle.hint_integer.specs.declared.Form.{Form}
+use Rattle.hint_integer.specs.Form.{Usable}
 use Rattle.hint_integer.specs.Signed.{magnitude}
 use Rattle.buffer.proofs.Writing.{wrote-as, wrote-none}
 use Rattle.hint_integer.proofs.print_magnitude.Statement.{statement}

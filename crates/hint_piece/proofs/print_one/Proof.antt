@@ -55,8 +55,9 @@ use-octets-requires c κs = search needs
 
 print-use-requires : tie.Need-print-use-requires
 print-use-requires c κs =
-    let a = c .before .before .before .before .args in
-    let q = c .before .before .before .before .pre in
+    let first = c .before .before .before .before in
+    let a = first .args in
+    let q = first .pre in
     let long = octets-size (a .piece .size) (a .at) (a .value .now) in
     let same = ap length (c .before .use-octets .ensures) in
     (omega (arith, q), (omega (arith, q), (omega (arith, q), omega (arith, q))))

@@ -8,7 +8,7 @@ use borrow.Author.Needs.{needs}
 use borrow.Author.Tests.{not-true, not-false}
 use Rattle.character.specs.Character.{character-size, characters}
 use Rattle.digit.specs.Digits.{digits, big-endian}
-use Rattle.hint_form.specs.Form.{base-of}
+use Rattle.hint_form.specs.Hint.{base-of}
 use Rattle.hint_piece.specs.Followed.{wrote, failed}
 use Rattle.hint_form.proofs.HintLaws.{longest-small}
 use Rattle.digit.proofs.Sizes.{Octets, number-short}

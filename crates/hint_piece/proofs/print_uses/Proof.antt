@@ -30,42 +30,49 @@ Inv-loop value start piece count out₀ pos size left₀ at₀ next₀ out left 
 abbrev μ-loop : tie.MeasureT-loop
 μ-loop value start piece count out₀ pos size left₀ at₀ next₀ out left at next = left
 
--- the use that a turn of the loop printed, and what is left to print
+-- where the function started, and the turn of the loop that printed a use
+abbrev start : tie.After-print-one Inv-loop μ-loop → tie.Start Inv-loop μ-loop
+start d = d .before .before .before .before .before .before .before
+
+abbrev turn : tie.After-print-one Inv-loop μ-loop → tie.At-loop Inv-loop μ-loop
+turn d = d .before .before .before .before
+
+-- the use that it printed, and what is left to print
 abbrev this : tie.After-print-one Inv-loop μ-loop → Outcome
 this d =
-    let a = d .before .before .before .before .before .before .before .args in
-    let here = d .before .before .before .before .loop in
+    let a = start d .args in
+    let here = turn d .loop in
     one-use (a .piece) (here .left - 1) (a .value .now) (here .at)
 
 abbrev rest : tie.After-print-one Inv-loop μ-loop → Outcome
 rest d =
-    let a = d .before .before .before .before .before .before .before .args in
-    let here = d .before .before .before .before .loop in
+    let a = start d .args in
+    let here = turn d .loop in
     uses (here .left - 1) (a .piece) (a .value .now) (here .at + a .piece .size)
 
 step : (d : tie.After-print-one Inv-loop μ-loop)
-    → let a = d .before .before .before .before .before .before .before .args in
-    let here = d .before .before .before .before .loop in
+    → let a = start d .args in
+    let here = turn d .loop in
     uses (here .left) (a .piece) (a .value .now) (here .at) ≡ joined (this d) (rest d)
 step d =
-    let a = d .before .before .before .before .before .before .before .args in
-    let here = d .before .before .before .before .loop in
+    let a = start d .args in
+    let here = turn d .loop in
     uses-step (here .left) (a .piece) (a .value .now) (here .at) (d .before .before .before .loop-test .taken) (d .before .before .if1 .left)
 
 -- it was followed, with what was answered, and is short
 followed : (d : tie.After-print-one Inv-loop μ-loop) (r : Progress) → d .print-one .result ≡ r
-    → let here = d .before .before .before .before .loop in
+    → let here = turn d .loop in
     Followed (this d) (here .next) r (here .out) (d .print-one .last .1 .1 .1 .1 .0)
 followed d r e = followed-as refl e (d .print-one .ensures)
 
 short : (d : tie.After-print-one Inv-loop μ-loop)
-    → let a = d .before .before .before .before .before .before .before .args in
-    let here = d .before .before .before .before .loop in
+    → let a = start d .args in
+    let here = turn d .loop in
     size-of (this d) ≤ 4 * min (a .piece .size) (length (a .value .now) - here .at)
 short d =
-    let a = d .before .before .before .before .before .before .before .args in
-    let here = d .before .before .before .before .loop in
-    let q = d .before .before .before .before .before .before .before .pre in
+    let a = start d .args in
+    let here = turn d .loop in
+    let q = start d .pre in
     let octets : Octets (a .value .now) = λ (k : ℕ). omega (arith, d .before .before .before .before .before .before .shared-slice-known .given k) in
     one-size (a .piece) (a .value .now) (q .1 .1 .0) (q .1 .1 .1 .0) octets (here .left - 1) (here .at) (d .before .before .if1 .left)
 
@@ -99,12 +106,12 @@ enum-known-place c = search needs
 same-length-2 : tie.Need-same-length-2 Inv-loop μ-loop
 same-length-2 c =
     let d = c .before .before .before .before .before in
-    d .print-one .kept .1 .1 .1 .1 .0 ∙ d .before .before .before .before .loop .inv .2
+    d .print-one .kept .1 .1 .1 .1 .0 ∙ turn d .loop .inv .2
 
 returns-2 : tie.Need-returns-2 Inv-loop μ-loop
 returns-2 c =
     let d = c .before .before .before .before .before in
-    let here = d .before .before .before .before .loop in
+    let here = turn d .loop in
     let given = c .before .place .given in
     let done = followed d (Fault (given .0 .0)) (given .1) in
     here .inv .0 (Fault (given .0 .0)) (d .print-one .last .1 .1 .1 .1 .0) (followed-as (sym (step d)) refl (followed-fault (rest d) done))
@@ -112,9 +119,9 @@ returns-2 c =
 add-at : tie.Need-add-at Inv-loop μ-loop
 add-at c =
     let d = c .before .before .before .before .before in
-    let start = d .before .before .before .before .before .before .before in
-    let here = d .before .before .before .before .loop in
-    omega (arith, start .pre, here .inv .3, longest-small (start .args .piece .format))
+    let first = start d in
+    let here = turn d .loop in
+    omega (arith, first .pre, here .inv .3, longest-small (first .args .piece .format))
 
 loop-less : tie.Need-loop-less Inv-loop μ-loop
 loop-less c = omega (arith, c .before .before .before .before .before .before .before .before .loop-test .taken)
@@ -122,18 +129,18 @@ loop-less c = omega (arith, c .before .before .before .before .before .before .b
 loop-again : tie.Need-loop-again Inv-loop μ-loop
 loop-again c =
     let d = c .before .before .before .before .before in
-    let start = d .before .before .before .before .before .before .before in
-    let here = d .before .before .before .before .loop in
+    let first = start d in
+    let here = turn d .loop in
     let given = c .before .n .given in
     let done = followed d (To (given .0 .0)) (given .1) in
     let place = followed-next done in
     let kept = d .print-one .kept .1 .1 .1 .1 .0 in
-    let room : here .next + 4 * (length (start .args .value .now) - here .at) ≤ length (here .out) = here .inv .1 in (
+    let room : here .next + 4 * (length (first .args .value .now) - here .at) ≤ length (here .out) = here .inv .1 in (
       λ (r : Progress) (after : List ℕ) h. here .inv .0 r after
           (followed-as (sym (step d)) refl (followed-joined (omega (arith, short d)) done h)),
       omega (arith, short d),
       kept ∙ here .inv .2,
-      omega (arith, start .pre, longest-small (start .args .piece .format), d .before .before .if1 .left),
+      omega (arith, first .pre, longest-small (first .args .piece .format), d .before .before .if1 .left),
     )
 
 same-length-3 : tie.Need-same-length-3 Inv-loop μ-loop

@@ -1,10 +1,14 @@
 -- `colon_at` is right because the two tests after the colon are those of the definition.
 -- Assumes nothing.
-use Prim.Native.Nat.{_+_, _-_}
+use Prim.Native.Nat.{_+_}
 use native.Mathlib.Omega.{arith}
 use native.Mathlib.Nat.{add-zero}
 use Rattle.piece.specs.Piece.{after-colon}
-use Rattle.lexicon.proofs.Places.{byte-is, byte-not}
+use Rattle.lexicon.proofs.Places.{byte-is, byte-not, first-is, first-not}
+use mathlib.Core.Path.{_≡_}
+use mathlib.Core.Bool.{true}
+use lib.Dec.{eqb}
+use lib.ListN.{getD, drop}
 use borrow.Author.Needs.{needs}
 use Rattle.piece.proofs.colon_at.Statement.{statement}
 use Rattle.piece.proofs.colon_at.Tie as tie
@@ -24,29 +28,36 @@ byte-at-requires-2 c κs = search needs
 add-t9 : tie.Need-add-t9
 add-t9 c = search needs
 
+-- the byte after the colon is another colon
+abbrev start-of : tie.After-byte-at → tie.Start
+start-of c = c .before .before
+
+another : (c : tie.Then1) → (let a = start-of (c .before) .args in eqb (getD (drop (a .at + 1) (a .text .now)) 0 0) 58 ≡ true)
+another c =
+    let a = start-of (c .before) .args in
+    first-is (a .text .now) (a .at + 1) (c .before .byte-at .ensures) (c .if1 .taken)
+
 returns : tie.Need-returns
 unfolding after-colon
 returns c =
-    let s = c .before .before .before .before .before in
-    let t = s .args .text .now in
-    let at = s .args .at in
-    simp (byte-is t (at + 1) 0 (at + 1) (omega arith) (c .before .before .before .byte-at .ensures) (c .before .before .if1 .taken), byte-is t (at + 1) 1 (at + 2) (omega arith) (c .before .byte-at2 .ensures) (c .if2 .taken))
+    let two = c .before .before in
+    let a = start-of (two .before) .args in
+    let equals = byte-is (a .text .now) (a .at + 1) 1 (a .at + 2) (omega arith) (c .before .byte-at2 .ensures) (c .if2 .taken) in
+    simp (another two, equals)
 
 returns-2 : tie.Need-returns-2
 unfolding after-colon
 returns-2 c =
-    let s = c .before .before .before .before .before in
-    let t = s .args .text .now in
-    let at = s .args .at in
-    simp (byte-is t (at + 1) 0 (at + 1) (omega arith) (c .before .before .before .byte-at .ensures) (c .before .before .if1 .taken), byte-not t (at + 1) 1 (at + 2) (omega arith) (c .before .byte-at2 .ensures) (c .if2 .left), add-zero)
+    let two = c .before .before in
+    let a = start-of (two .before) .args in
+    let other = byte-not (a .text .now) (a .at + 1) 1 (a .at + 2) (omega arith) (c .before .byte-at2 .ensures) (c .if2 .left) in
+    simp (another two, other, add-zero)
 
 returns-3 : tie.Need-returns-3
 unfolding after-colon
 returns-3 c =
-    let s = c .before .before .before in
-    let t = s .args .text .now in
-    let at = s .args .at in
-    simp (byte-not t (at + 1) 0 (at + 1) (omega arith) (c .before .byte-at .ensures) (c .if1 .left), add-zero)
+    let a = start-of (c .before) .args in
+    simp (first-not (a .text .now) (a .at + 1) (c .before .byte-at .ensures) (c .if1 .left), add-zero)
 
 pub colon-at-spec : {M : Type 1} → statement M
 colon-at-spec =

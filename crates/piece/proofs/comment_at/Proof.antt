@@ -1,14 +1,17 @@
 -- `comment_at` is right because what ends the comment's bytes is taken in if it is two hyphens, by the definition's two tests.
 -- Assumes nothing.
 use mathlib.Core.Path.{_≡_, refl, sym, ap, _∙_}
-use Prim.Native.Nat.{ℕ, _+_, _-_}
+use mathlib.Core.Bool.{true}
+use mathlib.Core.List.{List}
+use Prim.Native.Nat.{ℕ, _+_}
 use native.Mathlib.Omega.{arith}
-use lib.ListN.{drop}
+use lib.Dec.{eqb}
+use lib.ListN.{getD, drop}
 use Rattle.piece.specs.Piece.{span, comment}
 use Rattle.piece.specs.declared.Found.{Found}
 use Rattle.piece.specs.Found.{gap-class}
-use Rattle.lexicon.specs.Byte.{hyphen, comment-byte}
-use Rattle.lexicon.proofs.Places.{rest-at, class-is, class-not, inside}
+use Rattle.lexicon.specs.Byte.{class-of, hyphen, comment-byte}
+use Rattle.lexicon.proofs.Places.{rest-at, class-is, class-not, first-class-is, first-class-not, inside}
 use borrow.Author.Needs.{needs}
 use Rattle.piece.proofs.comment_at.Statement.{statement}
 use Rattle.piece.proofs.comment_at.Tie as tie
@@ -22,55 +25,60 @@ run-end-requires c κs = search needs
 class-at-requires : tie.Need-class-at-requires
 class-at-requires c κs = search needs
 
+-- the text, and what is left of it where the run of the comment's bytes ended
+abbrev text-of : tie.After-run-end → List ℕ
+text-of c = c .before .before .args .text .now
+
+abbrev left-of : tie.After-run-end → List ℕ
+left-of c = drop (c .run-end .result) (text-of c)
+
+rest : (c : tie.After-run-end)
+    → (let s = drop (c .before .before .args .at + 2) (text-of c) in drop (span comment-byte s) s ≡ left-of c)
+rest c = rest-at (text-of c) (c .before .before .args .at + 2) _ (c .run-end .result) (sym (c .run-end .ensures))
+
+-- a hyphen stands there
+hyphen-there : (c : tie.Then1) → eqb (class-of (getD (left-of (c .before .before)) 0 0)) hyphen ≡ true
+hyphen-there c =
+    let r = c .before .before in
+    first-class-is (text-of r) (r .run-end .result) (c .before .class-at .ensures) (c .if1 .taken)
+
 add-class-at : tie.Need-add-class-at
 add-class-at c =
-    let s = c .before .before .before .before in
-    let t = s .args .text .now in
-    let at = s .args .at in
-    omega (arith, inside t (c .before .before .run-end .result) hyphen (sym (c .before .class-at .ensures) ∙ c .if1 .taken) (omega arith))
+    let r = c .before .before in
+    let is = sym (c .before .class-at .ensures) ∙ c .if1 .taken in
+    omega (arith, inside (text-of r) (r .run-end .result) hyphen is (omega arith))
 
 class-at-requires-2 : tie.Need-class-at-requires-2
 class-at-requires-2 c κs = search needs
 
 add-t12 : tie.Need-add-t12
 add-t12 c =
-    let s = c .before .before .before .before .before .before in
-    let t = s .args .text .now in
-    let at = s .args .at in
-    omega (arith, inside t (c .before .before .before .before .run-end .result + 1) hyphen (sym (c .before .class-at2 .ensures) ∙ c .if2 .taken) (omega arith))
+    let r = c .before .before .before .before in
+    let is = sym (c .before .class-at2 .ensures) ∙ c .if2 .taken in
+    omega (arith, inside (text-of r) (r .run-end .result + 1) hyphen is (omega arith))
 
 returns : tie.Need-returns
 unfolding comment
 returns c =
-    let s = c .before .before .before .before .before .before in
-    let t = s .args .text .now in
-    let at = s .args .at in
-    let end = c .before .before .before .before .run-end .result in
-    let ends : end ≡ at + 2 + span comment-byte (drop (at + 2) t) = c .before .before .before .before .run-end .ensures in
-    simp (rest-at t (at + 2) (span comment-byte (drop (at + 2) t)) end (sym ends), class-is t end 0 end (omega arith) (c .before .before .before .class-at .ensures) (c .before .before .if1 .taken), class-is t end 1 (end + 1) refl (c .before .class-at2 .ensures) (c .if2 .taken))
-    (ap (λ (e : ℕ). Found.Piece gap-class e) (omega arith))
+    let one = c .before .before in
+    let r = one .before .before in
+    let two = class-is (text-of r) (r .run-end .result) 1 _ refl (c .before .class-at2 .ensures) (c .if2 .taken) in
+    simp (rest r, hyphen-there one, two) (ap (Found.Piece gap-class) (omega (arith, r .run-end .ensures)))
 
 returns-2 : tie.Need-returns-2
 unfolding comment
 returns-2 c =
-    let s = c .before .before .before .before .before .before in
-    let t = s .args .text .now in
-    let at = s .args .at in
-    let end = c .before .before .before .before .run-end .result in
-    let ends : end ≡ at + 2 + span comment-byte (drop (at + 2) t) = c .before .before .before .before .run-end .ensures in
-    simp (rest-at t (at + 2) (span comment-byte (drop (at + 2) t)) end (sym ends), class-is t end 0 end (omega arith) (c .before .before .before .class-at .ensures) (c .before .before .if1 .taken), class-not t end 1 (end + 1) refl (c .before .class-at2 .ensures) (c .if2 .left))
-    (ap (λ (e : ℕ). Found.Piece gap-class e) (omega arith))
+    let one = c .before .before in
+    let r = one .before .before in
+    let other = class-not (text-of r) (r .run-end .result) 1 _ refl (c .before .class-at2 .ensures) (c .if2 .left) in
+    simp (rest r, hyphen-there one, other) (ap (Found.Piece gap-class) (omega (arith, r .run-end .ensures)))
 
 returns-3 : tie.Need-returns-3
 unfolding comment
 returns-3 c =
-    let s = c .before .before .before .before in
-    let t = s .args .text .now in
-    let at = s .args .at in
-    let end = c .before .before .run-end .result in
-    let ends : end ≡ at + 2 + span comment-byte (drop (at + 2) t) = c .before .before .run-end .ensures in
-    simp (rest-at t (at + 2) (span comment-byte (drop (at + 2) t)) end (sym ends), class-not t end 0 end (omega arith) (c .before .class-at .ensures) (c .if1 .left))
-    (ap (λ (e : ℕ). Found.Piece gap-class e) (omega arith))
+    let r = c .before .before in
+    let other = first-class-not (text-of r) (r .run-end .result) (c .before .class-at .ensures) (c .if1 .left) in
+    simp (rest r, other) (ap (Found.Piece gap-class) (omega (arith, r .run-end .ensures)))
 
 pub comment-at-spec : {M : Type 1} → statement M
 comment-at-spec =

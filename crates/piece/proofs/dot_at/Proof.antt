@@ -1,10 +1,9 @@
 -- `dot_at` is right because the test after the dot is that of the definition.
 -- Assumes nothing.
-use Prim.Native.Nat.{_+_, _-_}
-use native.Mathlib.Omega.{arith}
+use Prim.Native.Nat.{_+_}
 use native.Mathlib.Nat.{add-zero}
 use Rattle.piece.specs.Piece.{after-dot}
-use Rattle.lexicon.proofs.Places.{byte-is, byte-not}
+use Rattle.lexicon.proofs.Places.{first-is, first-not}
 use borrow.Author.Needs.{needs}
 use Rattle.piece.proofs.dot_at.Statement.{statement}
 use Rattle.piece.proofs.dot_at.Tie as tie
@@ -21,18 +20,14 @@ add-t6 c = search needs
 returns : tie.Need-returns
 unfolding after-dot
 returns c =
-    let s = c .before .before .before in
-    let t = s .args .text .now in
-    let at = s .args .at in
-    simp (byte-is t (at + 1) 0 (at + 1) (omega arith) (c .before .byte-at .ensures) (c .if1 .taken))
+    let a = c .before .before .before .args in
+    simp (first-is (a .text .now) (a .at + 1) (c .before .byte-at .ensures) (c .if1 .taken))
 
 returns-2 : tie.Need-returns-2
 unfolding after-dot
 returns-2 c =
-    let s = c .before .before .before in
-    let t = s .args .text .now in
-    let at = s .args .at in
-    simp (byte-not t (at + 1) 0 (at + 1) (omega arith) (c .before .byte-at .ensures) (c .if1 .left), add-zero)
+    let a = c .before .before .before .args in
+    simp (first-not (a .text .now) (a .at + 1) (c .before .byte-at .ensures) (c .if1 .left), add-zero)
 
 pub dot-at-spec : {M : Type 1} → statement M
 dot-at-spec = tie.close (tie.spec add-byte-at byte-at-requires add-t6 returns returns-2)

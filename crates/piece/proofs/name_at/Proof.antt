@@ -1,7 +1,7 @@
 -- `name_at` is right because the name is the span, and its class that of its bytes.
 -- Assumes nothing.
-use mathlib.Core.Path.{_≡_, ap, _∙_}
-use Prim.Native.Nat.{ℕ, _-_}
+use mathlib.Core.Path.{_≡_}
+use Prim.Native.Nat.{_-_}
 use native.Mathlib.Omega.{arith}
 use native.Mathlib.Nat.{add-zero}
 use borrow.Author.Tests.{le-leb, lt-leb}
@@ -24,21 +24,18 @@ sub-if1 c = search needs
 returns : tie.Need-returns
 unfolding name
 returns c =
-    let s = c .before .before .before in
-    let t = s .args .text .now in
-    let at = s .args .at in
-    let n = span name-byte (drop at t) in
+    let a = c .before .before .before .args in
+    let n = span name-byte (drop (a .at) (a .text .now)) in
     simp (lt-leb n longest-name (omega (arith, c .before .run-end .ensures)), add-zero)
 
 name-class-requires : tie.Need-name-class-requires
 name-class-requires c κs =
-    let s = c .before .before .before in
-    let t = s .args .text .now in
-    let at = s .args .at in
-    let end = span-end-in name-byte t at (omega arith) in
-    let name : NameWithin t at (c .before .run-end .result) = record {
-      some = omega (arith, c .before .run-end .ensures, s .pre .1 .0);
-      inside = omega (arith, c .before .run-end .ensures);
+    let r = c .before in
+    let s = r .before .before in
+    let inside = span-end-in name-byte (s .args .text .now) (s .args .at) (omega arith) in
+    let name : NameWithin (s .args .text .now) (s .args .at) (r .run-end .result) = record {
+      some = omega (arith, r .run-end .ensures, s .pre .1 .0);
+      inside = omega (arith, r .run-end .ensures);
       short = omega arith;
     } in
     (name, s .pre .1 .1)
@@ -46,15 +43,14 @@ name-class-requires c κs =
 returns-2 : tie.Need-returns-2
 unfolding name
 returns-2 c =
-    let s = c .before .before .before .before in
-    let t = s .args .text .now in
-    let at = s .args .at in
-    let n = span name-byte (drop at t) in
-    let end = c .before .before .run-end in
-    let length-n : end .result - at ≡ n = omega (arith, end .ensures) in
-    let class : c .name-class .result ≡ name-class (take n (drop at t)) =
-    c .name-class .ensures ∙ ap (λ (k : ℕ). name-class (take k (drop at t))) length-n in
-    simp (le-leb n longest-name (omega (arith, end .ensures, c .before .if1 .left))) (λ i. Found.Piece (class i) (end .ensures i))
+    let short = c .before in
+    let end = short .before .run-end in
+    let a = short .before .before .before .args in
+    let rest = drop (a .at) (a .text .now) in
+    let n = span name-byte rest in
+    let all : end .result - a .at ≡ n = omega (arith, end .ensures) in
+    let class : c .name-class .result ≡ name-class (take n rest) = rw (← all) (c .name-class .ensures) in
+    simp (le-leb n longest-name (omega (arith, end .ensures, short .if1 .left))) (λ i. Found.Piece (class i) (end .ensures i))
 
 pub name-at-spec : {M : Type 1} → statement M
 name-at-spec = tie.close (tie.spec run-end-requires sub-if1 returns name-class-requires returns-2)

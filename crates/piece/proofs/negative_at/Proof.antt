@@ -1,18 +1,19 @@
--- `negative_at` is right because the digits' value, cut off above the largest number, is over the limit exactly if the whole value is.
+-- `negative_at` is right because the digits' value, cut off above the largest number, is over the limit exactly if the whole
+-- value is.
 -- Assumes nothing.
 use mathlib.Core.Path.{_≡_, sym, ap, _∙_}
-use mathlib.Core.Bool.{true, false}
-use Prim.Native.Nat.{ℕ, _+_, _-_}
+use mathlib.Core.Bool.{false}
+use mathlib.Core.List.{List}
+use Prim.Native.Nat.{ℕ, _+_}
 use native.Mathlib.Omega.{arith}
 use native.Mathlib.Nat.{add-zero}
-use borrow.Author.Tests.{le-leb, lt-leb}
-use lib.ListN.{take, drop}
-use Rattle.piece.specs.Decimal.{decimal, capped}
-use Rattle.piece.specs.Piece.{largest-negative, span, misfit, below-zero}
+use lib.Dec.{eqb}
+use lib.ListN.{getD, drop}
+use Rattle.piece.specs.Piece.{largest-negative, misfit, below-zero}
 use Rattle.terminal.specs.Terminal.{negative}
 use Rattle.piece.specs.declared.Found.{Found}
-use Rattle.lexicon.specs.Byte.{digit-byte}
-use Rattle.lexicon.proofs.Places.{byte-is, byte-not}
+use Rattle.lexicon.proofs.Places.{first-is, first-not}
+use Rattle.piece.proofs.Decimal.{over-limit, in-limit}
 use borrow.Author.Needs.{needs}
 use Rattle.piece.proofs.negative_at.Statement.{statement}
 use Rattle.piece.proofs.negative_at.Tie as tie
@@ -29,13 +30,26 @@ add-byte-at c = search needs
 byte-at-requires : tie.Need-byte-at-requires
 byte-at-requires c κs = search needs
 
+-- the digits after the hyphen: the first is not 0, and they are no misfit
+abbrev start-of : tie.After-byte-at → tie.Start
+start-of c = c .before .before .before
+
+abbrev rest-of : tie.After-byte-at → List ℕ
+rest-of c = let a = start-of c .args in drop (a .at + 1) (a .text .now)
+
+nonzero : (c : tie.Else1) → eqb (getD (rest-of (c .before)) 0 0) 48 ≡ false
+nonzero c =
+    let a = start-of (c .before) .args in
+    first-not (a .text .now) (a .at + 1) (c .before .byte-at .ensures) (c .if1 .left)
+
+fine : (c : tie.Else2) → misfit (rest-of (c .before .before .before)) ≡ false
+fine c = sym (c .before .is-misfit .ensures) ∙ c .if2 .left
+
 returns : tie.Need-returns
 unfolding below-zero
 returns c =
-    let s = c .before .before .before .before in
-    let t = s .args .text .now in
-    let at = s .args .at in
-    simp (byte-is t (at + 1) 0 (at + 1) (omega arith) (c .before .byte-at .ensures) (c .if1 .taken), add-zero)
+    let a = start-of (c .before) .args in
+    simp (first-is (a .text .now) (a .at + 1) (c .before .byte-at .ensures) (c .if1 .taken), add-zero)
 
 add-is-misfit : tie.Need-add-is-misfit
 add-is-misfit c = search needs
@@ -45,43 +59,27 @@ is-misfit-requires c κs = search needs
 
 returns-2 : tie.Need-returns-2
 unfolding below-zero
-returns-2 c =
-    let s = c .before .before .before .before .before .before in
-    let t = s .args .text .now in
-    let at = s .args .at in
-    let nonzero = byte-not t (at + 1) 0 (at + 1) (omega arith) (c .before .before .before .byte-at .ensures) (c .before .before .if1 .left) in
-    let bad : misfit (drop (at + 1) t) ≡ true = sym (c .before .is-misfit .ensures) ∙ c .if2 .taken in
-    simp (nonzero, bad, add-zero)
+returns-2 c = simp (nonzero (c .before .before), sym (c .before .is-misfit .ensures) ∙ c .if2 .taken, add-zero)
 
 returns-3 : tie.Need-returns-3
 unfolding below-zero
 returns-3 c =
-    let s = c .before .before .before .before .before .before .before .before in
-    let t = s .args .text .now in
-    let at = s .args .at in
-    let nonzero = byte-not t (at + 1) 0 (at + 1) (omega arith) (c .before .before .before .before .before .byte-at .ensures) (c .before .before .before .before .if1 .left) in
-    let n = span digit-byte (drop (at + 1) t) in
-    let run = c .before .before .before .before .before .before .digit-run in
-    let length-n : run .result .end - (at + 1) ≡ n = omega (arith, run .ensures .0) in
-    let value : run .result .value ≡ capped (decimal (take n (drop (at + 1) t))) =
-    run .ensures .1 ∙ ap (λ (k : ℕ). capped (decimal (take k (drop (at + 1) t)))) length-n in
-    let fine : misfit (drop (at + 1) t) ≡ false = sym (c .before .before .before .is-misfit .ensures) ∙ c .before .before .if2 .left in
-    simp (nonzero, fine, lt-leb (decimal (take n (drop (at + 1) t))) largest-negative (omega arith), add-zero)
+    let digits = c .before .before in
+    let first = digits .before .before in
+    let run = first .before .before .digit-run in
+    let text = start-of (first .before) .args .text .now in
+    let over = over-limit text _ _ _ _ largest-negative (run .ensures .0) (run .ensures .1) (omega arith) (c .if3 .taken) in
+    simp (nonzero first, fine digits, over, add-zero)
 
 returns-4 : tie.Need-returns-4
 unfolding below-zero
 returns-4 c =
-    let s = c .before .before .before .before .before .before .before .before in
-    let t = s .args .text .now in
-    let at = s .args .at in
-    let nonzero = byte-not t (at + 1) 0 (at + 1) (omega arith) (c .before .before .before .before .before .byte-at .ensures) (c .before .before .before .before .if1 .left) in
-    let n = span digit-byte (drop (at + 1) t) in
-    let run = c .before .before .before .before .before .before .digit-run in
-    let length-n : run .result .end - (at + 1) ≡ n = omega (arith, run .ensures .0) in
-    let value : run .result .value ≡ capped (decimal (take n (drop (at + 1) t))) =
-    run .ensures .1 ∙ ap (λ (k : ℕ). capped (decimal (take k (drop (at + 1) t)))) length-n in
-    let fine : misfit (drop (at + 1) t) ≡ false = sym (c .before .before .before .is-misfit .ensures) ∙ c .before .before .if2 .left in
-    simp (nonzero, fine, le-leb (decimal (take n (drop (at + 1) t))) largest-negative (omega arith)) (ap (λ (e : ℕ). Found.Piece negative e) (omega (arith, run .ensures .0)))
+    let digits = c .before .before in
+    let first = digits .before .before in
+    let run = first .before .before .digit-run in
+    let text = start-of (first .before) .args .text .now in
+    let in-range = in-limit text _ _ _ _ largest-negative (run .ensures .0) (run .ensures .1) (omega arith) (c .if3 .left) in
+    simp (nonzero first, fine digits, in-range) (ap (Found.Piece negative) (omega (arith, run .ensures .0)))
 
 pub negative-at-spec : {M : Type 1} → statement M
 negative-at-spec =

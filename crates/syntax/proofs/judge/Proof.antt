@@ -1,4 +1,5 @@
--- `syntax::judge` meets its contract: the index of a token leads to its start, and that of the end to the text's length. Assumes nothing.
+-- `syntax::judge` meets its contract: the index of a token leads to its start, and that of the end to the text's length.
+-- Assumes nothing.
 use Rattle.syntax.proofs.Places.{derived-placed, token-placed, end-placed}
 use Prim.Native.Nat.{ℕ}
 use mathlib.Core.Path.{ap, _∙_}
@@ -30,11 +31,17 @@ place-of-requires c κs = search needs
 
 returns-2 : tie.Need-returns-2
 returns-2 c =
-    ap (λ (start : ℕ). Underived (c .before .before .before .before .before .before .before .before .args .count) (record { 0 = start })) (c .place-of .ensures)
-    ∙ token-placed _ _ _ _ _ (c .before .before .before .before .before .before .recognise .ensures .0) _ (c .before .before .before .before .index .given .1) (c .before .before .if1 .taken)
+    let before = c .before .before in
+    let index = before .before .before in
+    let read = index .before .before in
+    ap (λ (start : ℕ). Underived (read .before .before .args .count) (record { 0 = start })) (c .place-of .ensures)
+    ∙ token-placed _ _ _ _ _ (read .recognise .ensures .0) _ (index .index .given .1) (before .if1 .taken)
 
 returns-3 : tie.Need-returns-3
-returns-3 c = end-placed _ _ _ _ _ (c .before .before .before .before .recognise .ensures .0) _ (c .before .before .index .given .1) (c .if1 .left)
+returns-3 c =
+    let index = c .before .before in
+    let read = index .before .before in
+    end-placed _ _ _ _ _ (read .recognise .ensures .0) _ (index .index .given .1) (c .if1 .left)
 
 pub judge-spec : {M : Type 1} → statement M
 judge-spec =

@@ -14,12 +14,14 @@ use Rattle.piece.specs.declared.Found.{Found}
 use Rattle.token.specs.declared.Answer.the-variants.{Tokens}
 use Rattle.lexicon.proofs.Bytes.{class-table}
 use Rattle.token.proofs.Left.{step-end}
-use Rattle.token.proofs.Progress.{Progress, progress-start, progress-done, read-forward, read-gap, read-token, read-refusal}
+use Rattle.token.proofs.Progress.{Progress, progress-start, progress-done, read-forward, read-gap, read-token}
+use Rattle.token.proofs.Progress.{read-refusal}
 use Rattle.token.proofs.cut.Statement.{statement}
 use Rattle.token.proofs.cut.Tie as tie
 
 abbrev Inv-loop : tie.InvT-loop
-Inv-loop text classes₀ starts₀ ends₀ table at₀ n₀ classes starts ends at n = Progress text classes₀ starts₀ ends₀ classes starts ends at n
+Inv-loop text classes₀ starts₀ ends₀ table at₀ n₀ classes starts ends at n =
+    Progress text classes₀ starts₀ ends₀ classes starts ends at n
 
 abbrev μ-loop : tie.MeasureT-loop
 μ-loop text classes₀ starts₀ ends₀ table at₀ n₀ classes starts ends at n = length text - at
@@ -55,33 +57,38 @@ start-of l = l .before .before .before
 abbrev text-of : tie.At-loop Inv-loop μ-loop → List ℕ
 text-of l = start-of l .args .text .now
 
+abbrev place-of : Read → ℕ
+place-of c = loop-at c .loop .at
+
 abbrev class-read : Read → ℕ
 class-read c = c .before .found .given .0 .0
 
 abbrev end-read : Read → ℕ
 end-read c = c .before .found .given .0 .1 .0
 
-before-end : (c : Read) → loop-at c .loop .at < length (text-of (loop-at c))
+before-end : (c : Read) → place-of c < length (text-of (loop-at c))
 before-end c = c .before .before .before .before .before .loop-test .taken
 
 returns : tie.Need-returns Inv-loop μ-loop
 returns c =
-    let l = c .before .before .before .before .before .before in
-    let found = c .before .before .before .piece-at in
     let refused = c .before .enum-told .given in
+    let piece = c .before .before .before in
+    let turn = piece .before .before in
+    let l = turn .before in
     rw (c .refusal .ensures)
-    (read-refusal _ _ _ _ _ _ _ _ _ (l .loop .inv) (c .before .before .before .before .before .loop-test .taken) (start-of l .pre)
-    (found .result) (refused .0 .0) (refused .0 .1 .0) (refused .1) (found .ensures))
+    (read-refusal _ _ _ _ _ _ _ _ _ (l .loop .inv) (turn .loop-test .taken) (start-of l .pre)
+    (piece .piece-at .result) (refused .0 .0) (refused .0 .1 .0) (refused .1) (piece .piece-at .ensures))
 
 -- what was read is what the text holds there
-reads : (c : Read) → Found.Piece (class-read c) (end-read c) ≡ found-at (loop-at c .loop .at) (piece (drop (loop-at c .loop .at) (text-of (loop-at c))))
+reads : (c : Read)
+    → Found.Piece (class-read c) (end-read c) ≡ found-at (place-of c) (piece (drop (place-of c) (text-of (loop-at c))))
 reads c = sym (c .before .found .given .1) ∙ c .before .before .before .piece-at .ensures
 
 -- so there is room for it, and it leads forward in the text
 record Room (c : Read) : Type 0 where
   entry : loop-at c .loop .n < longest-text
-  place : loop-at c .loop .at < longest-text
-  forward : loop-at c .loop .at < end-read c
+  place : place-of c < longest-text
+  forward : place-of c < end-read c
   end : end-read c ≤ longest-text
   inside : end-read c ≤ length (text-of (loop-at c))
 
@@ -142,7 +149,8 @@ loop-again-2 c =
 returns-2 : tie.Need-returns-2 Inv-loop μ-loop
 returns-2 c =
     let l = c .before in
-    progress-done _ _ _ _ _ _ _ _ _ (l .loop .inv) (start-of l .pre) whole (step-end (text-of l) (l .loop .at) (c .loop-test .left)) (Tokens (l .loop .n)) refl
+    let none = step-end (text-of l) (l .loop .at) (c .loop-test .left) in
+    progress-done _ _ _ _ _ _ _ _ _ (l .loop .inv) (start-of l .pre) whole none (Tokens (l .loop .n)) refl
 
 pub cut-spec : {M : Type 1} → statement M
 cut-spec =

@@ -1,6 +1,7 @@
 -- `list_file` is safe because a file that is not too long ends in the buffer.
 -- Assumes nothing.
 use mathlib.Core.Path.{sym}
+use mathlib.Core.List.{List}
 use Prim.Native.Nat.{ℕ, _≤_}
 use native.Mathlib.Omega.{arith}
 use lib.ListN.{length, length-replicate}
@@ -51,19 +52,30 @@ returns-3 c = search needs
 array-share-prefix-space : tie.Need-array-share-prefix-space
 array-share-prefix-space c = search needs
 
+-- the buffer once the file is read, and how many bytes the file has: it has them all
+abbrev content-of : tie.Else2 → tie.After-content
+content-of c = c .before .before .before
+
+abbrev buffer-of : tie.Else2 → List ℕ
+buffer-of c = content-of c .before .before .before .read-file .last .1 .0
+
+abbrev size-of : tie.Else2 → ℕ
+size-of c = content-of c .content .given .0 .0
+
+room : (c : tie.Else2) → size-of c ≤ length (buffer-of c)
+room c =
+    let read = content-of c .before .before .before .read-file in
+    omega (arith, read .kept .1 .0, c .if2 .left, length-replicate {A = ℕ} 65537 0)
+
 slice-aggregate-list-text : tie.Need-slice-aggregate-list-text
 slice-aggregate-list-text c =
-    let read = c .before .before .before .before .before .before .before .read-file in
-    let n = c .before .before .before .before .content .given .0 .0 in
-    let room : n ≤ length (read .last .1 .0) = omega (arith, read .kept .1 .0, c .before .if2 .left, length-replicate {A = ℕ} 65537 0) in
-    sym (length-take-le n (read .last .1 .0) room)
+    let short = c .before in
+    sym (length-take-le (size-of short) (buffer-of short) (room short))
 
 list-text-requires : tie.Need-list-text-requires
 list-text-requires c κs =
-    let read = c .before .before .before .before .before .before .before .read-file in
-    let n = c .before .before .before .before .content .given .0 .0 in
-    let room : n ≤ length (read .last .1 .0) = omega (arith, read .kept .1 .0, c .before .if2 .left, length-replicate {A = ℕ} 65537 0) in
-    rw (length-take-le n (read .last .1 .0) room) (c .before .if2 .left)
+    let short = c .before in
+    rw (length-take-le (size-of short) (buffer-of short) (room short)) (short .if2 .left)
 
 returns-4 : tie.Need-returns-4
 returns-4 c = search needs

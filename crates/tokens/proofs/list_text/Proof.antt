@@ -12,7 +12,8 @@ enum-known-answer c = search needs
 
 list-tokens-requires : tie.Need-list-tokens-requires
 list-tokens-requires c κs =
-    derived-table _ _ _ _ _ _ (c .before .before .before .before .before .before .parse .ensures .1) (c .before .before .before .before .answer .given .1)
+    let count = c .before .before .before .before in
+    derived-table _ _ _ _ _ _ (count .before .before .parse .ensures .1) (count .answer .given .1)
 
 slice-aggregate-print-line : tie.Need-slice-aggregate-print-line
 slice-aggregate-print-line c = search needs
@@ -25,7 +26,8 @@ enum-known-answer-2 c = search needs
 
 list-tokens-requires-2 : tie.Need-list-tokens-requires-2
 list-tokens-requires-2 c κs =
-    underived-table _ _ _ _ _ _ (c .before .before .before .before .before .before .parse .ensures .1) _ (c .before .before .before .before .answer2 .given .1)
+    let count = c .before .before .before .before in
+    underived-table _ _ _ _ _ _ (count .before .before .parse .ensures .1) _ (count .answer2 .given .1)
 
 print-refusal-requires : tie.Need-print-refusal-requires
 print-refusal-requires c κs = search needs

@@ -1,19 +1,36 @@
--- `name_class` is right because the word's place decides, and else the first letter's class, which is that of the text's byte at the start.
+-- `name_class` is right because the word's place decides, and else the class of the first letter, which is the text's byte at the
+-- start.
 -- Assumes nothing.
 use mathlib.Core.Path.{_≡_, sym, ap, _∙_}
-use Prim.Native.Nat.{_-_}
+use mathlib.Core.List.{List}
+use Prim.Native.Nat.{ℕ}
 use native.Mathlib.Omega.{arith}
 use borrow.Author.Tests.{le-leb, lt-leb, lt-ltb, le-ltb}
-use lib.ListN.{getD, drop}
-use lib.Seq.{getD-take}
+use lib.ListN.{getD}
 use Rattle.lexicon.specs.Byte.{class-of}
-use Rattle.lexicon.specs.Word.{words, place-in, name-class}
-use Rattle.lexicon.specs.Word.{between}
-use Rattle.lexicon.proofs.Words.{word-class}
-use Rattle.lexicon.proofs.Places.{byte-there}
+use Rattle.lexicon.specs.Word.{words, place-in, name-class, between}
+use Rattle.lexicon.proofs.Words.{word-class, between-byte}
 use borrow.Author.Needs.{needs}
 use Rattle.lexicon.proofs.word.name_class.Statement.{statement}
 use Rattle.lexicon.proofs.word.name_class.Tie as tie
+
+-- the name, and its place among the words
+abbrev name-of : tie.After-word-of → List ℕ
+name-of c = let a = c .before .before .args in between (a .text .now) (a .start) (a .end)
+
+place : (c : tie.After-word-of) → place-in (name-of c) words ≡ c .word-of .result
+place c = sym (c .word-of .ensures)
+
+-- where it is no word, the class of its first letter
+abbrev no-word : tie.After-class-of → tie.Else1
+no-word c = c .before .before
+
+letter : (c : tie.After-class-of) → class-of (getD (name-of (no-word c .before)) 0 0) ≡ c .class-of .result
+letter c =
+    let s = no-word c .before .before .before in
+    let a = s .args in
+    let first = between-byte (a .text .now) (a .start) (a .end) 0 (a .start) (omega arith) (s .pre .0 .some) in
+    ap class-of first ∙ sym (c .class-of .ensures)
 
 word-of-requires : tie.Need-word-of-requires
 word-of-requires c κs = search needs
@@ -26,12 +43,7 @@ cast-result c = search needs
 
 returns : tie.Need-returns
 unfolding name-class
-returns c =
-    let s = c .before .before .before in
-    let a = s .args in
-    let name = between (a .text .now) (a .start) (a .end) in
-    let place : place-in name words ≡ c .before .word-of .result = sym (c .before .word-of .ensures) in
-    simp (place, lt-ltb _ _ (c .if1 .taken), word-class _ (c .if1 .taken))
+returns c = simp (place (c .before), lt-ltb _ _ (c .if1 .taken), word-class _ (c .if1 .taken))
 
 shared-slice-read-class-of : tie.Need-shared-slice-read-class-of
 shared-slice-read-class-of c = search needs
@@ -42,24 +54,14 @@ class-of-requires c κs = search needs
 returns-2 : tie.Need-returns-2
 unfolding name-class
 returns-2 c =
-    let s = c .before .before .before .before .before .before in
-    let a = s .args in
-    let name = between (a .text .now) (a .start) (a .end) in
-    let place : place-in name words ≡ c .before .before .before .before .word-of .result = sym (c .before .before .before .before .word-of .ensures) in
-    let first : class-of (getD name 0 0) ≡ c .before .class-of .result =
-    ap class-of (getD-take (a .end - a .start) (drop (a .start) (a .text .now)) 0 0 (omega arith) ∙ byte-there (a .text .now) (a .start) 0 (a .start) (omega arith)) ∙ sym (c .before .class-of .ensures) in
-    simp (place, le-ltb _ _ (c .before .before .before .if1 .left), first, le-leb _ _ (c .if2 .taken))
+    let none = no-word (c .before) in
+    simp (place (none .before), le-ltb _ _ (none .if1 .left), letter (c .before), le-leb _ _ (c .if2 .taken))
 
 returns-3 : tie.Need-returns-3
 unfolding name-class
 returns-3 c =
-    let s = c .before .before .before .before .before .before in
-    let a = s .args in
-    let name = between (a .text .now) (a .start) (a .end) in
-    let place : place-in name words ≡ c .before .before .before .before .word-of .result = sym (c .before .before .before .before .word-of .ensures) in
-    let first : class-of (getD name 0 0) ≡ c .before .class-of .result =
-    ap class-of (getD-take (a .end - a .start) (drop (a .start) (a .text .now)) 0 0 (omega arith) ∙ byte-there (a .text .now) (a .start) 0 (a .start) (omega arith)) ∙ sym (c .before .class-of .ensures) in
-    simp (place, le-ltb _ _ (c .before .before .before .if1 .left), first, lt-leb _ _ (c .if2 .left))
+    let none = no-word (c .before) in
+    simp (place (none .before), le-ltb _ _ (none .if1 .left), letter (c .before), lt-leb _ _ (c .if2 .left))
 
 pub name-class-spec : {M : Type 1} → statement M
 name-class-spec =

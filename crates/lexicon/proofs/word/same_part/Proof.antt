@@ -1,19 +1,19 @@
 -- `same_part` is right because the bytes passed are equal, so that what is left decides.
 -- Assumes nothing.
 use mathlib.Core.Path.{_≡_, sym, _∙_}
-use Prim.Native.Nat.{_+_, _-_, _≤_}
+use Prim.Native.Nat.{_-_, _≤_}
 use native.Mathlib.Nat.{add-zero, sub-zero}
 use native.Mathlib.Omega.{arith}
 use lib.ListN.{take, drop}
 use Rattle.lexicon.specs.Word.{same}
-use Rattle.lexicon.proofs.Words.{same-more, same-stops, same-ends}
+use Rattle.lexicon.proofs.Words.{part-after, same-more, same-stops, same-ends}
 use Rattle.lexicon.proofs.word.same_part.Statement.{statement}
 use Rattle.lexicon.proofs.word.same_part.Tie as tie
 
 abbrev Inv-loop : tie.InvT-loop
 Inv-loop a i b j n k₀ k =
     (k ≤ n)
-    × (same (take n (drop i a)) (take n (drop j b)) ≡ same (take (n - k) (drop (i + k) a)) (take (n - k) (drop (j + k) b)))
+    × (same (take n (drop i a)) (take n (drop j b)) ≡ same (part-after a i n k) (part-after b j n k))
 
 abbrev μ-loop : tie.MeasureT-loop
 μ-loop a i b j n k₀ k = n - k
@@ -41,26 +41,23 @@ loop-less c = omega arith
 
 loop-again : tie.Need-loop-again Inv-loop μ-loop
 loop-again c =
-    let l = c .before .before .before .before in
-    let s = l .before in (
-      omega arith,
-      l .loop .inv .1
-          ∙ same-more (s .args .a .now) (s .args .b .now) (s .args .i) (s .args .j) (s .args .n) (l .loop .k) (s .pre .0) (s .pre .1) (c .before .before .before .loop-test .taken) (c .if1 .taken),
-    )
+    let turn = c .before .before .before in
+    let l = turn .before in
+    let s = l .before in
+    (omega arith, l .loop .inv .1 ∙ same-more _ _ _ _ _ _ (s .pre .0) (s .pre .1) (turn .loop-test .taken) (c .if1 .taken))
 
 returns : tie.Need-returns Inv-loop μ-loop
 returns c =
-    let l = c .before .before .before .before in
+    let turn = c .before .before .before in
+    let l = turn .before in
     let s = l .before in
-    sym
-    (l .loop .inv .1
-    ∙ same-stops (s .args .a .now) (s .args .b .now) (s .args .i) (s .args .j) (s .args .n) (l .loop .k) (s .pre .0) (s .pre .1) (c .before .before .before .loop-test .taken) (c .if1 .left))
+    sym (l .loop .inv .1 ∙ same-stops _ _ _ _ _ _ (s .pre .0) (s .pre .1) (turn .loop-test .taken) (c .if1 .left))
 
 returns-2 : tie.Need-returns-2 Inv-loop μ-loop
 returns-2 c =
     let l = c .before in
     let s = l .before in
-    sym (l .loop .inv .1 ∙ same-ends (s .args .a .now) (s .args .b .now) (s .args .i) (s .args .j) (s .args .n) (l .loop .k) (s .pre .0) (s .pre .1) (c .loop-test .left))
+    sym (l .loop .inv .1 ∙ same-ends _ _ _ _ _ _ (s .pre .0) (s .pre .1) (c .loop-test .left))
 
 pub same-part-spec : {M : Type 1} → statement M
 same-part-spec =

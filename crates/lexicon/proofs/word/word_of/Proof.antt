@@ -1,7 +1,9 @@
 -- `word_of` is right because the slot that the code reads is the name's, by the law of the look-up.
 -- Assumes nothing.
 use mathlib.Core.Path.{_≡_, refl, sym, _∙_}
-use Prim.Native.Nat.{_-_}
+use mathlib.Core.List.{List}
+use Prim.Native.Nat.{ℕ, _-_, _<_}
+use lib.ListN.{getD}
 use native.Mathlib.Omega.{arith}
 use Rattle.terminal.specs.Terminal.{first-word}
 use Rattle.lexicon.specs.Word.{words, word-table, word, bytes, between, SlotWord, slot-of}
@@ -9,6 +11,33 @@ use Rattle.lexicon.proofs.Words.{some-class, own-slot, slot-table, foun
 use borrow.Author.Needs.{needs}
 use Rattle.lexicon.proofs.word.word_of.Statement.{statement}
 use Rattle.lexicon.proofs.word.word_of.Tie as tie
+
+-- the name, and its slot is the one that was read
+abbrev Read : Type 0
+Read = tie.After-slot-class
+
+abbrev start-of : tie.After-slot-class-arg → tie.Start
+start-of c = c .before .before .before .before
+
+abbrev name-of : Read → List ℕ
+name-of c = let a = start-of (c .before) .args in between (a .text .now) (a .start) (a .end)
+
+held : (c : Read) → SlotWord (slot-of (name-of c)) (c .slot-class .result)
+held c =
+    let s = start-of (c .before) in
+    rw (slot-part (s .args .text .now) (s .args .start) (s .args .end) (s .pre .some) (s .pre .inside)) (c .slot-class .ensures)
+
+-- its first and its last byte are bytes
+abbrev byte-of : (c : tie.After-slot-class-arg) → ℕ → ℕ
+byte-of c k = getD (start-of c .args .text .now) k 0
+
+two-bytes : (c : tie.After-slot-class-arg)
+    → (byte-of c (start-of c .args .start) < 256) × (byte-of c (start-of c .args .end - 1) < 256)
+two-bytes c =
+    let a = start-of c .args in
+    let first = c .before .before .shared-slice-known2 .given (a .start) in
+    let last = c .before .shared-slice-known3 .given (a .end - 1) in
+    (omega (arith, first), omega (arith, last))
 
 shared-slice-read-first : tie.Need-shared-slice-read-first
 shared-slice-read-first c = search needs
@@ -28,19 +57,13 @@ cast-last c =
     omega (arith, c .shared-slice-known3 .given (c .before .before .before .args .end - 1))
 
 mul-slot-class : tie.Need-mul-slot-class
-mul-slot-class c =
-    let s = c .before .before .before .before in
-    omega (arith, c .before .before .shared-slice-known2 .given (s .args .start), c .before .shared-slice-known3 .given (s .args .end - 1))
+mul-slot-class c = omega (arith, two-bytes c)
 
 mul-slot-class-2 : tie.Need-mul-slot-class-2
-mul-slot-class-2 c =
-    let s = c .before .before .before .before in
-    omega (arith, c .before .before .shared-slice-known2 .given (s .args .start), c .before .shared-slice-known3 .given (s .args .end - 1))
+mul-slot-class-2 c = omega (arith, two-bytes c)
 
 add-slot-class : tie.Need-add-slot-class
-add-slot-class c =
-    let s = c .before .before .before .before in
-    omega (arith, c .before .before .shared-slice-known2 .given (s .args .start), c .before .shared-slice-known3 .given (s .args .end - 1))
+add-slot-class c = omega (arith, two-bytes c)
 
 sub-slot-class : tie.Need-sub-slot-class
 sub-slot-class c = search needs
@@ -49,9 +72,7 @@ mul-slot-class-3 : tie.Need-mul-slot-class-3
 mul-slot-class-3 c = search needs
 
 add-slot-class-2 : tie.Need-add-slot-class-2
-add-slot-class-2 c =
-    let s = c .before .before .before .before in
-    omega (arith, c .before .before .shared-slice-known2 .given (s .args .start), c .before .shared-slice-known3 .given (s .args .end - 1))
+add-slot-class-2 c = omega (arith, two-bytes c)
 
 slot-class-requires : tie.Need-slot-class-requires
 unfolding some-class own-slot words word-table word bytes
@@ -59,36 +80,24 @@ slot-class-requires c κs = (omega arith, slot-table _ refl tt tt)
 
 returns : tie.Need-returns
 returns c =
-    let s = c .before .before .before .before .before .before in
-    let a = s .args in
-    let name = between (a .text .now) (a .start) (a .end) in
-    let call = c .before .slot-class in
-    let held : SlotWord (slot-of name) (call .result) =
-    rw (slot-part (a .text .now) (a .start) (a .end) (s .pre .some) (s .pre .inside)) (call .ensures) in
-    not-found name (call .result) held (λ k e. absurd (omega (arith, c .if1 .taken)))
+    let read = c .before in
+    not-found (name-of read) _ (held read) (λ k e. absurd (omega (arith, c .if1 .taken)))
 
 is-word-requires : tie.Need-is-word-requires
 is-word-requires c κs = search needs
 
 returns-2 : tie.Need-returns-2
 returns-2 c =
-    let s = c .before .before .before .before .before .before .before .before in
-    let a = s .args in
-    let name = between (a .text .now) (a .start) (a .end) in
-    let call = c .before .before .before .slot-class in
-    let held : SlotWord (slot-of name) (call .result) =
-    rw (slot-part (a .text .now) (a .start) (a .end) (s .pre .some) (s .pre .inside)) (call .ensures) in
-    found name (call .result) held _ (omega arith) (omega (arith, call .ensures .few)) (sym (c .before .is-word .ensures) ∙ c .if2 .taken)
+    let read = c .before .before .before in
+    let few = read .slot-class .ensures .few in
+    found (name-of read) _ (held read) _ (omega arith) (omega (arith, few)) (sym (c .before .is-word .ensures) ∙ c .if2 .taken)
 
 returns-3 : tie.Need-returns-3
 returns-3 c =
-    let s = c .before .before .before .before .before .before .before .before in
-    let a = s .args in
-    let name = between (a .text .now) (a .start) (a .end) in
-    let call = c .before .before .before .slot-class in
-    let held : SlotWord (slot-of name) (call .result) =
-    rw (slot-part (a .text .now) (a .start) (a .end) (s .pre .some) (s .pre .inside)) (call .ensures) in
-    not-found name (call .result) held (λ k e. let is : k ≡ call .result - first-word = omega arith in rw is (sym (c .before .is-word .ensures) ∙ c .if2 .left))
+    let read = c .before .before .before in
+    let other = sym (c .before .is-word .ensures) ∙ c .if2 .left in
+    not-found (name-of read) _ (held read)
+    (λ k e. let is : k ≡ read .slot-class .result - first-word = omega arith in rw is other)
 
 pub word-of-spec : {M : Type 1} → statement M
 word-of-spec =

@@ -14,6 +14,13 @@ use Rattle.piece.proofs.scan.belongs.Tie as tie
 at-run : {x y : Run} (b next : ℕ) {r : Bool} → x ≡ y → r ≡ belongs-to y b next → r ≡ belongs-to x b next
 at-run b next e q = q ∙ ap (λ (run : Run). belongs-to run b next) (sym e)
 
+-- the byte there, and the one after it
+abbrev here : tie.After-shared-slice-known → ℕ
+here c = getD (c .before .args .text .now) (c .before .args .at) 0
+
+abbrev next : tie.After-shared-slice-known → ℕ
+next c = getD (c .before .args .text .now) (c .before .args .at + 1) 0
+
 enum-known-run : tie.Need-enum-known-run
 enum-known-run c = search needs
 
@@ -34,18 +41,19 @@ in-comment-requires c κs = search needs
 
 returns : tie.Need-returns
 returns c =
-    let s = c .before .before .before .before .before in
-    at-run (getD (s .args .text .now) (s .args .at) 0) (getD (s .args .text .now) (s .args .at + 1) 0) (c .before .before .run .given .1) (c .in-classes .ensures)
+    let arm = c .before .before in
+    let s = arm .before .before in
+    at-run (here s) (next s) (arm .run .given .1) (c .in-classes .ensures)
 
 returns-2 : tie.Need-returns-2
 returns-2 c =
-    let s = c .before .before .before .before in
-    at-run (getD (s .args .text .now) (s .args .at) 0) (getD (s .args .text .now) (s .args .at + 1) 0) (c .before .enum-told .given .1) (c .in-name .ensures)
+    let s = c .before .before .before in
+    at-run (here s) (next s) (c .before .enum-told .given .1) (c .in-name .ensures)
 
 returns-3 : tie.Need-returns-3
 returns-3 c =
-    let s = c .before .before .before .before in
-    at-run (getD (s .args .text .now) (s .args .at) 0) (getD (s .args .text .now) (s .args .at + 1) 0) (c .before .enum-told2 .given .1) (c .in-comment .ensures)
+    let s = c .before .before .before in
+    at-run (here s) (next s) (c .before .enum-told2 .given .1) (c .in-comment .ensures)
 
 pub belongs-spec : {M : Type 1} → statement M
 belongs-spec =

@@ -2,7 +2,8 @@
 -- off at the end.
 -- Assumes nothing.
 use mathlib.Core.Path.{_≡_, sym, _∙_}
-use Prim.Native.Nat.{_+_, _-_}
+use mathlib.Core.List.{List}
+use Prim.Native.Nat.{ℕ, _+_, _-_}
 use native.Mathlib.Omega.{arith}
 use borrow.Author.Needs.{needs}
 use lib.ListN.{length, getD, take, drop}
@@ -30,15 +31,26 @@ shared-slice-read-byte c = omega arith
 class-of-requires : tie.Need-class-of-requires Inv-loop μ-loop
 class-of-requires c κs = search needs
 
+-- where the loop is, the text, and the class of the byte there
+abbrev text-of : tie.At-loop Inv-loop μ-loop → List ℕ
+text-of l = l .before .before .args .text .now
+
+abbrev turn-of : tie.After-class-of Inv-loop μ-loop → tie.In-loop Inv-loop μ-loop
+turn-of c = c .before .before
+
+abbrev here : tie.After-class-of Inv-loop μ-loop → ℕ
+here c = let l = turn-of c .before in getD (text-of l) (l .loop .i) 0
+
+abbrev next : tie.After-class-of Inv-loop μ-loop → ℕ
+next c = let l = turn-of c .before in getD (text-of l) (l .loop .i + 1) 0
+
 returns : tie.Need-returns Inv-loop μ-loop
 returns c =
-    let l = c .before .before .before .before in
-    let a = l .before .before in (
-      reached-stop digit-byte (a .args .text .now) (a .args .at) (l .loop .i) (l .loop .inv .0) (c .before .before .before .loop-test .taken)
-          (classed-not digit (getD (a .args .text .now) (l .loop .i) 0) (getD (a .args .text .now) (l .loop .i + 1) 0)
-          (λ e. c .if1 .left (c .before .class-of .ensures ∙ e))),
-      l .loop .inv .1,
-    )
+    let class = c .before in
+    let turn = turn-of class in
+    let l = turn .before in
+    let other = classed-not digit (here class) (next class) (λ e. c .if1 .left (class .class-of .ensures ∙ e)) in
+    (reached-stop digit-byte (text-of l) _ _ (l .loop .inv .0) (turn .loop-test .taken) other, l .loop .inv .1)
 
 more-requires : tie.Need-more-requires Inv-loop μ-loop
 more-requires c κs = omega arith
@@ -51,19 +63,18 @@ loop-less c = omega arith
 
 loop-again : tie.Need-loop-again Inv-loop μ-loop
 loop-again c =
-    let l = c .before .before .before .before .before in
-    let a = l .before .before in (
-      reached-more digit-byte (a .args .text .now) (a .args .at) (l .loop .i) (l .loop .inv .0) (c .before .before .before .before .loop-test .taken)
-          (classed-as digit (getD (a .args .text .now) (l .loop .i) 0) (getD (a .args .text .now) (l .loop .i + 1) 0)
-          (sym (c .before .before .class-of .ensures) ∙ c .before .if1 .taken)),
-      capped-more (a .args .text .now) (a .args .at) (l .loop .i) (l .loop .inv .0 .0) (c .before .before .before .before .loop-test .taken) (l .loop .inv .1) (c .more .ensures),
+    let class = c .before .before in
+    let turn = turn-of class in
+    let l = turn .before in
+    let is = classed-as digit (here class) (next class) (sym (class .class-of .ensures) ∙ c .before .if1 .taken) in (
+      reached-more digit-byte (text-of l) _ _ (l .loop .inv .0) (turn .loop-test .taken) is,
+      capped-more (text-of l) _ _ (l .loop .inv .0 .0) (turn .loop-test .taken) (l .loop .inv .1) (c .more .ensures),
     )
 
 returns-2 : tie.Need-returns-2 Inv-loop μ-loop
 returns-2 c =
     let l = c .before in
-    let a = l .before .before in
-    (reached-end digit-byte (a .args .text .now) (a .args .at) (l .loop .i) (l .loop .inv .0) (c .loop-test .left), l .loop .inv .1)
+    (reached-end digit-byte (text-of l) _ _ (l .loop .inv .0) (c .loop-test .left), l .loop .inv .1)
 
 pub digit-run-spec : {M : Type 1} → statement M
 digit-run-spec =

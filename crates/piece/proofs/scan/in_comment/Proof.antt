@@ -1,6 +1,7 @@
 -- `in_comment` is right because each of its answers is what the tests on the byte's class and the next one's say.
 -- Assumes nothing.
 use borrow.Author.Tests.{eq-eqb, ne-eqb}
+use mathlib.Core.Path.{sym, _∙_}
 use borrow.Author.Needs.{needs}
 use Rattle.piece.proofs.scan.in_comment.Statement.{statement}
 use Rattle.piece.proofs.scan.in_comment.Tie as tie
@@ -22,15 +23,20 @@ class-at-requires c κs = search needs
 
 returns-2 : tie.Need-returns-2
 returns-2 c =
-    rw (← c .before .before .before .before .class-of .ensures, ← c .before .class-at .ensures) (simp (ne-eqb _ _ (c .before .before .before .if1 .left), eq-eqb _ _ (c .before .before .if2 .taken), eq-eqb _ _ (c .if3 .taken)))
+    let one = c .before .before in
+    let class = one .before .before in
+    rw (sym (class .class-of .ensures) ∙ one .if2 .taken, sym (c .before .class-at .ensures) ∙ c .if3 .taken)
 
 returns-3 : tie.Need-returns-3
 returns-3 c =
-    rw (← c .before .before .before .before .class-of .ensures, ← c .before .class-at .ensures) (simp (ne-eqb _ _ (c .before .before .before .if1 .left), eq-eqb _ _ (c .before .before .if2 .taken), ne-eqb _ _ (c .if3 .left)))
+    let one = c .before .before in
+    let class = one .before .before in
+    rw (sym (class .class-of .ensures) ∙ one .if2 .taken, ← c .before .class-at .ensures) (simp (ne-eqb _ _ (c .if3 .left)))
 
 returns-4 : tie.Need-returns-4
 returns-4 c =
-    rw (← c .before .before .class-of .ensures) (simp (ne-eqb _ _ (c .before .if1 .left), ne-eqb _ _ (c .if2 .left)))
+    let other = c .before in
+    rw (← other .before .class-of .ensures) (simp (ne-eqb _ _ (other .if1 .left), ne-eqb _ _ (c .if2 .left)))
 
 pub in-comment-spec : {M : Type 1} → statement M
 in-comment-spec =

@@ -1,6 +1,7 @@
 -- `in_name` is right because each of its answers is what the tests on the byte's class and the next one's say.
 -- Assumes nothing.
-use borrow.Author.Tests.{le-leb, lt-leb, eq-eqb, ne-eqb}
+use borrow.Author.Tests.{le-leb, lt-leb, ne-eqb}
+use mathlib.Core.Path.{sym, _∙_}
 use borrow.Author.Needs.{needs}
 use Rattle.piece.proofs.scan.in_name.Statement.{statement}
 use Rattle.piece.proofs.scan.in_name.Tie as tie
@@ -22,11 +23,14 @@ class-at-requires c κs = search needs
 
 returns-2 : tie.Need-returns-2
 returns-2 c =
-    rw (← c .before .before .before .class-of .ensures, ← c .class-at .ensures) (simp (lt-leb _ _ (c .before .before .if1 .left), eq-eqb _ _ (c .before .if2 .taken)))
+    let hyphen = c .before in
+    let class = hyphen .before .before in
+    rw (sym (class .class-of .ensures) ∙ hyphen .if2 .taken, ← c .class-at .ensures)
 
 returns-3 : tie.Need-returns-3
 returns-3 c =
-    rw (← c .before .before .class-of .ensures) (simp (lt-leb _ _ (c .before .if1 .left), ne-eqb _ _ (c .if2 .left)))
+    let other = c .before in
+    rw (← other .before .class-of .ensures) (simp (lt-leb _ _ (other .if1 .left), ne-eqb _ _ (c .if2 .left)))
 
 pub in-name-spec : {M : Type 1} → statement M
 in-name-spec =

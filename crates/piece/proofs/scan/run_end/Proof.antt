@@ -1,7 +1,9 @@
 -- `run_end` is right because the bytes passed are bytes of the run, and the first that is not, or the text's end, ends the span.
 -- Assumes nothing.
 use mathlib.Core.Path.{sym, _∙_}
-use Prim.Native.Nat.{_-_}
+use mathlib.Core.Bool.{Bool}
+use mathlib.Core.List.{List}
+use Prim.Native.Nat.{ℕ, _-_}
 use native.Mathlib.Omega.{arith}
 use lib.ListN.{length}
 use Rattle.piece.specs.Run.{belongs-to}
@@ -27,25 +29,31 @@ add-i c = omega arith
 loop-less : tie.Need-loop-less Inv-loop μ-loop
 loop-less c = omega arith
 
+-- in a turn, where the loop is, and the call's arguments
+abbrev text-of : tie.At-loop Inv-loop μ-loop → List ℕ
+text-of l = l .before .before .args .text .now
+
+abbrev in-run : tie.At-loop Inv-loop μ-loop → ℕ → ℕ → Bool
+in-run l = belongs-to (l .before .before .args .run)
+
 loop-again : tie.Need-loop-again Inv-loop μ-loop
 loop-again c =
-    let l = c .before .before .before in
-    let a = l .before .before in
-    reached-more (belongs-to (a .args .run)) (a .args .text .now) (a .args .at) (l .loop .i) (l .loop .inv) (c .before .before .loop-test .taken)
-    (sym (c .before .belongs .ensures) ∙ c .if1 .taken)
+    let turn = c .before .before in
+    let l = turn .before in
+    let answer = sym (c .before .belongs .ensures) ∙ c .if1 .taken in
+    reached-more (in-run l) (text-of l) _ _ (l .loop .inv) (turn .loop-test .taken) answer
 
 returns : tie.Need-returns Inv-loop μ-loop
 returns c =
-    let l = c .before .before .before in
-    let a = l .before .before in
-    reached-stop (belongs-to (a .args .run)) (a .args .text .now) (a .args .at) (l .loop .i) (l .loop .inv) (c .before .before .loop-test .taken)
-    (sym (c .before .belongs .ensures) ∙ c .if1 .left)
+    let turn = c .before .before in
+    let l = turn .before in
+    let answer = sym (c .before .belongs .ensures) ∙ c .if1 .left in
+    reached-stop (in-run l) (text-of l) _ _ (l .loop .inv) (turn .loop-test .taken) answer
 
 returns-2 : tie.Need-returns-2 Inv-loop μ-loop
 returns-2 c =
     let l = c .before in
-    let a = l .before .before in
-    reached-end (belongs-to (a .args .run)) (a .args .text .now) (a .args .at) (l .loop .i) (l .loop .inv) (c .loop-test .left)
+    reached-end (in-run l) (text-of l) _ _ (l .loop .inv) (c .loop-test .left)
 
 pub run-end-spec : {M : Type 1} → statement M
 run-end-spec =

@@ -1,9 +1,9 @@
 -- `digits_value` is right because the value is cut off at each digit as the definition cuts it off at the end.
 -- Assumes nothing.
-use mathlib.Core.Path.{_≡_, ap, _∙_}
-use Prim.Native.Nat.{ℕ, _-_, _≤_}
+use mathlib.Core.Path.{_≡_}
+use Prim.Native.Nat.{_-_, _≤_, _<_}
 use native.Mathlib.Omega.{arith}
-use lib.ListN.{take, drop}
+use lib.ListN.{length, take, drop}
 use Rattle.piece.specs.Decimal.{decimal, capped}
 use Rattle.piece.proofs.Decimal.{capped-none, capped-more}
 use Rattle.token.proofs.entry.digits_value.Statement.{statement}
@@ -37,14 +37,17 @@ loop-again : tie.Need-loop-again Inv-loop μ-loop
 loop-again c =
     let l = c .before .before .before in
     let s = l .before .before in
-    (omega arith, omega arith, capped-more (s .args .text .now) (s .args .start) (l .loop .i) (l .loop .inv .0) (omega arith) (l .loop .inv .2) (c .more .ensures))
+    let a = s .args in
+    let passed : l .loop .i < length (a .text .now) = omega arith in
+    let more = capped-more (a .text .now) (a .start) (l .loop .i) (l .loop .inv .0) passed (l .loop .inv .2) (c .more .ensures) in
+    (omega arith, omega arith, more)
 
 returns : tie.Need-returns Inv-loop μ-loop
 returns c =
     let l = c .before in
-    let s = l .before .before in
-    let all : l .loop .i ≡ s .args .end = omega arith in
-    l .loop .inv .2 ∙ ap (λ (k : ℕ). capped (decimal (take (k - s .args .start) (drop (s .args .start) (s .args .text .now))))) all
+    let a = l .before .before .args in
+    let all : l .loop .i ≡ a .end = omega arith in
+    rw (← all) (l .loop .inv .2)
 
 pub digits-value-spec : {M : Type 1} → statement M
 digits-value-spec =

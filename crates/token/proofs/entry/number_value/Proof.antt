@@ -32,19 +32,19 @@ wide-requires-2 c κs = search needs
 
 value-requires : tie.Need-value-requires
 value-requires c κs =
-    let s = c .before .before .before .before .before .before in
-    rw (c .before .before .wide .ensures, c .wide2 .ensures)
-    (entry-sound _ _ _ _ _ (s .args .n) (s .pre .0) (s .args .i .0) (s .pre .1))
+    let from = c .before .before in
+    let s = from .before .before .before .before in
+    rw (from .wide .ensures, c .wide2 .ensures) (entry-sound _ _ _ _ _ (s .args .n) (s .pre .0) (s .args .i .0) (s .pre .1))
 
 returns : tie.Need-returns
 unfolding meaning
 returns c =
-    let s = c .before .before .before .before .before .before .before in
+    let to = c .before in
+    let from = to .before .before in
+    let s = from .before .before .before .before in
     let is = said-is _ _ _ _ _ (s .args .n) (s .pre .0) (s .args .i .0) (s .pre .1) in
     let same : toZ w64 (ofZ w64 (c .value .result)) ≡ c .value .result = search needs in
-    same
-    ∙ c .value .ensures
-    ∙ rw (c .before .before .before .wide .ensures, c .before .wide2 .ensures) (sym (ap (λ (m : Meaning). m .value) is))
+    same ∙ c .value .ensures ∙ rw (from .wide .ensures, to .wide2 .ensures) (sym (ap (λ (m : Meaning). m .value) is))
 
 pub number-value-spec : {M : Type 1} → statement M
 number-value-spec =

@@ -19,8 +19,9 @@ element-copy-out-if1 c = search needs
 
 returns : tie.Need-returns
 returns c =
-    let s = c .before .before .before .before .before in
-    no-name-part _ _ _ _ _ (s .args .n) (s .pre .0) (s .args .i .0) (s .pre .1) (c .if1 .taken) _ (c .before .before .wide .ensures)
+    let from = c .before .before in
+    let s = from .before .before .before in
+    no-name-part _ _ _ _ _ (s .args .n) (s .pre .0) (s .args .i .0) (s .pre .1) (c .if1 .taken) _ (from .wide .ensures)
 
 mul-wide-2 : tie.Need-mul-wide-2
 mul-wide-2 c = search needs
@@ -33,8 +34,11 @@ wide-requires-2 c κs = search needs
 
 returns-2 : tie.Need-returns-2
 returns-2 c =
-    let s = c .before .before .before .before .before .before .before in
-    name-part _ _ _ _ _ (s .args .n) (s .pre .0) (s .args .i .0) (s .pre .1) (c .before .before .if1 .left) _ _ (c .before .before .before .before .wide .ensures) (c .wide2 .ensures)
+    let name = c .before .before in
+    let from = name .before .before in
+    let s = from .before .before .before in
+    name-part _ _ _ _ _ (s .args .n) (s .pre .0) (s .args .i .0) (s .pre .1) (name .if1 .left) _ _
+    (from .wide .ensures) (c .wide2 .ensures)
 
 pub spelling-spec : {M : Type 1} → statement M
 spelling-spec =

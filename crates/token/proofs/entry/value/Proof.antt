@@ -1,7 +1,8 @@
 -- `number_value` is right because a sound number is in range, so that its value is not cut off and fits with either sign.
 -- Assumes nothing.
 use mathlib.Core.Path.{_≡_, sym, ap, _∙_}
-use Prim.Native.Nat.{ℕ, zero, suc, _+_, _≤_, _<_}
+use mathlib.Core.List.{List}
+use Prim.Native.Nat.{ℕ, zero, suc, _+_, _≤_}
 use native.Mathlib.Omega.{arith}
 use borrow.Author.Needs.{needs}
 use lib.Dec.{lit<}
@@ -13,7 +14,7 @@ use mir.ValLaws.{toZ-pos}
 use Rattle.piece.specs.Decimal.{decimal, capped}
 use Rattle.lexicon.specs.Word.{between}
 use Rattle.piece.specs.Piece.{largest-number, largest-negative}
-use Rattle.token.proofs.Laws.{token-place, number-is, negative-is, other-value, token-within}
+use Rattle.token.proofs.Laws.{Negative, token-place, number-is, negative-is, other-value, token-within}
 use Rattle.token.proofs.entry.value.Statement.{statement}
 use Rattle.token.proofs.entry.value.Tie as tie
 
@@ -33,54 +34,69 @@ negated-fits (suc k) h = record { sfits = omega arith }
 digits-value-requires : tie.Need-digits-value-requires
 digits-value-requires c κs =
     let s = c .before .before in
-    token-within (s .args .text .now) (s .args .class) (s .args .start) (s .args .end) (s .pre)
+    token-within _ _ _ _ (s .pre)
 
 cast-result : tie.Need-cast-result
 cast-result c = search needs
 
 returns : tie.Need-returns
 returns c =
-    let s = c .before .before .before in
-    let is = number-is (s .args .text .now) (s .args .class) (s .args .start) (s .args .end) (s .pre) (c .before .if1 .taken) in
-    whole-value (c .digits-value .result) (decimal (between (s .args .text .now) (s .args .start) (s .args .end))) (c .digits-value .ensures) (is .1)
-    ∙ sym (is .0)
+    let number = c .before in
+    let is = number-is _ _ _ _ (number .before .before .pre) (number .if1 .taken) in
+    whole-value _ _ (c .digits-value .ensures) (is .1) ∙ sym (is .0)
 
 add-digits-value : tie.Need-add-digits-value
 add-digits-value c =
     let s = c .before .before .before in
-    omega (arith, token-place (s .args .text .now) (s .args .class) (s .args .start) (s .args .end) (s .pre))
+    omega (arith, token-place _ _ _ _ (s .pre))
 
 digits-value-requires-2 : tie.Need-digits-value-requires-2
 digits-value-requires-2 c κs =
     let s = c .before .before .before in
-    let place = token-place (s .args .text .now) (s .args .class) (s .args .start) (s .args .end) (s .pre) in
+    let place = token-place _ _ _ _ (s .pre) in
     record { ordered = omega (arith, place); inside = place .1 }
 
 cast-result-2 : tie.Need-cast-result-2
 cast-result-2 c = search needs
 
+-- the number below zero, and the magnitude that its digits say
+abbrev start-of : tie.After-digits-value2 → tie.Start
+start-of c = c .before .before .before .before
+
+abbrev digits-of : tie.After-digits-value2 → List ℕ
+digits-of c = let a = start-of c .args in between (a .text .now) (a .start + 1) (a .end)
+
+below-zero : (c : tie.After-digits-value2)
+    → (let a = start-of c .args in Negative (a .class) (between (a .text .now) (a .start) (a .end)) (digits-of c))
+below-zero c = negative-is _ _ _ _ (start-of c .pre) (c .before .if2 .taken)
+
+negative-value : (c : tie.After-digits-value2) → pos 0 -ℤ toZ w64 (c .digits-value2 .result) ≡ negℤ (pos (decimal (digits-of c)))
+negative-value c =
+    let low : decimal (digits-of c) ≤ largest-number = omega (arith, below-zero c .1) in
+    let whole = whole-value (c .digits-value2 .result) (decimal (digits-of c)) (c .digits-value2 .ensures) low in
+    negated (c .digits-value2 .result) _ whole
+
 sub-result : tie.Need-sub-result
-sub-result c =
-    let s = c .before .before .before .before in
-    let is = negative-is (s .args .text .now) (s .args .class) (s .args .start) (s .args .end) (s .pre) (c .before .if2 .taken) in
-    let d = decimal (between (s .args .text .now) (s .args .start + 1) (s .args .end)) in
-    let v = whole-value (c .digits-value2 .result) d (c .digits-value2 .ensures) (omega (arith, is .1)) in
-    rw (negated (c .digits-value2 .result) d v) (negated-fits d (is .1))
+sub-result c = rw (negative-value c) (negated-fits _ (below-zero c .1))
 
 returns-2 : tie.Need-returns-2
-returns-2 c =
-    let s = c .before .before .before .before in
-    let is = negative-is (s .args .text .now) (s .args .class) (s .args .start) (s .args .end) (s .pre) (c .before .if2 .taken) in
-    let d = decimal (between (s .args .text .now) (s .args .start + 1) (s .args .end)) in
-    let v = whole-value (c .digits-value2 .result) d (c .digits-value2 .ensures) (omega (arith, is .1)) in
-    rw (negated (c .digits-value2 .result) d v) (toZ-ofZ (negated-fits d (is .1)) ∙ sym (is .0))
+returns-2 c = rw (negative-value c) (toZ-ofZ (negated-fits _ (below-zero c .1)) ∙ sym (below-zero c .0))
 
 returns-3 : tie.Need-returns-3
 returns-3 c =
-    let s = c .before .before .before in
-    sym (other-value (s .args .class) _ (c .before .if1 .left) (c .if2 .left))
+    let other = c .before in
+    sym (other-value _ _ (other .if1 .left) (c .if2 .left))
 
 pub value-spec : {M : Type 1} → statement M
 value-spec =
     tie.close
-    (tie.spec digits-value-requires cast-result returns add-digits-value digits-value-requires-2 cast-result-2 sub-result returns-2 returns-3)
+    (tie.spec
+    digits-value-requires
+    cast-result
+    returns
+    add-digits-value
+    digits-value-requires-2
+    cast-result-2
+    sub-result
+    returns-2
+    returns-3)

@@ -7,13 +7,9 @@ use mathlib.Core.List.{List}
 use lib.Dec.{eqb}
 use lib.ListN.{length}
 use Rattle.buffer.specs.Buffer.{byte-at}
-use Rattle.hint_form.specs.declared.Form.{Form}
-use Rattle.hint_form.specs.declared.Form.the-variants.{Base, Point, Bad}
-use Rattle.hint_form.specs.Hint.{number-at, bounded}
-
--- the base that a format letter means: x 16, o 8, b 2, and d 10
-unfoldable pub base-of : ℕ → ℕ
-base-of format = cond (eqb format (code "x")) 16 (cond (eqb format (code "o")) 8 (cond (eqb format (code "b")) 2 10))
+use Rattle.hint_integer.specs.declared.Form.{Form}
+use Rattle.hint_integer.specs.declared.Form.the-variants.{Base, Point, Bad}
+use Rattle.hint_form.specs.Hint.{number-at, bounded, base-of}
 
 -- d-N: a point before the last N digits, N from 1 to 10
 unfoldable pub read-point : List ℕ → Form

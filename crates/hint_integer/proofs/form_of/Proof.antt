@@ -8,16 +8,17 @@ use lib.Dec.{eqb}
 use borrow.Author.Needs.{needs}
 use borrow.Author.Tests.{eq-eqb, ne-eqb}
 use Rattle.buffer.specs.Buffer.{byte-at}
-use Rattle.hint_form.specs.declared.Form.the-variants.{Base}
-use Rattle.hint_form.specs.Form.{base-of, integer-format}
-use Rattle.hint_form.proofs.form_of.Statement.{statement}
-use Rattle.hint_form.proofs.form_of.Tie as tie
+use Rattle.hint_integer.specs.declared.Form.the-variants.{Base}
+use Rattle.hint_form.specs.Hint.{base-of}
+use Rattle.hint_integer.specs.Form.{integer-format}
+use Rattle.hint_integer.proofs.form_of.Statement.{statement}
+use Rattle.hint_integer.proofs.form_of.Tie as tie
 
 point-of-requires : tie.Need-point-of-requires
 point-of-requires c κs = search needs
 
 returns : tie.Need-returns
-unfolding Rattle.hint_form.specs.Form.read-form
+unfolding Rattle.hint_integer.specs.Form.read-form
 returns c = simp (ne-eqb _ _ (c .before .if1 .taken)) (c .point-of .ensures)
 
 byte-at-requires : tie.Need-byte-at-requires
@@ -27,7 +28,7 @@ base-of-requires : tie.Need-base-of-requires
 base-of-requires c κs = search needs
 
 returns-2 : tie.Need-returns-2
-unfolding Rattle.hint_form.specs.Form.read-form Rattle.hint_form.specs.Form.integer-format
+unfolding Rattle.hint_integer.specs.Form.read-form Rattle.hint_integer.specs.Form.integer-format
 returns-2 c =
     let letter = c .before .before .byte-at in
     let one : integer-format (letter .result) ≡ true =
@@ -36,7 +37,7 @@ returns-2 c =
     simp (eq-eqb _ _ (c .before .before .before .if1 .left), known) (ap Base (c .base-of .ensures ∙ ap base-of (letter .ensures)))
 
 returns-3 : tie.Need-returns-3
-unfolding Rattle.hint_form.specs.Form.read-form Rattle.hint_form.specs.Form.read-point integer-format
+unfolding Rattle.hint_integer.specs.Form.read-form Rattle.hint_integer.specs.Form.read-point integer-format
 returns-3 c =
     let h = c .before .before .before .before .args .hint .now in
     let letter = sym (c .before .byte-at .ensures) in

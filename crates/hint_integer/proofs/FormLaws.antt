@@ -9,10 +9,10 @@ use lib.Dec.{leb, ltb, eqb, lit≤}
 use lib.ListN.{length}
 use borrow.Author.Tests.{leb-true}
 use Rattle.buffer.specs.Buffer.{byte-at}
-use Rattle.hint_form.specs.Form.{base-of, integer-format, read-form, read-point, Usable}
-use Rattle.hint_form.specs.Hint.{number-at, allowed, bounded}
-use Rattle.hint_form.specs.declared.Form.the-variants.{Base, Point, Bad}
+use Rattle.hint_form.specs.Hint.{base-of, number-at, allowed, bounded}
+use Rattle.hint_integer.specs.Form.{integer-format, read-form, read-point, Usable}
+use Rattle.hint_integer.specs.declared.Form.the-variants.{Base, Point, Bad}
 use Rattle.hint_form.proofs.HintLaws.{and-left, and-right}
 
 -- a hint's form is usable
 base-usable : (letter : ℕ) → (2 ≤ base-of letter) × (base-of letter ≤ 16)

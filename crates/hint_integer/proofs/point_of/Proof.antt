@@ -10,11 +10,11 @@ use lib.ListN.{length}
 use borrow.Author.Needs.{needs}
 use borrow.Author.Tests.{eq-eqb, ne-eqb, not-true, not-false}
 use Rattle.buffer.specs.Buffer.{byte-at}
-use Rattle.hint_form.specs.declared.Form.the-variants.{Point}
+use Rattle.hint_integer.specs.declared.Form.the-variants.{Point}
 use Rattle.hint_form.specs.declared.Number.{Number}
 use Rattle.hint_form.specs.Hint.{number-at, allowed}
-use Rattle.hint_form.proofs.point_of.Statement.{statement}
-use Rattle.hint_form.proofs.point_of.Tie as tie
+use Rattle.hint_integer.proofs.point_of.Statement.{statement}
+use Rattle.hint_integer.proofs.point_of.Tie as tie
 
 -- the hint, once its number was tested
 abbrev text : tie.After-is-allowed → List ℕ
@@ -38,7 +38,7 @@ byte-at-requires : tie.Need-byte-at-requires
 byte-at-requires c κs = search needs
 
 returns : tie.Need-returns
-unfolding Rattle.hint_form.specs.Form.read-point Rattle.hint_form.specs.Hint.bounded
+unfolding Rattle.hint_integer.specs.Form.read-point Rattle.hint_form.specs.Hint.bounded
 returns c =
     let h = c .before .before .before .args .hint .now in
     let letter : eqb (byte-at h 0) (code "d") ≡ false = rw (sym (c .before .byte-at .ensures)) (ne-eqb _ _ (c .if1 .taken)) in
@@ -48,7 +48,7 @@ byte-at-requires-2 : tie.Need-byte-at-requires-2
 byte-at-requires-2 c κs = search needs
 
 returns-2 : tie.Need-returns-2
-unfolding Rattle.hint_form.specs.Form.read-point Rattle.hint_form.specs.Hint.bounded
+unfolding Rattle.hint_integer.specs.Form.read-point Rattle.hint_form.specs.Hint.bounded
 returns-2 c =
     let h = c .before .before .before .before .before .args .hint .now in
     let letter : eqb (byte-at h 0) (code "d") ≡ true =
@@ -66,13 +66,13 @@ is-allowed-requires : tie.Need-is-allowed-requires
 is-allowed-requires c κs = search needs
 
 returns-3 : tie.Need-returns-3
-unfolding Rattle.hint_form.specs.Form.read-point Rattle.hint_form.specs.Hint.bounded
+unfolding Rattle.hint_integer.specs.Form.read-point Rattle.hint_form.specs.Hint.bounded
 returns-3 c =
     let known = front (c .before) in
     simp (known .0, known .1, number-fits (c .before) ∙ not-true _ (c .if3 .taken))
 
 returns-4 : tie.Need-returns-4
-unfolding Rattle.hint_form.specs.Form.read-point Rattle.hint_form.specs.Hint.bounded
+unfolding Rattle.hint_integer.specs.Form.read-point Rattle.hint_form.specs.Hint.bounded
 returns-4 c =
     let d = c .before .before .before in
     let known = front d in
@@ -82,7 +82,7 @@ returns-4 c =
     simp (known .0, known .1, number-fits d ∙ not-false _ (c .before .before .if3 .left), end)
 
 returns-5 : tie.Need-returns-5
-unfolding Rattle.hint_form.specs.Form.read-point Rattle.hint_form.specs.Hint.bounded
+unfolding Rattle.hint_integer.specs.Form.read-point Rattle.hint_form.specs.Hint.bounded
 returns-5 c =
     let d = c .before .before .before in
     let known = front d in
