@@ -6,7 +6,7 @@ use Prim.Native.Nat.{ℕ, _+_, _-_}
 use lib.Dec.{ltb, eqb}
 use Rattle.index.specs.First.{first}
 use Rattle.terminal.specs.Terminal.{left-brace, right-brace, left-paren, right-paren, Upper, assign, current, not-accessible, AUGMENTS, BITS, DEFVAL, INDEX, INTEGER, MAX-ACCESS, OBJECT, OBJECTS, OCTET, SEQUENCE, SIZE, STATUS, SYNTAX, UNITS}
-use Rattle.definition.specs.Landmark.{class-at, kind-at, has-oid, object, sequence-type}
+use Rattle.definition.specs.Landmark.{class-at, kind-at, has-oid, sequence-type}
 use Rattle.definition.specs.declared.Span.{Span}
 use Rattle.definition.specs.declared.Fields.{Fields}
 use Rattle.definition.specs.declared.Restriction.{Restriction}

@@ -7,7 +7,7 @@ use Prim.Native.Nat.{ℕ, _+_, _-_}
 use lib.Dec.{leb, eqb}
 use lib.ListN.{length, getD}
 use Rattle.index.specs.First.{first, hits}
-use Rattle.terminal.specs.Terminal.{lower, Upper, current, read-create, assign, MODULE-IDENTITY, NOTIFICATION-TYPE, OBJECT, IDENTIFIER, OBJECT-IDENTITY, OBJECT-TYPE, SEQUENCE, TEXTUAL-CONVENTION}
+use Rattle.terminal.specs.Terminal.{lower, Upper, current, read-create, assign, MODULE-IDENTITY, NOTIFICATION-TYPE, OBJECT, IDENTIFIER, OBJECT-IDENTITY, OBJECT-TYPE, TEXTUAL-CONVENTION}
 
 -- the class of token i
 abbrev pub class-at : List ℕ → ℕ → ℕ

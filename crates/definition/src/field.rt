@@ -7,7 +7,6 @@ ghost use lib.ListN.{length, take};
 ghost use Rattle.index.specs.First.{first};
 ghost use Rattle.terminal.specs.Terminal.{MAX-ACCESS, UNITS};
 ghost use Rattle.definition.specs.Fields.{find, nowhere, braced-after, word-after, ends-syntax, syntax-span, fields-of};
-
 use crate::Fields;
 use crate::Span;
 use crate::kind;
@@ -122,13 +121,27 @@ pub fn fields_of(classes: &[u8], n: usize, d: usize, e: usize) -> Fields
 {
     let kind = kind_at(classes, n, d);
     let status = word_after(classes, n, terminal::STATUS, terminal::CURRENT, d, e);
-    let access = word_after(classes, n, terminal::MAX_ACCESS, terminal::NOT_ACCESSIBLE, d, e);
+    let access = word_after(
+        classes,
+        n,
+        terminal::MAX_ACCESS,
+        terminal::NOT_ACCESSIBLE,
+        d,
+        e,
+    );
     let syntax = syntax_span(classes, n, d, e);
     let index = braced_after(classes, n, terminal::INDEX, d, e);
     let augments = braced_after(classes, n, terminal::AUGMENTS, d, e);
     let has_default = find(classes, n, terminal::DEFVAL, d, e) < e;
     let objects = braced_after(classes, n, terminal::OBJECTS, d, e);
-    let columns = braced_if(kind == kind::SEQUENCE_TYPE, classes, n, terminal::SEQUENCE, d, e);
+    let columns = braced_if(
+        kind == kind::SEQUENCE_TYPE,
+        classes,
+        n,
+        terminal::SEQUENCE,
+        d,
+        e,
+    );
     let oid = braced_if(has_oid(kind), classes, n, terminal::ASSIGN, d, e);
     Fields {
         kind,

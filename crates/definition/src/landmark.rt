@@ -4,7 +4,6 @@ ghost use Prim.Native.Nat.{_≤_, _<_};
 ghost use lib.ListN.{length, take};
 ghost use Rattle.definition.specs.Landmark.{class-at, is-lower, is-defining, is-macro, before-object-identifier, begins};
 ghost use Rattle.definition.specs.Landmark.{definition-end, kind-at, has-oid};
-
 use crate::kind;
 
 // The class of token i, and 0 past the last.

@@ -5,10 +5,9 @@ pub mod kind;
 mod landmark;
 mod syntax_clause;
 
-use index::TokenIndex;
-
 pub use field::fields_of;
 pub use field::find;
+use index::TokenIndex;
 pub use landmark::begins;
 pub use landmark::class_at;
 pub use landmark::definition_end;

@@ -1,9 +1,8 @@
 // The syntax of an object or a convention, and its restriction.
 ghost use mathlib.Core.Path.{_≡_};
-ghost use Prim.Native.Nat.{_≤_, _<_};
+ghost use Prim.Native.Nat.{_≤_};
 ghost use lib.ListN.{length, take};
 ghost use Rattle.definition.specs.Fields.{restriction-at, syntax-at};
-
 use crate::Restriction;
 use crate::Span;
 use crate::Syntax;

@@ -1,9 +1,7 @@
 -- `find_syntax_end` is right: what it passed doesn't end a syntax, and the first token that does, or the end, stops it.
 -- Assumes nothing.
 use mathlib.Core.Path.{refl, sym, _∙_}
-use mathlib.Core.List.{List}
-use mathlib.Core.Bool.{Bool}
-use Prim.Native.Nat.{ℕ, _-_}
+use Prim.Native.Nat.{_-_}
 use borrow.Author.Needs.{needs}
 use lib.ListN.{take}
 use Rattle.definition.specs.Fields.{ends-syntax}

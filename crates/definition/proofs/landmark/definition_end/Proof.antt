@@ -1,11 +1,10 @@
 -- `definition_end` is right: at no token that it passed a definition starts, and the next start, or END, stops it.
 -- Assumes nothing.
-use mathlib.Core.Path.{_≡_, refl, sym, _∙_}
-use mathlib.Core.List.{List}
-use Prim.Native.Nat.{ℕ, _+_, _-_, _≤_}
+use mathlib.Core.Path.{refl, sym, _∙_}
+use Prim.Native.Nat.{_+_, _-_}
 use native.Mathlib.Omega.{arith}
 use borrow.Author.Needs.{needs}
-use lib.ListN.{length, take}
+use lib.ListN.{take}
 use lib.Seq.{length-take-le}
 use Rattle.definition.specs.Landmark.{begins, last, definition-end}
 use Rattle.definition.proofs.Found.{Passed, passed-miss, passed-hit, passed-end}
