@@ -25,13 +25,13 @@ same-spelling-requires : tie.Need-same-spelling-requires
 unfolding words word-table word bytes joined
 same-spelling-requires c κs =
     let s = c .before .before .before .before .before .before in
-    (s .pre .0, word-within _ refl (s .args .k) _ _ (s .pre .1) (c .before .before .before .spelling-start .ensures) (c .before .spelling-start2 .ensures))
+    (s .pre .0, word-within words _ refl (s .args .k) _ _ (s .pre .1) (c .before .before .before .spelling-start .ensures) (c .before .spelling-start2 .ensures))
 
 returns : tie.Need-returns
 unfolding words word-table word bytes joined
 returns c =
     let s = c .before .before .before .before .before .before .before in
-    word-compared _ refl (s .args .k) _ _ (s .pre .1) (c .before .before .before .before .spelling-start .ensures) (c .before .before .spelling-start2 .ensures)
+    word-compared words _ refl (s .args .k) _ _ (s .pre .1) (c .before .before .before .before .spelling-start .ensures) (c .before .before .spelling-start2 .ensures)
     _ (c .same-spelling .ensures)
 
 pub is-word-spec : {M : Type 1} → statement M
