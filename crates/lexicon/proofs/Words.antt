@@ -183,38 +183,41 @@ module _ (a b : List ℕ) (i j n k : ℕ) (ha : i + n ≤ length a) (hb : j + n 
   unfolding same
   same-ends h = let z : n - k ≡ 0 = omega arith in rw z
 
--- where the words stand among them
-pub word-ends : (k : ℕ) → k < word-count → start-of words (k + 1) ≡ start-of words k + length (getD words k [])
-word-ends k h = rw (add-one k) (word-next words k (in-words k h))
+-- where they stand among the joined spellings
+module _ (ws : List (List ℕ)) where
+  pub word-ends : (k : ℕ) → k < length ws → start-of ws (k + 1) ≡ start-of ws k + length (getD ws k [])
+  word-ends k h = rw (add-one k) (word-next ws k h)
 
--- an entry of the starts is where the word at k starts
-unfoldable pub starts-there : ℕ → ℕ → Bool
-starts-there k start = eqb start (start-of words k)
+  -- an entry of the starts is where the word at k starts
+  unfoldable pub starts-there : ℕ → ℕ → Bool
+  starts-there k start = eqb start (start-of ws k)
 
--- starts that pass it say where each word's spelling starts
-pub start-table : (starts : List ℕ) → length starts ≡ suc word-count → T (passes starts-there 0 starts) → StartTable starts
-unfolding starts-there
-start-table starts long t =
-    record { gives = λ k h. eqb→eq (getD starts k 0) (start-of words k) (tested starts-there 0 starts t k (omega arith)) }
+  -- starts that pass it say where each word's spelling starts, and where the last one ends
+  pub starts-right : (starts : List ℕ) → length starts ≡ suc (length ws) → T (passes starts-there 0 starts) → (k : ℕ) → k ≤ length ws → getD starts k 0 ≡ start-of ws k
+  unfolding starts-there
+  starts-right starts long t k h =
+      eqb→eq (getD starts k 0) (start-of ws k) (tested starts-there 0 starts t k (omega arith))
 
--- the joined spellings, from where the word at k starts to where it ends
-module _
-    (spellings : List ℕ) (all : spellings ≡ joined words)
-    (k from to : ℕ) (h : k < word-count) (starts : from ≡ start-of words k) (ends : to ≡ start-of words (k + 1))
-  where
+  -- the joined spellings, from where the word at k starts to where it ends
+  module _ (spellings : List ℕ) (all : spellings ≡ joined ws) (k from to : ℕ) (h : k < length ws) (starts : from ≡ start-of ws k) (ends : to ≡ start-of ws (k + 1)) where
     pub word-within : Within spellings from to
     word-within =
-        rw all (record { ordered = omega (arith, word-ends k h); inside = omega (arith, start-inside words (k + 1)) })
+        rw all (record { ordered = omega (arith, word-ends k h); inside = omega (arith, start-inside ws (k + 1)) })
 
     -- they are the word's own
-    word-between : between spellings from to ≡ getD words k []
+    word-between : between spellings from to ≡ getD ws k []
     word-between =
-        let n : to - from ≡ length (getD words k []) = omega (arith, word-ends k h) in
-        rw (n, starts, all, word-part words k (in-words k h))
-        (take-append-seam (getD words k []) (drop (start-of words (suc k)) (joined words)))
+        let n : to - from ≡ length (getD ws k []) = omega (arith, word-ends k h) in
+        rw (n, starts, all, word-part ws k h)
+        (take-append-seam (getD ws k []) (drop (start-of ws (suc k)) (joined ws)))
 
-    pub word-compared : (name : List ℕ) {r : Bool} → r ≡ same name (between spellings from to) → r ≡ same name (getD words k [])
+    pub word-compared : (name : List ℕ) {r : Bool} → r ≡ same name (between spellings from to) → r ≡ same name (getD ws k [])
     word-compared name q = q ∙ ap (same name) word-between
+
+-- starts that pass the test for the words are the table of the words
+pub start-table : (starts : List ℕ) → length starts ≡ suc word-count → T (passes (starts-there words) 0 starts) → StartTable starts
+unfolding words word-table word bytes
+start-table starts long t = record { gives = starts-right words starts long t }
 
 -- a part of a text has as many bytes as its ends lie apart
 pub between-length : (t : List ℕ) (start end : ℕ) → Within t start end → length (between t start end) ≡ end - start

@@ -1,14 +1,14 @@
 -- The built-in symbols: document 01, "Built-in symbols". One table has each symbol's name, the module that offers it, and what it
 -- is. `iso` needs no import and stands by itself.
 -- Assumes nothing.
-use mathlib.Core.Bool.{Bool, true, false, _&&_}
+use mathlib.Core.Path.{_≡_}
 use mathlib.Core.List.{List, [], _∷_, _++_, map}
-use Prim.Native.Nat.{ℕ}
+use Prim.Native.Nat.{ℕ, _≤_}
 use Prim.Native.String.{String}
-use lib.Dec.{ltb}
 use lib.ListN.{length, getD}
 use Rattle.index.specs.First.{first}
-use Rattle.lexicon.specs.Word.{bytes, same}
+use Rattle.lexicon.specs.Word.{bytes, same, joined, start-of}
+use Rattle.symbol.specs.declared.Sort.{Sort}
 
 -- what a symbol is
 pub data What : Type 0 where
@@ -36,7 +36,7 @@ iso-name = bytes "iso"
 unfoldable pub iso-oid : List ℕ
 iso-oid = 1 ∷ []
 
--- The classes that built-in types have, from "Records".
+-- The classes that "Records" numbers, but for table and row, which no type has.
 
 abbrev pub integer : ℕ
 integer = 1
@@ -141,3 +141,52 @@ symbols =
 -- the symbols' names
 unfoldable pub symbol-names : List (List ℕ)
 symbol-names = map (λ (s : Symbol). s .name) symbols
+
+-- how many symbols there are
+abbrev pub symbol-count : ℕ
+symbol-count = 45
+
+-- the index of the symbol with this name, or the number of symbols where none has it
+unfoldable pub symbol-of : List ℕ → ℕ
+symbol-of s = first (λ (k : ℕ). same s (getD symbol-names k [])) 0 symbol-count
+
+-- what stands for a symbol where the list has none at an index
+unfoldable pub no-symbol : Symbol
+no-symbol = record { name = []; module-index = 0; what = oid [] }
+
+-- the symbol k
+unfoldable pub symbol : ℕ → Symbol
+symbol k = getD symbols k no-symbol
+
+-- the name of the module that offers symbol k
+unfoldable pub module-name : ℕ → List ℕ
+module-name k = getD modules (symbol k .module-index) []
+
+-- what symbol k is
+unfoldable pub what-is : ℕ → What
+what-is k = symbol k .what
+
+-- the numbers of a name with an OID; a type and a macro have none
+unfoldable pub numbers : What → List ℕ
+numbers (oid ns) = ns
+numbers (type class) = []
+numbers macro = []
+
+-- the numbers of symbol k
+unfoldable pub numbers-of : ℕ → List ℕ
+numbers-of k = numbers (what-is k)
+
+-- what a symbol is, as the code says it
+unfoldable pub sort-of : What → Sort
+sort-of (oid ns) = Sort.Oid
+sort-of (type class) = Sort.Type class
+sort-of macro = Sort.Macro
+
+-- where the list k starts, by a table of starts
+unfoldable pub start-in : List ℕ → ℕ → ℕ
+start-in starts k = getD starts k 0
+
+-- some lists are held one after the other, with where each starts and where the last one ends
+pub record Joined (parts : List (List ℕ)) (whole starts : List ℕ) : Type 0 where
+  pub whole-is : whole ≡ joined parts
+  pub starts-are : (k : ℕ) → k ≤ length parts → start-in starts k ≡ start-of parts k

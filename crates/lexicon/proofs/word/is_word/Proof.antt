@@ -27,7 +27,7 @@ same-spelling-requires c κs =
     let to = c .before in
     let from = to .before .before in
     let s = from .before .before .before in
-    (s .pre .0, word-within _ refl (s .args .k) _ _ (s .pre .1) (from .spelling-start .ensures) (to .spelling-start2 .ensures))
+    (s .pre .0, word-within words _ refl (s .args .k) _ _ (s .pre .1) (from .spelling-start .ensures) (to .spelling-start2 .ensures))
 
 returns : tie.Need-returns
 unfolding words word-table word bytes joined
@@ -35,7 +35,7 @@ returns c =
     let to = c .before .before in
     let from = to .before .before in
     let s = from .before .before .before in
-    word-compared _ refl (s .args .k) _ _ (s .pre .1) (from .spelling-start .ensures) (to .spelling-start2 .ensures)
+    word-compared words _ refl (s .args .k) _ _ (s .pre .1) (from .spelling-start .ensures) (to .spelling-start2 .ensures)
     _ (c .same-spelling .ensures)
 
 pub is-word-spec : {M : Type 1} → statement M

@@ -1,0 +1,86 @@
+-- The tables of the symbols are the symbols', each by one computed comparison; and no two symbols have the same name.
+-- Assumes nothing.
+use mathlib.Core.Path.{_≡_, refl, sym, ap, _∙_}
+use mathlib.Core.Bool.{Bool}
+use mathlib.Core.List.{List, [], map}
+use Prim.Native.Nat.{ℕ, _+_, _<_}
+use lib.Dec.{eqb, eqb→eq, ltb, ltb→lt}
+use lib.ListN.{length, getD, List·getD-map}
+use Rattle.index.specs.First.{first, first-of}
+use Rattle.index.proofs.Tested.{tested}
+use Rattle.lexicon.specs.Word.{bytes, same}
+use Rattle.symbol.specs.Symbol.{Symbol, symbols, modules, symbol-names, symbol-count, symbol-of, symbol, no-symbol, of-smi, of-tc, what-is, numbers, numbers-of, sort-of, start-in, Joined}
+use Rattle.symbol.specs.declared.Sort.{Sort}
+use Rattle.symbol.proofs.Joined.{part-length, part-inside, part-at}
+
+-- there are as many symbols as the number says
+pub counted : length symbol-names ≡ symbol-count
+unfolding symbol-names symbols
+counted = refl
+
+pub in-names : (k : ℕ) → k < symbol-count → k < length symbol-names
+in-names k h = rw counted h
+
+-- the index of the module that offers each symbol
+unfoldable pub module-indices : List ℕ
+module-indices = map (λ (s : Symbol). s .module-index) symbols
+
+pub module-index-is : (k : ℕ) → getD module-indices k 0 ≡ symbol k .module-index
+unfolding module-indices symbol no-symbol
+module-index-is k = List·getD-map (λ (s : Symbol). s .module-index) symbols k no-symbol
+
+-- it is that of a module
+in-modules : ℕ → ℕ → Bool
+in-modules k index = ltb index (length modules)
+
+pub module-inside : (k : ℕ) → k < symbol-count → symbol k .module-index < length modules
+unfolding in-modules module-indices symbols of-smi of-tc modules
+module-inside k h =
+    rw module-index-is at (ltb→lt (getD module-indices k 0) (length modules) (tested in-modules 0 module-indices tt k h))
+
+-- what each symbol is, as the code says it
+unfoldable pub sorts : List Sort
+sorts = map (λ (s : Symbol). sort-of (s .what)) symbols
+
+pub sort-is : (k : ℕ) → getD sorts k Sort.Oid ≡ sort-of (what-is k)
+unfolding sorts what-is symbol no-symbol sort-of
+sort-is k = List·getD-map (λ (s : Symbol). sort-of (s .what)) symbols k no-symbol
+
+-- the numbers of each symbol
+unfoldable pub symbol-numbers : List (List ℕ)
+symbol-numbers = map (λ (s : Symbol). numbers (s .what)) symbols
+
+pub numbers-are : (k : ℕ) → getD symbol-numbers k [] ≡ numbers-of k
+unfolding symbol-numbers numbers-of numbers what-is symbol no-symbol
+numbers-are k = List·getD-map (λ (s : Symbol). numbers (s .what)) symbols k no-symbol
+
+in-numbers : (k : ℕ) → k < symbol-count → k < length symbol-numbers
+unfolding symbol-numbers symbols
+in-numbers k h = h
+
+-- the numbers of symbol k, in a table of them all
+module _ {whole starts : List ℕ} (k : ℕ) (h : k < symbol-count) {from : ℕ} (is : from ≡ start-in starts k) (t : Joined symbol-numbers whole starts) where
+  pub numbers-length : {to : ℕ} → to ≡ start-in starts (k + 1) → to ≡ from + length (numbers-of k)
+  numbers-length e = rw numbers-are at (part-length symbol-numbers whole starts t k (in-numbers k h) is e)
+
+  module _ (j : ℕ) (l : j < length (numbers-of k)) where
+    own : j < length (getD symbol-numbers k [])
+    own = rw numbers-are l
+
+    pub number-inside : from + j < length whole
+    number-inside = part-inside symbol-numbers whole starts t k (in-numbers k h) is j own
+
+    pub number-at : getD whole (from + j) 0 ≡ getD (numbers-of k) j 0
+    number-at = part-at symbol-numbers whole starts t k (in-numbers k h) is j own ∙ rw numbers-are refl
+
+-- a symbol's name leads to its index
+own-index : ℕ → List ℕ → Bool
+own-index k name = eqb (symbol-of name) k
+
+pub found-again : (k : ℕ) → k < symbol-count → symbol-of (getD symbol-names k []) ≡ k
+unfolding own-index symbol-of first first-of same symbol-names symbols of-smi of-tc bytes
+found-again k h = eqb→eq (symbol-of (getD symbol-names k [])) k (tested own-index [] symbol-names tt k h)
+
+-- so no two symbols have the same name
+pub names-differ : (j k : ℕ) → j < symbol-count → k < symbol-count → getD symbol-names j [] ≡ getD symbol-names k [] → j ≡ k
+names-differ j k l h e = sym (found-again j l) ∙ ap symbol-of e ∙ found-again k h
