@@ -50,6 +50,10 @@ module _ (test : ℕ → Bool) where
       go true h = (omega arith, omega arith)
       go false h = (omega arith, omega arith)
 
+  pub first-from : (a b : ℕ) → a ≤ first test a b
+  unfolding first
+  first-from a b = of-inside (b - a) a .0
+
   pub first-inside : (a b : ℕ) → a ≤ b → (a ≤ first test a b) × (first test a b ≤ b)
   unfolding first
   first-inside a b h = let i = of-inside (b - a) a in (i .0, omega (arith, i .1))

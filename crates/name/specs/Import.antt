@@ -30,10 +30,13 @@ imports-start = 5
 unfoldable pub imports-end : List ℕ → ℕ
 imports-end cs = cond (eqb (class-at cs (imports-start - 1)) IMPORTS) (find cs semicolon imports-start (length cs)) imports-start
 
--- a token of the imports is a symbol: a lower, an Upper or a macro word, and not the module that stands after FROM
+-- a token of this class can be imported: a lower, an Upper or a macro word
+unfoldable pub can-be-imported : ℕ → Bool
+can-be-imported class = eqb class Upper || is-lower class || is-macro class
+
+-- a token of the imports is a symbol, and not the module that stands after FROM
 unfoldable pub is-symbol : List ℕ → ℕ → Bool
-is-symbol cs i =
-    (is-lower (class-at cs i) || eqb (class-at cs i) Upper || is-macro (class-at cs i)) && not (eqb (class-at cs (i - 1)) FROM)
+is-symbol cs i = not (eqb (class-at cs (i - 1)) FROM) && can-be-imported (class-at cs i)
 
 -- the imported symbols in text order, each by its token's index
 unfoldable pub imports : List ℕ → List ℕ

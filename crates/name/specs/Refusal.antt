@@ -13,7 +13,7 @@ use Rattle.symbol.specs.Symbol.{iso-name}
 use Rattle.definition.specs.Landmark.{definitions}
 use Rattle.name.specs.Import.{classes-of, spelled, imports, imports-end, offered}
 use Rattle.name.specs.Collect.{most-definitions}
-use Rattle.name.specs.Use.{need-at, is-unknown}
+use Rattle.name.specs.Use.{is-unknown}
 
 -- 8: a 513th definition
 unfoldable pub too-many : List Meaning → Rule
@@ -70,7 +70,7 @@ unknown-name ms = record {
   number = 11;
   from = imports-end (classes-of ms);
   to = length ms;
-  breach = λ i. is-unknown ms i (need-at (classes-of ms) i);
+  breach = λ i. is-unknown ms i;
   place = λ i. i;
 }
 

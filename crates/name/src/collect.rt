@@ -4,7 +4,7 @@ ghost use Prim.Native.Nat.{_≤_, _<_};
 ghost use lib.ListN.{length, take};
 ghost use Rattle.index.specs.First.{Listed};
 ghost use Rattle.token.specs.Table.{longest-text};
-ghost use Rattle.name.specs.Import.{imports, imports-end, is-symbol};
+ghost use Rattle.name.specs.Import.{imports, imports-end, can-be-imported, is-symbol};
 ghost use Rattle.name.specs.Collect.{Collects, most-definitions};
 use definition::begins;
 use definition::class_at;
@@ -36,7 +36,20 @@ pub fn imports_end(classes: &[u8], n: usize) -> usize
     IMPORTS_START
 }
 
-// Whether token i, one of the imports, is a symbol: it is a name or a macro word, and not the module after FROM.
+// Whether a token of this class can be imported.
+fn can_be_imported(class: u8) -> bool
+    ensures { λ r. ⌜ r ≡ can-be-imported class ⌝ }
+{
+    if class == terminal::UPPER {
+        return true;
+    }
+    if is_lower(class) {
+        return true;
+    }
+    is_macro(class)
+}
+
+// Whether token i, one of the imports, is a symbol, and not the module after FROM.
 fn is_symbol(classes: &[u8], n: usize, i: usize) -> bool
     requires long { ⌜ n ≤ length (now classes) ⌝ }
     requires index { ⌜ 1 ≤ i ⌝ }
@@ -45,14 +58,7 @@ fn is_symbol(classes: &[u8], n: usize, i: usize) -> bool
     if class_at(classes, n, i - 1) == terminal::FROM {
         return false;
     }
-    let class = class_at(classes, n, i);
-    if class == terminal::UPPER {
-        return true;
-    }
-    if is_lower(class) {
-        return true;
-    }
-    is_macro(class)
+    can_be_imported(class_at(classes, n, i))
 }
 
 // Collects the imported symbols of a module whose imports end at `end`, and answers how many there are.
@@ -68,8 +74,10 @@ pub fn collect_imports(classes: &[u8], n: usize, end: usize, imported: &mut [u32
         if is_symbol(classes, n, i) {
             imported[count] = i as u32;
             count += 1;
+            i += 1;
+        } else {
+            i += 1;
         }
-        i += 1;
     }
     count
 }
@@ -89,8 +97,10 @@ pub fn collect_definitions(classes: &[u8], n: usize, defined: &mut [u32; 512]) -
             }
             defined[count] = i as u32;
             count += 1;
+            i += 1;
+        } else {
+            i += 1;
         }
-        i += 1;
     }
     Collected::All(count)
 }

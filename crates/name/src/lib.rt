@@ -5,6 +5,7 @@ ghost use Prim.Native.Nat.{_≤_, _<_};
 ghost use lib.ListN.{length, take};
 
 mod collect;
+mod lookup;
 
 use index::RecordIndex;
 

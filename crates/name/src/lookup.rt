@@ -49,7 +49,7 @@ pub fn named(
 }
 
 // What the name of token i leads to.
-pub fn lead(
+pub fn leads_to(
     text: &[u8],
     classes: &[u8; 65536],
     starts: &[u32; 65536],
