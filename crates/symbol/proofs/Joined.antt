@@ -9,9 +9,9 @@ use lib.Dec.{T}
 use lib.ListN.{length, getD, List·getD-append}
 use lib.Seq.{getD-drop}
 use Rattle.index.proofs.Tested.{passes}
-use Rattle.lexicon.specs.Word.{same, joined, start-of, between, Within}
+use Rattle.lexicon.specs.Word.{same, joined, start-of, Within}
 use Rattle.lexicon.proofs.Words.{word-part, word-ends, starts-there, starts-right, word-within, word-compared}
-use Rattle.symbol.specs.Symbol.{start-in, Joined}
+use Rattle.symbol.specs.Symbol.{start-in, part, Joined}
 
 -- a table that is the joined lists, with starts that pass the test
 pub joined-table : (parts : List (List ℕ)) (whole starts : List ℕ) → whole ≡ joined parts → length starts ≡ suc (length parts) → T (passes (starts-there parts) 0 starts) → Joined parts whole starts
@@ -30,7 +30,7 @@ module _ (parts : List (List ℕ)) (whole starts : List ℕ) (t : Joined parts w
   pub part-within : Within whole (start-in starts k) (start-in starts (k + 1))
   part-within = word-within parts whole (t .whole-is) k _ _ h from-is to-is
 
-  pub part-compared : (name : List ℕ) {r : Bool} → r ≡ same name (between whole (start-in starts k) (start-in starts (k + 1))) → r ≡ same name (getD parts k [])
+  pub part-compared : (name : List ℕ) {r : Bool} → r ≡ same name (part whole starts k) → r ≡ same name (getD parts k [])
   part-compared = word-compared parts whole (t .whole-is) k _ _ h from-is to-is
 
   -- it is as long as its ends lie apart

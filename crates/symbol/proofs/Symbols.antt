@@ -1,15 +1,18 @@
--- The tables of the symbols are the symbols', each by one computed comparison; and no two symbols have the same name.
+-- The tables of the symbols are the symbols', each by one computed comparison; no two symbols have the same name; and each name
+-- is spelled as what it names.
 -- Assumes nothing.
 use mathlib.Core.Path.{_≡_, refl, sym, ap, _∙_}
-use mathlib.Core.Bool.{Bool}
+use mathlib.Core.Bool.{Bool, _||_}
 use mathlib.Core.List.{List, [], map}
 use Prim.Native.Nat.{ℕ, _+_, _<_}
-use lib.Dec.{eqb, eqb→eq, ltb, ltb→lt}
+use lib.Dec.{T, eqb, eqb→eq, ltb, ltb→lt}
 use lib.ListN.{length, getD, List·getD-map}
 use Rattle.index.specs.First.{first, first-of}
 use Rattle.index.proofs.Tested.{tested}
-use Rattle.lexicon.specs.Word.{bytes, same}
-use Rattle.symbol.specs.Symbol.{Symbol, symbols, modules, symbol-names, symbol-count, symbol-of, symbol, no-symbol, of-smi, of-tc, what-is, numbers, numbers-of, sort-of, start-in, Joined}
+use Rattle.terminal.specs.Terminal.{lower, Upper, MODULE-IDENTITY, OBJECT-IDENTITY, OBJECT-TYPE, NOTIFICATION-TYPE, TEXTUAL-CONVENTION}
+use Rattle.lexicon.specs.Byte.{class-of, class-in, rows}
+use Rattle.lexicon.specs.Word.{bytes, same, name-class, place-in, words, word-table, word-classes, word}
+use Rattle.symbol.specs.Symbol.{What, oid, type, macro, Symbol, symbols, modules, symbol-names, symbol-count, symbol-of, symbol, no-symbol, of-smi, of-tc, below-internet, what-is, numbers, numbers-of, sort-of, start-in, Joined}
 use Rattle.symbol.specs.declared.Sort.{Sort}
 use Rattle.symbol.proofs.Joined.{part-length, part-inside, part-at}
 
@@ -20,6 +23,10 @@ counted = refl
 
 pub in-names : (k : ℕ) → k < symbol-count → k < length symbol-names
 in-names k h = rw counted h
+
+pub name-is : (k : ℕ) → getD symbol-names k [] ≡ symbol k .name
+unfolding symbol-names symbol no-symbol
+name-is k = List·getD-map (λ (s : Symbol). s .name) symbols k no-symbol
 
 -- the index of the module that offers each symbol
 unfoldable pub module-indices : List ℕ
@@ -84,3 +91,17 @@ found-again k h = eqb→eq (symbol-of (getD symbol-names k [])) k (tested own-in
 -- so no two symbols have the same name
 pub names-differ : (j k : ℕ) → j < symbol-count → k < symbol-count → getD symbol-names j [] ≡ getD symbol-names k [] → j ≡ k
 names-differ j k l h e = sym (found-again j l) ∙ ap symbol-of e ∙ found-again k h
+
+-- a token that has the name of an OID is a *lower*, one that has a type's an *Upper*, and one that has a macro's a macro word
+unfoldable pub spelled-as : What → ℕ → Bool
+spelled-as (oid ns) class = eqb class lower
+spelled-as (type c) class = eqb class Upper
+spelled-as macro class =
+    eqb class MODULE-IDENTITY || eqb class OBJECT-IDENTITY || eqb class OBJECT-TYPE || eqb class NOTIFICATION-TYPE || eqb class TEXTUAL-CONVENTION
+
+well-spelled : ℕ → Symbol → Bool
+well-spelled k s = spelled-as (s .what) (name-class (s .name))
+
+pub spelling-fits : (k : ℕ) → k < symbol-count → T (spelled-as (what-is k) (name-class (getD symbol-names k [])))
+unfolding well-spelled spelled-as what-is symbol no-symbol name-class place-in words word-table word-classes word bytes same class-of class-in rows symbols of-smi of-tc below-internet
+spelling-fits k h = rw (name-is k) (tested well-spelled no-symbol symbols tt k h)

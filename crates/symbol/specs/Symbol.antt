@@ -3,11 +3,11 @@
 -- Assumes nothing.
 use mathlib.Core.Path.{_≡_}
 use mathlib.Core.List.{List, [], _∷_, _++_, map}
-use Prim.Native.Nat.{ℕ, _≤_}
+use Prim.Native.Nat.{ℕ, _+_, _≤_}
 use Prim.Native.String.{String}
 use lib.ListN.{length, getD}
 use Rattle.index.specs.First.{first}
-use Rattle.lexicon.specs.Word.{bytes, same, joined, start-of}
+use Rattle.lexicon.specs.Word.{bytes, same, joined, start-of, between}
 use Rattle.symbol.specs.declared.Sort.{Sort}
 
 -- what a symbol is
@@ -185,6 +185,10 @@ sort-of macro = Sort.Macro
 -- where the list k starts, by a table of starts
 unfoldable pub start-in : List ℕ → ℕ → ℕ
 start-in starts k = getD starts k 0
+
+-- the list k of lists that are held one after the other, by their starts
+abbrev pub part : List ℕ → List ℕ → ℕ → List ℕ
+part whole starts k = between whole (start-in starts k) (start-in starts (k + 1))
 
 -- some lists are held one after the other, with where each starts and where the last one ends
 pub record Joined (parts : List (List ℕ)) (whole starts : List ℕ) : Type 0 where

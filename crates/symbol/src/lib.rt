@@ -3,10 +3,10 @@
 ghost use mathlib.Core.Path.{_≡_};
 ghost use Prim.Native.Nat.{_+_, _<_};
 ghost use lib.ListN.{length, getD};
-ghost use Rattle.lexicon.specs.Word.{same, between, Within};
+ghost use Rattle.lexicon.specs.Word.{same, Within};
 ghost use Rattle.token.specs.Cut.{cut, meanings-in, said};
 ghost use Rattle.token.specs.Table.{TokenTable};
-ghost use Rattle.symbol.specs.Symbol.{symbol-count, symbol-names, symbol-of, module-name, what-is, numbers-of, sort-of, iso-name, start-in, Joined};
+ghost use Rattle.symbol.specs.Symbol.{symbol-count, symbol-names, symbol-of, module-name, what-is, numbers-of, sort-of, iso-name, start-in, part, Joined};
 
 mod table;
 
@@ -20,9 +20,11 @@ use crate::table::NAMES;
 use crate::table::NUMBER_STARTS;
 use crate::table::NUMBERS;
 use crate::table::SORTS;
-use crate::table::SYMBOLS;
 use index::TokenIndex;
 use token::entry::has_name;
+
+// How many symbols there are: what `find` answers where a token names none.
+pub const SYMBOLS: usize = table::SYMBOLS;
 
 // What a symbol is: a name with an OID, a type with its class, or a macro.
 pub enum Sort {
@@ -68,7 +70,7 @@ fn has_name_of(
     requires index { ⌜ i .0 < n ⌝ }
     requires name { ⌜ k + 1 < length (now offsets) ⌝ }
     requires part { ⌜ Within (now names) (start-in (now offsets) k) (start-in (now offsets) (k + 1)) ⌝ }
-    ensures { λ r. ⌜ r ≡ same (said (meanings-in (now (text .entry))) (i .0) .spelling) (between (now (names .entry)) (start-in (now (offsets .entry)) k) (start-in (now (offsets .entry)) (k + 1))) ⌝ }
+    ensures { λ r. ⌜ r ≡ same (said (meanings-in (now (text .entry))) (i .0) .spelling) (part (now (names .entry)) (now (offsets .entry)) k) ⌝ }
 {
     let from = start(offsets, k);
     let to = start(offsets, k + 1);

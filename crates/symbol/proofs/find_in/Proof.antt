@@ -33,21 +33,35 @@ has-name-of-requires : tie.Need-has-name-of-requires Inv-loop μ-loop
 has-name-of-requires c κs =
     let l = c .before .before .before in
     let s = l .before .before in
-    (s .pre .0, (s .pre .1 .0, (search needs, part-within symbol-names _ _ (s .pre .1 .1) (l .loop .k) (in-names _ (c .before .before .loop-test .taken)))))
+    let h = in-names _ (c .before .before .loop-test .taken) in
+    (s .pre .0, (s .pre .1 .0, (search needs, part-within symbol-names _ _ (s .pre .1 .1) (l .loop .k) h)))
 
--- what the comparison answers is whether symbol k has the token's name
-answer : (c : tie.After-has-name-of Inv-loop μ-loop) → c .has-name-of .result ≡ named (c .before .before .before .before .before .before .args .text .now) (c .before .before .before .before .before .before .args .i .0) (c .before .before .before .before .loop .k)
+-- the loop where a name was compared
+abbrev Compared : Type 0
+Compared = tie.After-has-name-of Inv-loop μ-loop
+
+abbrev loop-at : Compared → tie.At-loop Inv-loop μ-loop
+loop-at c = c .before .before .before .before
+
+abbrev start-of : Compared → tie.Start Inv-loop μ-loop
+start-of c = loop-at c .before .before
+
+-- symbol k has the name of the token that is asked for
+abbrev wanted : Compared → ℕ → Bool
+wanted c = named (start-of c .args .text .now) (start-of c .args .i .0)
+
+-- what the comparison answers
+answer : (c : Compared) → wanted c (loop-at c .loop .k) ≡ c .has-name-of .result
 answer c =
-    let l = c .before .before .before .before in
-    let s = l .before .before in
-    part-compared symbol-names _ _ (s .pre .1 .1) (l .loop .k) (in-names _ (c .before .before .before .loop-test .taken)) _ (c .has-name-of .ensures)
+    let h = in-names _ (c .before .before .before .loop-test .taken) in
+    sym (part-compared symbol-names _ _ (start-of c .pre .1 .1) (loop-at c .loop .k) h _ (c .has-name-of .ensures))
 
 returns : tie.Need-returns Inv-loop μ-loop
 unfolding symbol-of
 returns c =
-    let l = c .before .before .before .before .before in
+    let l = loop-at (c .before) .loop in
     let h = c .before .before .before .before .loop-test .taken in
-    searched-hit (named _ _) 0 symbol-count (l .loop .k) (l .loop .inv) h (sym (answer (c .before)) ∙ c .if1 .taken)
+    searched-hit (wanted (c .before)) 0 symbol-count (l .k) (l .inv) h (answer (c .before) ∙ c .if1 .taken)
 
 add-k : tie.Need-add-k Inv-loop μ-loop
 add-k c = omega arith
@@ -57,9 +71,9 @@ loop-less c = omega arith
 
 loop-again : tie.Need-loop-again Inv-loop μ-loop
 loop-again c =
-    let l = c .before .before .before .before .before in
+    let l = loop-at (c .before) .loop in
     let h = c .before .before .before .before .loop-test .taken in
-    searched-miss (named _ _) 0 symbol-count (l .loop .k) (l .loop .inv) h (sym (answer (c .before)) ∙ c .if1 .left)
+    searched-miss (wanted (c .before)) 0 symbol-count (l .k) (l .inv) h (answer (c .before) ∙ c .if1 .left)
 
 returns-2 : tie.Need-returns-2 Inv-loop μ-loop
 unfolding symbol-of

@@ -29,11 +29,14 @@ start-requires-2 : tie.Need-start-requires-2
 start-requires-2 c κs = search needs
 
 -- where the numbers start and end
-ends : (c : tie.After-start2) → c .start2 .result ≡ c .before .before .start .result + length (numbers-of (c .before .before .before .before .args .k))
+abbrev start-of : tie.After-start2 → tie.Start
+start-of c = c .before .before .before .before
+
+ends : (c : tie.After-start2) → c .start2 .result ≡ c .before .before .start .result + length (numbers-of (start-of c .args .k))
 unfolding symbol-numbers symbols of-smi of-tc below-internet internet numbers joined starts-there
 ends c =
-    let s = c .before .before .before .before in
-    numbers-length (s .args .k) (s .pre) (c .before .before .start .ensures) (joined-table symbol-numbers _ _ refl refl tt) (c .start2 .ensures)
+    let table = joined-table symbol-numbers _ _ refl refl tt in
+    numbers-length (start-of c .args .k) (start-of c .pre) (c .before .before .start .ensures) table (c .start2 .ensures)
 
 sub-result : tie.Need-sub-result
 sub-result c = omega (arith, ends c)
