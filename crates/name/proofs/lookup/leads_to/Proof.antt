@@ -1,26 +1,57 @@
--- 
+-- `leads_to` is right because each look-up in an array is one in the list that it holds.
 -- Assumes nothing.
+use mathlib.Core.Path.{_≡_, sym, ap, _∙_}
+use mathlib.Core.List.{List}
+use Prim.Native.Nat.{ℕ}
+use borrow.Author.Tests.{lt-ltb, le-ltb}
+use lib.ListN.{length}
+use Rattle.token.specs.Token.{Meaning}
+use Rattle.token.specs.Cut.{meanings-in}
+use Rattle.definition.specs.Landmark.{definitions}
+use Rattle.name.specs.Import.{classes-of, spelled, imports}
+use Rattle.name.specs.Collect.{NameTable}
+use Rattle.name.specs.Lead.{named, leads-to}
+use Rattle.name.specs.declared.Lead.{Lead}
+use Rattle.name.specs.declared.Lead.the-variants.{Import, Definition}
+use Rattle.name.proofs.Names.{names-said, imports-in, definitions-in, listed-named}
 use borrow.Author.Needs.{needs}
 use Rattle.name.proofs.lookup.leads_to.Statement.{statement}
 use Rattle.name.proofs.lookup.leads_to.Tie as tie
+
+abbrev said-by : tie.Start → List Meaning
+said-by s = meanings-in (s .args .text .now)
+
+abbrev name-of : tie.Start → List ℕ
+name-of s = spelled (said-by s) (s .args .i .0)
+
+names : (s : tie.Start) → NameTable (classes-of (said-by s)) (s .args .imported .now) (s .args .m) (s .args .defined .now) (s .args .c)
+names s = names-said _ _ _ _ _ _ (s .pre .0) _ _ _ _ (s .pre .1 .0)
 
 is-iso-requires : tie.Need-is-iso-requires
 is-iso-requires c κs = search needs
 
 returns : tie.Need-returns
-returns c = ?
+unfolding leads-to
+returns c = simp (sym (c .before .is-iso .ensures) ∙ c .if1 .taken)
 
 named-requires : tie.Need-named-requires
-named-requires c κs = ?
+named-requires c κs =
+    let s = c .before .before .before .before in
+    (s .pre .0, (imports-in _ _ _ _ _ _ (s .pre .0) _ _ _ _ (s .pre .1 .0), s .pre .1 .1))
 
 find-requires : tie.Need-find-requires
 find-requires c κs = search needs
 
 returns-2 : tie.Need-returns-2
-returns-2 c = ?
+unfolding leads-to
+returns-2 c =
+    let s = c .before .before .before .before .before .before .before in
+    ?
 
 named-requires-2 : tie.Need-named-requires-2
-named-requires-2 c κs = ?
+named-requires-2 c κs =
+    let s = c .before .before .before .before .before .before .before in
+    (s .pre .0, (definitions-in _ _ _ _ _ _ (s .pre .0) _ _ _ _ (s .pre .1 .0), s .pre .1 .1))
 
 returns-3 : tie.Need-returns-3
 returns-3 c = ?
