@@ -1,4 +1,5 @@
--- `restriction_at` is right: it goes by the first two tokens as the definition does, and each span ends at the first bracket that closes it.
+-- `restriction_at` is right: it goes by the first two tokens as the definition does, and each span ends at the first bracket
+-- that closes it.
 -- Assumes nothing.
 use borrow.Author.Needs.{needs}
 use borrow.Author.Tests.{eq-eqb, ne-eqb}
