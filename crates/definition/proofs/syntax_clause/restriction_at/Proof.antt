@@ -1,12 +1,9 @@
 -- `restriction_at` is right: it goes by the first two tokens as the definition does, and each span ends at the first bracket
 -- that closes it.
 -- Assumes nothing.
-use mathlib.Core.Path.{ap}
-use Prim.Native.Nat.{ℕ, _+_}
 use borrow.Author.Needs.{needs}
 use borrow.Author.Tests.{eq-eqb, ne-eqb}
-use Rattle.definition.specs.declared.Restriction.the-variants.{Ranges, Sizes, Enumeration}
-use Rattle.definition.specs.Fields.{span, restriction-at}
+use Rattle.definition.specs.Fields.{restriction-at}
 use Rattle.definition.proofs.syntax_clause.restriction_at.Statement.{statement}
 use Rattle.definition.proofs.syntax_clause.restriction_at.Tie as tie
 
@@ -23,9 +20,8 @@ returns : tie.Need-returns
 unfolding restriction-at
 returns c =
     let brace = c .before in
-    let r = brace .before .before .before .args .r in
     rw (← brace .before .class-at .ensures)
-    (simp (eq-eqb _ _ (brace .if1 .taken)) (ap (λ (t : ℕ). Enumeration (span (r + 1) t)) (c .find .ensures)))
+    (simp (eq-eqb _ _ (brace .if1 .taken)) (rw (c .find .ensures)))
 
 returns-2 : tie.Need-returns-2
 unfolding restriction-at
@@ -57,10 +53,9 @@ returns-3 c =
     let size = c .before in
     let paren = size .before .before in
     let other = paren .before in
-    let r = other .before .before .before .args .r in
     rw (← other .before .class-at .ensures, ← size .before .class-at2 .ensures)
     (simp (ne-eqb _ _ (other .if1 .left), eq-eqb _ _ (paren .if2 .left), eq-eqb _ _ (size .if3 .taken))
-    (ap (λ (t : ℕ). Sizes (span (r + 3) t)) (c .find2 .ensures)))
+    (rw (c .find2 .ensures)))
 
 returns-4 : tie.Need-returns-4
 unfolding restriction-at
@@ -68,10 +63,9 @@ returns-4 c =
     let size = c .before in
     let paren = size .before .before in
     let other = paren .before in
-    let r = other .before .before .before .args .r in
     rw (← other .before .class-at .ensures, ← size .before .class-at2 .ensures)
     (simp (ne-eqb _ _ (other .if1 .left), eq-eqb _ _ (paren .if2 .left), ne-eqb _ _ (size .if3 .left))
-    (ap (λ (t : ℕ). Ranges (span (r + 1) t)) (c .find3 .ensures)))
+    (rw (c .find3 .ensures)))
 
 pub restriction-at-spec : {M : Type 1} → statement M
 restriction-at-spec =
