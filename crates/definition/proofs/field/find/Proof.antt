@@ -31,10 +31,8 @@ class-at-requires c κs = search needs
 
 returns : tie.Need-returns Inv-loop μ-loop
 returns c =
-    let at = c .before .before .before in
-    let args = at .before .before .args in
-    passed-hit (is-of (args .classes .now) (args .n) (args .class)) (args .a) (args .b) (at .loop .i) (at .loop .inv)
-    (c .before .before .loop-test .taken)
+    let test = c .before .before in
+    passed-hit _ _ _ _ (test .before .loop .inv) (test .loop-test .taken)
     (eq-eqb _ _ (sym (c .before .class-at .ensures) ∙ c .if1 .taken))
 
 add-i : tie.Need-add-i Inv-loop μ-loop
@@ -45,18 +43,12 @@ loop-less c = search needs
 
 loop-again : tie.Need-loop-again Inv-loop μ-loop
 loop-again c =
-    let at = c .before .before .before in
-    let args = at .before .before .args in
-    passed-miss (is-of (args .classes .now) (args .n) (args .class)) (args .a) (args .b) (at .loop .i) (at .loop .inv)
-    (c .before .before .loop-test .taken)
+    let test = c .before .before in
+    passed-miss _ _ _ _ (test .before .loop .inv) (test .loop-test .taken)
     (ne-eqb _ _ (λ e. c .if1 .left (c .before .class-at .ensures ∙ e)))
 
 returns-2 : tie.Need-returns-2 Inv-loop μ-loop
-returns-2 c =
-    let at = c .before in
-    let args = at .before .before .args in
-    passed-end (is-of (args .classes .now) (args .n) (args .class)) (args .a) (args .b) (at .loop .i) (at .loop .inv)
-    (c .loop-test .left)
+returns-2 c = passed-end _ _ _ _ (c .before .loop .inv) (c .loop-test .left)
 
 pub find-spec : {M : Type 1} → statement M
 find-spec =

@@ -26,10 +26,8 @@ is-syntax-end-requires c κs = search needs
 
 returns : tie.Need-returns Inv-loop μ-loop
 returns c =
-    let at = c .before .before .before .before in
-    let args = at .before .before .args in
-    passed-hit (ends-syntax (take (args .n) (args .classes .now))) (args .a) (args .b) (at .loop .i) (at .loop .inv)
-    (c .before .before .before .loop-test .taken)
+    let test = c .before .before .before in
+    passed-hit _ _ _ _ (test .before .loop .inv) (test .loop-test .taken)
     (rw (← c .before .before .class-at .ensures) (sym (c .before .is-syntax-end .ensures) ∙ c .if1 .taken))
 
 add-i : tie.Need-add-i Inv-loop μ-loop
@@ -40,18 +38,12 @@ loop-less c = search needs
 
 loop-again : tie.Need-loop-again Inv-loop μ-loop
 loop-again c =
-    let at = c .before .before .before .before in
-    let args = at .before .before .args in
-    passed-miss (ends-syntax (take (args .n) (args .classes .now))) (args .a) (args .b) (at .loop .i) (at .loop .inv)
-    (c .before .before .before .loop-test .taken)
+    let test = c .before .before .before in
+    passed-miss _ _ _ _ (test .before .loop .inv) (test .loop-test .taken)
     (rw (← c .before .before .class-at .ensures) (sym (c .before .is-syntax-end .ensures) ∙ c .if1 .left))
 
 returns-2 : tie.Need-returns-2 Inv-loop μ-loop
-returns-2 c =
-    let at = c .before in
-    let args = at .before .before .args in
-    passed-end (ends-syntax (take (args .n) (args .classes .now))) (args .a) (args .b) (at .loop .i) (at .loop .inv)
-    (c .loop-test .left)
+returns-2 c = passed-end _ _ _ _ (c .before .loop .inv) (c .loop-test .left)
 
 pub find-syntax-end-spec : {M : Type 1} → statement M
 find-syntax-end-spec =

@@ -34,8 +34,7 @@ unfolding definition-end
 returns c =
     let at = c .before .before .before in
     let start = at .before .before in
-    let cs = take (start .args .n) (start .args .classes .now) in
-    passed-hit (begins cs) (start .args .d + 1) (last cs) (at .loop .i) (at .loop .inv)
+    passed-hit _ _ _ _ (at .loop .inv)
     (omega (arith, length-take-le (start .args .n) (start .args .classes .now) (start .pre .0)))
     (sym (c .before .begins .ensures) ∙ c .if1 .taken)
 
@@ -49,18 +48,15 @@ loop-again : tie.Need-loop-again Inv-loop μ-loop
 loop-again c =
     let at = c .before .before .before in
     let start = at .before .before in
-    let cs = take (start .args .n) (start .args .classes .now) in
-    passed-miss (begins cs) (start .args .d + 1) (last cs) (at .loop .i) (at .loop .inv)
+    passed-miss _ _ _ _ (at .loop .inv)
     (omega (arith, length-take-le (start .args .n) (start .args .classes .now) (start .pre .0)))
     (sym (c .before .begins .ensures) ∙ c .if1 .left)
 
 returns-2 : tie.Need-returns-2 Inv-loop μ-loop
 unfolding definition-end
 returns-2 c =
-    let at = c .before in
-    let start = at .before .before in
-    let cs = take (start .args .n) (start .args .classes .now) in
-    passed-end (begins cs) (start .args .d + 1) (last cs) (at .loop .i) (at .loop .inv)
+    let start = c .before .before .before in
+    passed-end _ _ _ _ (c .before .loop .inv)
     (omega (arith, length-take-le (start .args .n) (start .args .classes .now) (start .pre .0)))
 
 pub definition-end-spec : {M : Type 1} → statement M

@@ -1,8 +1,9 @@
 -- `kind_at` is right: it is the definition, test by test.
 -- Assumes nothing.
+use mathlib.Core.Path.{refl}
 use borrow.Author.Needs.{needs}
-use borrow.Author.Tests.{eq-eqb, ne-eqb}
 use Rattle.definition.specs.Landmark.{kind-at}
+use Rattle.definition.proofs.Cases.{same, other}
 use Rattle.definition.proofs.landmark.kind_at.Statement.{statement}
 use Rattle.definition.proofs.landmark.kind_at.Tie as tie
 
@@ -22,14 +23,14 @@ returns : tie.Need-returns
 unfolding kind-at
 returns c =
     rw (← c .before .class-at .ensures)
-    (simp (eq-eqb _ _ (c .if1 .taken)))
+    (same _ _ (c .if1 .taken))
 
 returns-2 : tie.Need-returns-2
 unfolding kind-at
 returns-2 c =
     let first = c .before in
     rw (← first .before .class-at .ensures)
-    (simp (ne-eqb _ _ (first .if1 .left), eq-eqb _ _ (c .if2 .taken)))
+    (other _ (first .if1 .left) (same _ _ (c .if2 .taken)))
 
 returns-3 : tie.Need-returns-3
 unfolding kind-at
@@ -37,7 +38,7 @@ returns-3 c =
     let second = c .before in
     let first = second .before in
     rw (← first .before .class-at .ensures)
-    (simp (ne-eqb _ _ (first .if1 .left), ne-eqb _ _ (second .if2 .left), eq-eqb _ _ (c .if3 .taken)))
+    (other _ (first .if1 .left) (other _ (second .if2 .left) (same _ _ (c .if3 .taken))))
 
 returns-4 : tie.Need-returns-4
 unfolding kind-at
@@ -46,7 +47,7 @@ returns-4 c =
     let second = third .before in
     let first = second .before in
     rw (← first .before .class-at .ensures)
-    (simp (ne-eqb _ _ (first .if1 .left), ne-eqb _ _ (second .if2 .left), ne-eqb _ _ (third .if3 .left), eq-eqb _ _ (c .if4 .taken)))
+    (other _ (first .if1 .left) (other _ (second .if2 .left) (other _ (third .if3 .left) (same _ _ (c .if4 .taken)))))
 
 returns-5 : tie.Need-returns-5
 unfolding kind-at
@@ -56,7 +57,11 @@ returns-5 c =
     let second = third .before in
     let first = second .before in
     rw (← first .before .class-at .ensures)
-    (simp (ne-eqb _ _ (first .if1 .left), ne-eqb _ _ (second .if2 .left), ne-eqb _ _ (third .if3 .left), ne-eqb _ _ (fourth .if4 .left), eq-eqb _ _ (c .if5 .taken)))
+    (other _ (first .if1 .left)
+    (other _ (second .if2 .left)
+    (other _ (third .if3 .left)
+    (other _ (fourth .if4 .left)
+    (same _ _ (c .if5 .taken))))))
 
 returns-6 : tie.Need-returns-6
 unfolding kind-at
@@ -67,7 +72,12 @@ returns-6 c =
     let second = third .before in
     let first = second .before in
     rw (← first .before .class-at .ensures, ← c .before .class-at2 .ensures)
-    (simp (ne-eqb _ _ (first .if1 .left), ne-eqb _ _ (second .if2 .left), ne-eqb _ _ (third .if3 .left), ne-eqb _ _ (fourth .if4 .left), ne-eqb _ _ (fifth .if5 .left), eq-eqb _ _ (c .if6 .taken)))
+    (other _ (first .if1 .left)
+    (other _ (second .if2 .left)
+    (other _ (third .if3 .left)
+    (other _ (fourth .if4 .left)
+    (other _ (fifth .if5 .left)
+    (same _ _ (c .if6 .taken)))))))
 
 returns-7 : tie.Need-returns-7
 unfolding kind-at
@@ -78,7 +88,12 @@ returns-7 c =
     let second = third .before in
     let first = second .before in
     rw (← first .before .class-at .ensures, ← c .before .class-at2 .ensures)
-    (simp (ne-eqb _ _ (first .if1 .left), ne-eqb _ _ (second .if2 .left), ne-eqb _ _ (third .if3 .left), ne-eqb _ _ (fourth .if4 .left), ne-eqb _ _ (fifth .if5 .left), ne-eqb _ _ (c .if6 .left)))
+    (other _ (first .if1 .left)
+    (other _ (second .if2 .left)
+    (other _ (third .if3 .left)
+    (other _ (fourth .if4 .left)
+    (other _ (fifth .if5 .left)
+    (other _ (c .if6 .left) refl))))))
 
 pub kind-at-spec : {M : Type 1} → statement M
 kind-at-spec =

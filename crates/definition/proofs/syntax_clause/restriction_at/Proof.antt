@@ -1,4 +1,5 @@
--- `restriction_at` is right: it goes by the first two tokens as the definition does, and each span ends at the first bracket that closes it.
+-- `restriction_at` is right: it goes by the first two tokens as the definition does, and each span ends at the first bracket
+-- that closes it.
 -- Assumes nothing.
 use borrow.Author.Needs.{needs}
 use borrow.Author.Tests.{eq-eqb, ne-eqb}
@@ -19,7 +20,8 @@ returns : tie.Need-returns
 unfolding restriction-at
 returns c =
     let brace = c .before in
-    rw (← brace .before .class-at .ensures, ← c .find .ensures) (simp (eq-eqb _ _ (brace .if1 .taken)))
+    rw (← brace .before .class-at .ensures)
+    (simp (eq-eqb _ _ (brace .if1 .taken)) (rw (c .find .ensures)))
 
 returns-2 : tie.Need-returns-2
 unfolding restriction-at
@@ -51,8 +53,9 @@ returns-3 c =
     let size = c .before in
     let paren = size .before .before in
     let other = paren .before in
-    rw (← other .before .class-at .ensures, ← size .before .class-at2 .ensures, ← c .find2 .ensures)
-    (simp (ne-eqb _ _ (other .if1 .left), eq-eqb _ _ (paren .if2 .left), eq-eqb _ _ (size .if3 .taken)))
+    rw (← other .before .class-at .ensures, ← size .before .class-at2 .ensures)
+    (simp (ne-eqb _ _ (other .if1 .left), eq-eqb _ _ (paren .if2 .left), eq-eqb _ _ (size .if3 .taken))
+    (rw (c .find2 .ensures)))
 
 returns-4 : tie.Need-returns-4
 unfolding restriction-at
@@ -60,8 +63,9 @@ returns-4 c =
     let size = c .before in
     let paren = size .before .before in
     let other = paren .before in
-    rw (← other .before .class-at .ensures, ← size .before .class-at2 .ensures, ← c .find3 .ensures)
-    (simp (ne-eqb _ _ (other .if1 .left), eq-eqb _ _ (paren .if2 .left), ne-eqb _ _ (size .if3 .left)))
+    rw (← other .before .class-at .ensures, ← size .before .class-at2 .ensures)
+    (simp (ne-eqb _ _ (other .if1 .left), eq-eqb _ _ (paren .if2 .left), ne-eqb _ _ (size .if3 .left))
+    (rw (c .find3 .ensures)))
 
 pub restriction-at-spec : {M : Type 1} → statement M
 restriction-at-spec =

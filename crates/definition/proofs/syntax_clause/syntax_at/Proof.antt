@@ -1,8 +1,9 @@
 -- `syntax_at` is right: it is the definition, test by test.
 -- Assumes nothing.
+use mathlib.Core.Path.{refl}
 use borrow.Author.Needs.{needs}
-use borrow.Author.Tests.{eq-eqb, ne-eqb}
 use Rattle.definition.specs.Fields.{syntax-at}
+use Rattle.definition.proofs.Cases.{same, other}
 use Rattle.definition.proofs.syntax_clause.syntax_at.Statement.{statement}
 use Rattle.definition.proofs.syntax_clause.syntax_at.Tie as tie
 
@@ -41,7 +42,7 @@ unfolding syntax-at
 returns c =
     let first = c .before in
     rw (← first .before .class-at .ensures, ← c .restriction-at .ensures)
-    (simp (eq-eqb _ _ (first .if1 .taken)))
+    (same _ _ (first .if1 .taken))
 
 returns-2 : tie.Need-returns-2
 unfolding syntax-at
@@ -49,7 +50,7 @@ returns-2 c =
     let second = c .before in
     let first = second .before in
     rw (← first .before .class-at .ensures, ← c .restriction-at2 .ensures)
-    (simp (ne-eqb _ _ (first .if1 .left), eq-eqb _ _ (second .if2 .taken)))
+    (other _ (first .if1 .left) (same _ _ (second .if2 .taken)))
 
 returns-3 : tie.Need-returns-3
 unfolding syntax-at
@@ -58,7 +59,7 @@ returns-3 c =
     let second = third .before in
     let first = second .before in
     rw (← first .before .class-at .ensures, ← c .restriction-at3 .ensures)
-    (simp (ne-eqb _ _ (first .if1 .left), ne-eqb _ _ (second .if2 .left), eq-eqb _ _ (third .if3 .taken)))
+    (other _ (first .if1 .left) (other _ (second .if2 .left) (same _ _ (third .if3 .taken))))
 
 returns-4 : tie.Need-returns-4
 unfolding syntax-at
@@ -67,7 +68,7 @@ returns-4 c =
     let second = third .before in
     let first = second .before in
     rw (← first .before .class-at .ensures)
-    (simp (ne-eqb _ _ (first .if1 .left), ne-eqb _ _ (second .if2 .left), ne-eqb _ _ (third .if3 .left), eq-eqb _ _ (c .if4 .taken)))
+    (other _ (first .if1 .left) (other _ (second .if2 .left) (other _ (third .if3 .left) (same _ _ (c .if4 .taken)))))
 
 returns-5 : tie.Need-returns-5
 unfolding syntax-at
@@ -78,7 +79,11 @@ returns-5 c =
     let second = third .before in
     let first = second .before in
     rw (← first .before .class-at .ensures, ← c .restriction-at4 .ensures)
-    (simp (ne-eqb _ _ (first .if1 .left), ne-eqb _ _ (second .if2 .left), ne-eqb _ _ (third .if3 .left), ne-eqb _ _ (fourth .if4 .left), eq-eqb _ _ (fifth .if5 .taken)))
+    (other _ (first .if1 .left)
+    (other _ (second .if2 .left)
+    (other _ (third .if3 .left)
+    (other _ (fourth .if4 .left)
+    (same _ _ (fifth .if5 .taken))))))
 
 returns-6 : tie.Need-returns-6
 unfolding syntax-at
@@ -88,7 +93,11 @@ returns-6 c =
     let second = third .before in
     let first = second .before in
     rw (← first .before .class-at .ensures)
-    (simp (ne-eqb _ _ (first .if1 .left), ne-eqb _ _ (second .if2 .left), ne-eqb _ _ (third .if3 .left), ne-eqb _ _ (fourth .if4 .left), ne-eqb _ _ (c .if5 .left)))
+    (other _ (first .if1 .left)
+    (other _ (second .if2 .left)
+    (other _ (third .if3 .left)
+    (other _ (fourth .if4 .left)
+    (other _ (c .if5 .left) refl)))))
 
 pub syntax-at-spec : {M : Type 1} → statement M
 syntax-at-spec =
