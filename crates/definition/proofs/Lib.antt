@@ -1,3 +1,4 @@
 pub mod Cases
 pub mod Found
 pub mod Inside
+pub mod Next

@@ -3,14 +3,13 @@
 use mathlib.Core.Path.{_≡_, sym, subst}
 use mathlib.Core.Bool.{Bool, true, false, cond}
 use mathlib.Core.List.{List}
-use Prim.Native.Nat.{ℕ, _+_, _-_, _≤_, _<_}
+use Prim.Native.Nat.{ℕ, _-_, _≤_, _<_}
 use native.Mathlib.Omega.{arith}
 use lib.Dec.{eqb}
 use lib.ListN.{length, getD}
 use Rattle.terminal.specs.Terminal.{semicolon, IMPORTS}
-use Rattle.index.specs.First.{first, hits, Listed}
+use Rattle.index.specs.First.{hits, Listed}
 use Rattle.index.proofs.Search.{first-from}
-use Rattle.index.proofs.Hits.{hit-inside}
 use Rattle.definition.specs.Landmark.{class-at, begins, last, definitions}
 use Rattle.definition.specs.Fields.{find}
 use Rattle.name.specs.Import.{imports-start, imports-end, is-symbol, imports}

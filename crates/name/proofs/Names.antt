@@ -1,8 +1,8 @@
 -- What the arrays of names hold, said of what the tokens say; and the look-up in them.
 -- Assumes nothing.
-use mathlib.Core.Path.{_≡_, refl, sym, ap, subst, _∙_}
+use mathlib.Core.Path.{_≡_, sym, ap, subst, _∙_}
 use mathlib.Core.Bool.{Bool, true, false, cond}
-use mathlib.Core.List.{List, map}
+use mathlib.Core.List.{List}
 use Prim.Native.Nat.{ℕ, _-_, _≤_, _<_}
 use native.Mathlib.Decide.{decLt}
 use native.Mathlib.Omega.{arith}
@@ -10,11 +10,11 @@ use lib.Dec.{eqb}
 use lib.ListN.{length, getD, take, length-map, List·getD-map}
 use lib.Seq.{length-take-le, getD-take, ext-getD}
 use Rattle.terminal.specs.Terminal.{semicolon, IMPORTS}
-use Rattle.index.specs.First.{first, hits, Listed}
-use Rattle.index.proofs.Search.{first-from, first-inside, first-none, first-same}
+use Rattle.index.specs.First.{first, Listed}
+use Rattle.index.proofs.Search.{first-inside, first-none, first-same}
 use Rattle.index.proofs.Hits.{hit-inside}
 use Rattle.lexicon.specs.Word.{same}
-use Rattle.token.specs.Token.{Tok, Meaning, meanings, no-token, no-meaning, tok, meaning}
+use Rattle.token.specs.Token.{Tok, Meaning, meanings, no-meaning, tok, meaning}
 use Rattle.token.specs.Table.{TokenTable}
 use Rattle.token.proofs.Entries.{class-at, said-at}
 use Rattle.definition.specs.Landmark.{begins, last, definitions}

@@ -1,5 +1,3 @@
 pub mod Import
 pub mod Collect
 pub mod Lead
-pub mod Use
-pub mod Refusal

@@ -1,13 +1,12 @@
 -- `collect_definitions` is right by the law of collecting loops, and the hit past the last entry is the one too many.
 -- Assumes nothing.
 use mathlib.Core.List.{List}
-use mathlib.Core.Path.{subst, _≡_, refl, sym, _∙_}
+use mathlib.Core.Path.{subst, _≡_, sym, _∙_}
 use Prim.Native.Nat.{ℕ, _+_, _-_, _≤_, _<_}
 use native.Mathlib.Omega.{arith}
 use lib.ListN.{length, getD, take, length-set}
 use lib.Seq.{length-take-le}
 use Rattle.index.proofs.Collected.{Collecting, collecting-start, collecting-miss, collecting-hit, collecting-end, hit-is, hit-more}
-use Rattle.token.specs.Table.{longest-text}
 use Rattle.definition.specs.Landmark.{begins, last, definitions}
 use Rattle.name.specs.Collect.{most-definitions}
 use Rattle.name.proofs.Imports.{definitions-listed, too-many}

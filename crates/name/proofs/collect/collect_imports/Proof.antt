@@ -1,11 +1,10 @@
 -- `collect_imports` is right by the law of collecting loops.
 -- Assumes nothing.
-use mathlib.Core.Path.{_≡_, refl, sym, _∙_}
-use Prim.Native.Nat.{_+_, _-_, _≤_, _<_}
+use mathlib.Core.Path.{_≡_, sym, _∙_}
+use Prim.Native.Nat.{_-_}
 use native.Mathlib.Omega.{arith}
 use lib.ListN.{length, take, length-set}
-use lib.Seq.{length-take-le}
-use Rattle.index.proofs.Collected.{Collecting, collecting-start, collecting-miss, collecting-hit, collecting-end, hit-is, hit-more}
+use Rattle.index.proofs.Collected.{Collecting, collecting-start, collecting-miss, collecting-hit, collecting-end}
 use Rattle.token.specs.Table.{longest-text}
 use Rattle.name.specs.Import.{imports-start, is-symbol}
 use Rattle.name.proofs.Imports.{end-after, imports-listed}

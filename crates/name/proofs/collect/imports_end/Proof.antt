@@ -1,8 +1,7 @@
 -- `imports_end` is right because it asks the word where IMPORTS may stand, and finds the next `;`.
 -- Assumes nothing.
-use mathlib.Core.Path.{_≡_, sym, _∙_}
+use mathlib.Core.Path.{sym, _∙_}
 use borrow.Author.Tests.{eq-eqb, ne-eqb}
-use lib.ListN.{length, take}
 use lib.Seq.{length-take-le}
 use Rattle.name.specs.Import.{imports-end}
 use borrow.Author.Needs.{needs}

@@ -1,19 +1,14 @@
 -- `leads_to` is right because each look-up in an array is one in the list that it holds.
 -- Assumes nothing.
-use mathlib.Core.Path.{_≡_, sym, ap, _∙_}
+use mathlib.Core.Path.{sym, _∙_}
 use mathlib.Core.List.{List}
 use Prim.Native.Nat.{ℕ}
-use borrow.Author.Tests.{lt-ltb, le-ltb}
-use lib.ListN.{length}
 use Rattle.token.specs.Token.{Meaning}
 use Rattle.token.specs.Cut.{meanings-in}
-use Rattle.definition.specs.Landmark.{definitions}
-use Rattle.name.specs.Import.{classes-of, spelled, imports}
+use Rattle.name.specs.Import.{classes-of, spelled}
 use Rattle.name.specs.Collect.{NameTable}
-use Rattle.name.specs.Lead.{named, leads-to}
-use Rattle.name.specs.declared.Lead.{Lead}
-use Rattle.name.specs.declared.Lead.the-variants.{Import, Definition}
-use Rattle.name.proofs.Names.{names-said, imports-in, definitions-in, listed-named}
+use Rattle.name.specs.Lead.{leads-to}
+use Rattle.name.proofs.Names.{names-said, imports-in, definitions-in}
 use borrow.Author.Needs.{needs}
 use Rattle.name.proofs.lookup.leads_to.Statement.{statement}
 use Rattle.name.proofs.lookup.leads_to.Tie as tie

@@ -11,9 +11,9 @@ use Rattle.lexicon.specs.Word.{same}
 use Rattle.token.specs.Token.{Meaning}
 use Rattle.symbol.specs.Symbol.{iso-name}
 use Rattle.definition.specs.Landmark.{definitions}
 use Rattle.name.specs.Import.{classes-of, spelled, imports, imports-end, offered}
 use Rattle.name.specs.Collect.{most-definitions}
-use Rattle.name.specs.Use.{is-unknown}
+use Rattle.name_rule.specs.Serve.{is-unknown}
 
 -- 8: a 513th definition
 unfoldable pub too-many : List Meaning → Rule

@@ -1,0 +1,1 @@
+// Refusals 8 to 11.
