@@ -6,7 +6,8 @@ use mathlib.Core.List.{List}
 use Prim.Native.Nat.{ℕ, _-_, _≤_, _<_}
 use native.Mathlib.Decide.{decLt}
 use native.Mathlib.Omega.{arith}
-use lib.Dec.{eqb}
+use lib.Dec.{eqb, ltb}
+use borrow.Author.Tests.{lt-ltb, le-ltb}
 use lib.ListN.{length, getD, take, length-map, List·getD-map}
 use lib.Seq.{length-take-le, getD-take, ext-getD}
 use Rattle.terminal.specs.Terminal.{semicolon, IMPORTS}
@@ -22,7 +23,9 @@ use Rattle.definition.specs.Landmark.{class-at as class-there}
 use Rattle.definition.specs.Fields.{find}
 use Rattle.name.specs.Import.{classes-of, spelled, imports-start, imports-end, is-symbol, imports}
 use Rattle.name.specs.Collect.{NameTable, TokensIn}
-use Rattle.name.specs.Lead.{named}
+use Rattle.symbol.specs.Symbol.{iso-name, symbol-of}
+use Rattle.name.specs.Lead.{named, leads-to}
+use Rattle.name.specs.declared.Lead.the-variants.{Import, Definition, Nothing}
 
 -- the classes in a table are those of what its tokens say
 module _ (text : List ℕ) (ts : List Tok) (classes starts ends : List ℕ) (n : ℕ) (t : TokenTable text ts classes starts ends n) where
@@ -106,3 +109,35 @@ module _
     definitions-in =
         listed-in (definitions (take n classes)) defined c n (names .definition-list)
         (λ k h. omega (arith, definition-inside (take n classes) k h, counted text ts classes starts ends n t))
+
+-- what a name leads to, by what the look-ups in the two arrays answer
+module _
+    (ms : List Meaning) (imported : List ℕ) (m : ℕ) (defined : List ℕ) (c : ℕ) (names : NameTable (classes-of ms) imported m defined c)
+    (s : List ℕ) (other : same s iso-name ≡ false) (k : ℕ) (looked : k ≡ first (λ (j : ℕ). same (spelled ms (getD imported j 0)) s) 0 m)
+  where
+    in-imports : k ≡ named ms (imports (classes-of ms)) s
+    in-imports = looked ∙ listed-named ms (imports (classes-of ms)) imported m s (names .import-list)
+
+    pub lead-import : k < m → (symbol : ℕ) → symbol ≡ symbol-of s → Import symbol ≡ leads-to ms s
+    unfolding leads-to
+    lead-import h symbol is =
+        simp (other, lt-ltb (named ms (imports (classes-of ms)) s) (length (imports (classes-of ms))) (omega (arith, in-imports, names .import-list .counted)))
+        (ap Import is)
+
+    module _ (none : m ≤ k) (d : ℕ) (found : d ≡ first (λ (j : ℕ). same (spelled ms (getD defined j 0)) s) 0 c) where
+      in-definitions : d ≡ named ms (definitions (classes-of ms)) s
+      in-definitions = found ∙ listed-named ms (definitions (classes-of ms)) defined c s (names .definition-list)
+
+      no-import : ltb (named ms (imports (classes-of ms)) s) (length (imports (classes-of ms))) ≡ false
+      no-import = le-ltb (named ms (imports (classes-of ms)) s) (length (imports (classes-of ms))) (omega (arith, in-imports, names .import-list .counted))
+
+      pub lead-definition : d < c → Definition (record { 0 = d }) ≡ leads-to ms s
+      unfolding leads-to
+      lead-definition h =
+          simp (other, no-import, lt-ltb (named ms (definitions (classes-of ms)) s) (length (definitions (classes-of ms))) (omega (arith, in-definitions, names .definition-list .counted)))
+          (ap (λ (i : ℕ). Definition (record { 0 = i })) in-definitions)
+
+      pub lead-nothing : c ≤ d → Nothing ≡ leads-to ms s
+      unfolding leads-to
+      lead-nothing h =
+          simp (other, no-import, le-ltb (named ms (definitions (classes-of ms)) s) (length (definitions (classes-of ms))) (omega (arith, in-definitions, names .definition-list .counted)))

@@ -8,7 +8,7 @@ use Rattle.token.specs.Cut.{meanings-in}
 use Rattle.name.specs.Import.{classes-of, spelled}
 use Rattle.name.specs.Collect.{NameTable}
 use Rattle.name.specs.Lead.{leads-to}
-use Rattle.name.proofs.Names.{names-said, imports-in, definitions-in}
+use Rattle.name.proofs.Names.{names-said, imports-in, definitions-in, lead-import, lead-definition, lead-nothing}
 use borrow.Author.Needs.{needs}
 use Rattle.name.proofs.lookup.leads_to.Statement.{statement}
 use Rattle.name.proofs.lookup.leads_to.Tie as tie
@@ -38,10 +38,11 @@ find-requires : tie.Need-find-requires
 find-requires c κs = search needs
 
 returns-2 : tie.Need-returns-2
-unfolding leads-to
 returns-2 c =
     let s = c .before .before .before .before .before .before .before in
-    ?
+    let iso = c .before .before .before .before in
+    lead-import (said-by s) _ _ _ _ (names s) (name-of s) (sym (iso .before .is-iso .ensures) ∙ iso .if1 .left)
+    _ (c .before .before .named .ensures) (c .before .if2 .taken) _ (c .find .ensures)
 
 named-requires-2 : tie.Need-named-requires-2
 named-requires-2 c κs =
@@ -49,10 +50,18 @@ named-requires-2 c κs =
     (s .pre .0, (definitions-in _ _ _ _ _ _ (s .pre .0) _ _ _ _ (s .pre .1 .0), s .pre .1 .1))
 
 returns-3 : tie.Need-returns-3
-returns-3 c = ?
+returns-3 c =
+    let s = c .before .before .before .before .before .before .before .before .before in
+    let iso = c .before .before .before .before .before .before in
+    lead-definition (said-by s) _ _ _ _ (names s) (name-of s) (sym (iso .before .is-iso .ensures) ∙ iso .if1 .left)
+    _ (c .before .before .before .before .named .ensures) (c .before .before .before .if2 .left) _ (c .before .named2 .ensures) (c .if3 .taken)
 
 returns-4 : tie.Need-returns-4
-returns-4 c = ?
+returns-4 c =
+    let s = c .before .before .before .before .before .before .before .before .before in
+    let iso = c .before .before .before .before .before .before in
+    lead-nothing (said-by s) _ _ _ _ (names s) (name-of s) (sym (iso .before .is-iso .ensures) ∙ iso .if1 .left)
+    _ (c .before .before .before .before .named .ensures) (c .before .before .before .if2 .left) _ (c .before .named2 .ensures) (c .if3 .left)
 
 pub leads-to-spec : {M : Type 1} → statement M
 leads-to-spec =
