@@ -5,6 +5,7 @@ use mathlib.Core.List.{List}
 use Prim.Native.Nat.{ℕ, _≤_, _<_}
 use lib.ListN.{length, getD}
 use Rattle.index.specs.First.{Listed}
+use Rattle.token.specs.Table.{longest-text}
 use Rattle.definition.specs.Landmark.{definitions}
 use Rattle.name.specs.Import.{imports}
 use Rattle.name.specs.declared.collect.Collected.{Collected}
@@ -22,7 +23,9 @@ Collects cs array (TooMany i) = (most-definitions < length (definitions cs)) × 
 -- the two arrays hold the imports and the definitions of a module whose tokens have these classes
 pub record NameTable (cs imported : List ℕ) (m : ℕ) (defined : List ℕ) (c : ℕ) : Type 0 where
   pub import-list : Listed (imports cs) imported m
+  pub few-imports : m ≤ longest-text
   pub definition-list : Listed (definitions cs) defined c
+  pub few-definitions : c ≤ most-definitions
 
 -- the first entries of an array are indices of tokens, of which there are n
 pub record TokensIn (array : List ℕ) (count n : ℕ) : Type 0 where

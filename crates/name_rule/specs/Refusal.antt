@@ -49,8 +49,8 @@ defined-again ms = record {
   to = length (definitions (classes-of ms));
   breach = λ k.
       same (spelled ms (getD (definitions (classes-of ms)) k 0)) iso-name
-      || stands-in ms (imports (classes-of ms)) (length (imports (classes-of ms))) (spelled ms (getD (definitions (classes-of ms)) k 0))
-      || stands-in ms (definitions (classes-of ms)) k (spelled ms (getD (definitions (classes-of ms)) k 0));
+      || (stands-in ms (imports (classes-of ms)) (length (imports (classes-of ms))) (spelled ms (getD (definitions (classes-of ms)) k 0))
+      || stands-in ms (definitions (classes-of ms)) k (spelled ms (getD (definitions (classes-of ms)) k 0)));
   place = λ k. getD (definitions (classes-of ms)) k 0;
 }
 

@@ -1,0 +1,85 @@
+-- Refusal 9, by the look-ups in the arrays of names.
+-- Assumes nothing.
+use mathlib.Core.Path.{_≡_, refl, sym, ap, _∙_}
+use mathlib.Core.Bool.{Bool, true, false, cond, _||_}
+use mathlib.Core.List.{List}
+use Prim.Native.Nat.{ℕ, _≤_, _<_}
+use native.Mathlib.Omega.{arith}
+use lib.Dec.{ltb}
+use lib.ListN.{length, getD}
+use borrow.Author.Tests.{lt-ltb, le-ltb}
+use Rattle.index.specs.First.{first, any, Listed}
+use Rattle.index.proofs.Search.{first-same}
+use Rattle.lexicon.specs.Word.{same}
+use Rattle.token.specs.Token.{Meaning}
+use Rattle.symbol.specs.Symbol.{iso-name}
+use Rattle.definition.specs.Landmark.{definitions}
+use Rattle.name.specs.Import.{classes-of, spelled, imports}
+use Rattle.name.specs.Collect.{NameTable, TokensIn}
+use Rattle.name_rule.specs.Refusal.{stands-in, imported-again, defined-again}
+
+-- a look-up among the first entries of an array says whether the name stands in the list
+pub stands : (ms : List Meaning) (list array : List ℕ) (m k : ℕ) (s : List ℕ) → Listed list array m → k ≤ m
+    → ltb (first (λ (j : ℕ). same (spelled ms (getD array j 0)) s) 0 k) k ≡ stands-in ms list k s
+unfolding any
+stands ms list array m k s l h =
+    ap (λ (r : ℕ). ltb r k)
+    (first-same (λ (j : ℕ). same (spelled ms (getD array j 0)) s) (λ (j : ℕ). same (spelled ms (getD list j 0)) s) 0 k (omega arith)
+    (λ j _ p. ap (λ (i : ℕ). same (spelled ms i) s) (l .entry j (omega arith))))
+
+-- a test that is true decides a choice of tests, and one that is false leaves it to the others
+or-true : (a b : Bool) → a ≡ true → true ≡ (a || b)
+or-true a b e = rw e
+
+or-false : (a b c : Bool) → a ≡ false → c ≡ b → c ≡ (a || b)
+or-false a b c e q = rw e q
+
+module _ (ms : List Meaning) (imported : List ℕ) (m : ℕ) (defined : List ℕ) (c : ℕ) (names : NameTable (classes-of ms) imported m defined c) where
+  -- the import at k
+  module _ (k : ℕ) (h : k < m) (s : List ℕ) (is : s ≡ spelled ms (getD imported k 0)) where
+    import-name : s ≡ spelled ms (getD (imports (classes-of ms)) k 0)
+    import-name = is ∙ ap (spelled ms) (names .import-list .entry k h)
+
+    pub import-is-iso : same s iso-name ≡ true → true ≡ imported-again ms .breach k
+    unfolding imported-again
+    import-is-iso e = rw (← import-name) (or-true (same s iso-name) _ e)
+
+    pub import-stands : same s iso-name ≡ false → (r : ℕ) → r ≡ first (λ (j : ℕ). same (spelled ms (getD imported j 0)) s) 0 k → ltb r k ≡ imported-again ms .breach k
+    unfolding imported-again
+    import-stands e r q =
+        rw (← import-name)
+        (or-false (same s iso-name) _ _ e (ap (λ (x : ℕ). ltb x k) q ∙ stands ms (imports (classes-of ms)) imported m k s (names .import-list) (omega arith)))
+
+  -- the definition at k
+  module _ (k : ℕ) (h : k < c) (s : List ℕ) (is : s ≡ spelled ms (getD defined k 0)) where
+    definition-name : s ≡ spelled ms (getD (definitions (classes-of ms)) k 0)
+    definition-name = is ∙ ap (spelled ms) (names .definition-list .entry k h)
+
+    pub definition-is-iso : same s iso-name ≡ true → true ≡ defined-again ms .breach k
+    unfolding defined-again
+    definition-is-iso e = rw (← definition-name) (or-true (same s iso-name) _ e)
+
+    in-imports : (r : ℕ) → r ≡ first (λ (j : ℕ). same (spelled ms (getD imported j 0)) s) 0 m → ltb r m ≡ stands-in ms (imports (classes-of ms)) (length (imports (classes-of ms))) s
+    in-imports r q =
+        ap (λ (x : ℕ). ltb x m) q
+        ∙ stands ms (imports (classes-of ms)) imported m m s (names .import-list) (omega arith)
+        ∙ ap (λ (n : ℕ). stands-in ms (imports (classes-of ms)) n s) (sym (names .import-list .counted))
+
+    pub definition-imported : same s iso-name ≡ false → (r : ℕ) → r ≡ first (λ (j : ℕ). same (spelled ms (getD imported j 0)) s) 0 m → r < m → true ≡ defined-again ms .breach k
+    unfolding defined-again
+    definition-imported e r q l =
+        rw (← definition-name)
+        (or-false (same s iso-name) _ _ e (or-true _ _ (sym (in-imports r q) ∙ lt-ltb r m l)))
+
+    pub definition-stands : same s iso-name ≡ false → (r : ℕ) → r ≡ first (λ (j : ℕ). same (spelled ms (getD imported j 0)) s) 0 m → m ≤ r
+        → (d : ℕ) → d ≡ first (λ (j : ℕ). same (spelled ms (getD defined j 0)) s) 0 k → ltb d k ≡ defined-again ms .breach k
+    unfolding defined-again
+    definition-stands e r q l d p =
+        rw (← definition-name)
+        (or-false (same s iso-name) _ _ e
+        (or-false _ _ _ (sym (in-imports r q) ∙ le-ltb r m l)
+        (ap (λ (x : ℕ). ltb x k) p ∙ stands ms (definitions (classes-of ms)) defined c k s (names .definition-list) (omega arith))))
+
+-- the first entries of an array of tokens
+pub first-tokens : (array : List ℕ) (m k n : ℕ) → TokensIn array m n → k ≤ m → TokensIn array k n
+first-tokens array m k n t h = record { room = omega (arith, t .room); each = λ j l. t .each j (omega arith) }

@@ -1,0 +1,71 @@
+// Refusal 10: symbols that the module named doesn't offer.
+ghost use mathlib.Core.Path.{_≡_};
+ghost use Prim.Native.Nat.{_<_};
+ghost use lib.ListN.{take};
+ghost use Rattle.index.specs.First.{first};
+ghost use Rattle.token.specs.Cut.{cut, meanings-in};
+ghost use Rattle.token.specs.Table.{TokenTable};
+ghost use Rattle.name.specs.Import.{offered};
+ghost use Rattle.name.specs.Collect.{NameTable};
+ghost use Rattle.name_rule.specs.Refusal.{not-offered};
+use definition::find;
+use index::TokenIndex;
+use symbol::SYMBOLS;
+
+// Whether the module named offers the symbol at token i. Its name stands behind the next FROM.
+fn is_offered(
+    text: &[u8],
+    classes: &[u8; 65536],
+    starts: &[u32; 65536],
+    ends: &[u32; 65536],
+    n: usize,
+    i: TokenIndex,
+) -> bool
+    requires table { ⌜ TokenTable (now text) (cut (now text) .tokens) (now classes) (now starts) (now ends) n ⌝ }
+    requires index { ⌜ i .0 < n ⌝ }
+    ensures { λ r. ⌜ r ≡ offered (meanings-in (now (text .entry))) (i .0) ⌝ }
+{
+    let k = symbol::find(text, classes, starts, ends, n, i);
+    if SYMBOLS <= k {
+        return false;
+    }
+    let source = find(classes, n, terminal::FROM, i.0, n) + 1;
+    if n <= source {
+        return false;
+    }
+    symbol::offered_by(text, classes, starts, ends, n, k, TokenIndex(source))
+}
+
+// The first import that its module doesn't offer, by its index among the imports; m where there is none.
+pub fn first_not_offered(
+    text: &[u8],
+    classes: &[u8; 65536],
+    starts: &[u32; 65536],
+    ends: &[u32; 65536],
+    n: usize,
+    imported: &[u32; 65536],
+    m: usize,
+    defined: &[u32; 512],
+    c: usize,
+) -> usize
+    requires table { ⌜ TokenTable (now text) (cut (now text) .tokens) (now classes) (now starts) (now ends) n ⌝ }
+    requires names { ⌜ NameTable (take n (now classes)) (now imported) m (now defined) c ⌝ }
+    ensures { λ r. ⌜ r ≡ first (not-offered (meanings-in (now (text .entry))) .breach) 0 m ⌝ }
+{
+    let mut k = 0;
+    while k < m {
+        if is_offered(
+            text,
+            classes,
+            starts,
+            ends,
+            n,
+            TokenIndex(imported[k] as usize),
+        ) {
+            k += 1;
+        } else {
+            return k;
+        }
+    }
+    m
+}
