@@ -11,6 +11,7 @@ use index::TokenIndex;
 pub use landmark::begins;
 pub use landmark::class_at;
 pub use landmark::definition_end;
+pub use landmark::has_oid;
 pub use landmark::is_lower;
 pub use landmark::is_macro;
 pub use landmark::kind_at;

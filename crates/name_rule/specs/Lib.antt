@@ -1,2 +1,4 @@
 pub mod Serve
+pub mod Sort
 pub mod Refusal
+pub mod Judged

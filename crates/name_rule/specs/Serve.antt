@@ -16,24 +16,24 @@ use Rattle.name.specs.Lead.{leads-to}
 use Rattle.name.specs.declared.Lead.{Lead}
 use Rattle.name.specs.declared.Lead.the-variants.{Iso, Import, Definition, Nothing}
 
--- a built-in symbol is of this sort
-unfoldable pub is-oid-symbol : What → Bool
+-- a built-in symbol has an OID, is a type, is a macro
+abbrev pub is-oid-symbol : What → Bool
 is-oid-symbol (oid numbers) = true
 is-oid-symbol (type class) = false
 is-oid-symbol macro = false
 
-unfoldable pub is-type-symbol : What → Bool
+abbrev pub is-type-symbol : What → Bool
 is-type-symbol (oid numbers) = false
 is-type-symbol (type class) = true
 is-type-symbol macro = false
 
-unfoldable pub is-macro-symbol : What → Bool
+abbrev pub is-macro-symbol : What → Bool
 is-macro-symbol (oid numbers) = false
 is-macro-symbol (type class) = false
 is-macro-symbol macro = true
 
 -- a built-in symbol serves a need: as a macro, a type or a head
-unfoldable pub symbol-serves : What → Need → Bool
+abbrev pub symbol-serves : What → Need → Bool
 symbol-serves w NoName = true
 symbol-serves w Macro = is-macro-symbol w
 symbol-serves w TypeName = is-type-symbol w
@@ -44,7 +44,7 @@ symbol-serves w Sequence = false
 
 -- a definition of this kind serves a need: a convention as a type, a SEQUENCE type after OF or as an object's type, an object as an
 -- object, and what has an OID as a head
-unfoldable pub kind-serves : ℕ → Need → Bool
+abbrev pub kind-serves : ℕ → Need → Bool
 kind-serves kind NoName = true
 kind-serves kind Macro = false
 kind-serves kind TypeName = eqb kind convention
@@ -54,7 +54,7 @@ kind-serves kind Object = eqb kind object
 kind-serves kind Sequence = eqb kind sequence-type
 
 -- `iso` serves as a head
-unfoldable pub iso-serves : Need → Bool
+abbrev pub iso-serves : Need → Bool
 iso-serves NoName = true
 iso-serves Macro = false
 iso-serves TypeName = false
@@ -64,7 +64,7 @@ iso-serves Object = false
 iso-serves Sequence = false
 
 -- a name that leads nowhere serves where no name is needed
-unfoldable pub nothing-serves : Need → Bool
+abbrev pub nothing-serves : Need → Bool
 nothing-serves NoName = true
 nothing-serves Macro = false
 nothing-serves TypeName = false
