@@ -49,7 +49,7 @@ module _ (text : List ℕ) (ts : List Tok) (classes starts ends : List ℕ) (n :
 
 -- the imports of a module are tokens of it
 module _ (cs : List ℕ) where
-  end-inside : imports-start < imports-end cs → imports-end cs ≤ length cs
+  pub end-inside : imports-start < imports-end cs → imports-end cs ≤ length cs
   unfolding imports-end
   end-inside = go (eqb (class-there cs (imports-start - 1)) IMPORTS)
     where

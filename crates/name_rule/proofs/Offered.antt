@@ -1,19 +1,17 @@
 -- Refusal 10, by the look-up of a symbol and of its module's name.
 -- Assumes nothing.
 use mathlib.Core.Path.{_≡_, refl, sym, ap, _∙_}
-use mathlib.Core.Bool.{Bool, true, false, not, _&&_}
+use mathlib.Core.Bool.{Bool, true, false, not}
 use mathlib.Core.List.{List, []}
 use Prim.Native.Nat.{ℕ, suc, _+_, _≤_, _<_}
 use native.Mathlib.Numerals.{add-one}
 use native.Mathlib.Omega.{arith}
-use lib.Dec.{T, ltb, eqb, eqb→eq}
+use lib.Dec.{T, eqb}
 use lib.ListN.{length, getD, List·getD-eq-default}
 use borrow.Author.Tests.{lt-ltb, le-ltb}
-use Rattle.index.specs.First.{first}
 use Rattle.index.proofs.Tested.{passes, tested}
 use Rattle.lexicon.specs.Word.{bytes, same}
 use Rattle.token.specs.Token.{Meaning, meaning, spelling-of, no-meaning}
-use Rattle.token.specs.Cut.{said}
 use Rattle.symbol.specs.Symbol.{symbol-of, symbol-count, symbol-names, symbols, symbol, of-smi, of-tc, module-name, modules}
 use Rattle.symbol.proofs.Symbols.{counted}
 use Rattle.terminal.specs.Terminal.{FROM}

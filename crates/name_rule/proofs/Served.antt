@@ -8,11 +8,9 @@ use Prim.Native.Nat.{ℕ, _≤_, _<_}
 use native.Mathlib.Decide.{decLt}
 use native.Mathlib.Omega.{arith}
 use lib.ListN.{length, getD, take, length-take, List·getD-eq-default}
-use Rattle.index.specs.First.{Listed}
 use Rattle.index.proofs.Hits.{hit-inside}
 use Rattle.token.specs.Token.{Meaning}
-use Rattle.symbol.specs.Symbol.{What, oid, type, macro, what-is, sort-of, symbol, symbols, symbol-count, symbol-names, no-symbol}
-use Rattle.symbol.specs.declared.Sort.{Sort}
+use Rattle.symbol.specs.Symbol.{What, oid, type, macro, what-is, sort-of, symbol, symbols, symbol-count, no-symbol}
 use Rattle.symbol.specs.declared.Sort.the-variants.{Oid}
 use Rattle.definition.specs.Landmark.{begins, last, definitions}
 use Rattle.reference.specs.Need.{need-at}

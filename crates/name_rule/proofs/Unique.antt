@@ -1,16 +1,15 @@
 -- Rule 9 makes what a name leads to unique: where it is kept, the name of each import leads to that import's symbol, and the name
 -- of each definition to that definition.
 -- Assumes nothing.
-use mathlib.Core.Path.{_≡_, refl, sym, ap, _∙_}
+use mathlib.Core.Path.{_≡_, refl, ap}
 use mathlib.Core.Bool.{Bool, true, false, _||_}
 use mathlib.Core.List.{List}
-use Prim.Native.Nat.{ℕ, _≤_, _<_}
+use Prim.Native.Nat.{ℕ, _<_}
 use native.Mathlib.Omega.{arith}
-use lib.Dec.{ltb}
 use lib.ListN.{length, getD}
-use borrow.Author.Tests.{lt-ltb, le-ltb}
-use Rattle.index.specs.First.{first, any}
-use Rattle.index.proofs.Search.{first-is, first-end, any-none, true-false, answers}
+use borrow.Author.Tests.{lt-ltb}
+use Rattle.index.specs.First.{any}
+use Rattle.index.proofs.Search.{first-is, any-none, true-false}
 use Rattle.index.proofs.Judged.{Kept}
 use Rattle.lexicon.specs.Word.{same}
 use Rattle.lexicon.proofs.Words.{same-refl}

@@ -2,13 +2,12 @@
 -- Assumes nothing.
 use mathlib.Core.Path.{sym, refl, _∙_}
 use mathlib.Core.List.{List}
-use Prim.Native.Nat.{ℕ}
 use native.Mathlib.Omega.{arith}
 use Rattle.token.specs.Token.{Meaning}
 use Rattle.token.specs.Cut.{meanings-in}
 use Rattle.name.specs.Import.{classes-of}
 use Rattle.name.specs.Collect.{NameTable}
-use Rattle.name.proofs.Names.{names-said, imports-in, definitions-in}
+use Rattle.name.proofs.Names.{names-said, imports-in}
 use Rattle.name_rule.proofs.Twice.{import-is-iso, import-stands, first-tokens}
 use Rattle.name_rule.proofs.again.is_imported_again.Statement.{statement}
 use Rattle.name_rule.proofs.again.is_imported_again.Tie as tie

@@ -1,8 +1,8 @@
 -- `first_not_offered` is right by the law of searching loops.
 -- Assumes nothing.
-use mathlib.Core.Path.{sym, refl, _∙_}
+use mathlib.Core.Path.{sym, _∙_}
 use mathlib.Core.List.{List}
-use Prim.Native.Nat.{ℕ, _-_}
+use Prim.Native.Nat.{_-_}
 use native.Mathlib.Omega.{arith}
 use Rattle.index.proofs.Search.{Searched, searched-start, searched-miss, searched-hit, searched-end}
 use Rattle.token.specs.Token.{Meaning}

@@ -1,7 +1,6 @@
 -- `symbol_serves` is right because the sort of a symbol tells what it is.
 -- Assumes nothing.
 use mathlib.Core.Path.{sym, ap, _∙_}
-use Rattle.reference.specs.declared.Need.{Need}
 use Rattle.symbol.specs.Symbol.{what-is}
 use Rattle.name_rule.specs.Serve.{symbol-serves}
 use Rattle.name_rule.specs.Sort.{is-oid-sort, is-type-sort, is-macro-sort}

@@ -1,15 +1,11 @@
 -- `first_unknown` is right by the law of searching loops: beside the place it keeps the word before the braces around it.
 -- Assumes nothing.
-use mathlib.Core.Path.{_≡_, refl, sym, ap, subst, _∙_}
-use mathlib.Core.List.{List}
-use Prim.Native.Nat.{ℕ, _-_, _+_}
+use mathlib.Core.Path.{_≡_, refl, sym, _∙_}
+use Prim.Native.Nat.{_-_}
 use native.Mathlib.Omega.{arith}
-use lib.ListN.{length, take, length-map}
-use Rattle.token.specs.Token.{Tok, Meaning}
-use Rattle.token.specs.Cut.{cut, meanings-in}
-use Rattle.reference.specs.Need.{need-at, enclosing}
-use Rattle.name.specs.Import.{classes-of}
-use Rattle.name.proofs.Names.{classes-taken}
+use lib.ListN.{take}
+use Rattle.token.specs.Cut.{meanings-in}
+use Rattle.reference.specs.Need.{enclosing}
 use Rattle.definition.proofs.Found.{Passed, passed-miss, passed-hit, passed-end}
 use Rattle.name_rule.specs.Serve.{is-unknown}
 use Rattle.name_rule.specs.Refusal.{unknown-name}

@@ -1,12 +1,11 @@
 -- `is_unknown` is right because where no name is needed any serves, and else what the name leads to decides.
 -- Assumes nothing.
-use mathlib.Core.Path.{_≡_, sym, ap, subst, _∙_}
+use mathlib.Core.Path.{_≡_, ap, _∙_}
 use mathlib.Core.List.{List}
-use Prim.Native.Nat.{ℕ, _-_, _+_}
-use native.Mathlib.Omega.{arith}
-use lib.ListN.{length, take, length-map}
-use Rattle.token.specs.Token.{Tok, Meaning}
-use Rattle.token.specs.Cut.{cut, meanings-in}
+use Prim.Native.Nat.{ℕ, _-_}
+use lib.ListN.{take}
+use Rattle.token.specs.Token.{Meaning}
+use Rattle.token.specs.Cut.{meanings-in}
 use Rattle.reference.specs.Need.{need-at}
 use Rattle.reference.specs.declared.Need.{Need}
 use Rattle.name.specs.Import.{classes-of}
