@@ -1,5 +1,4 @@
 pub mod Twice
 pub mod Offered
-pub mod Served
 pub mod Unique
 pub mod Judging

@@ -1,4 +1,2 @@
-pub mod Serve
-pub mod Sort
 pub mod Refusal
 pub mod Judged

@@ -13,7 +13,7 @@ use Rattle.symbol.specs.Symbol.{iso-name}
 use Rattle.definition.specs.Landmark.{definitions}
 use Rattle.name.specs.Import.{classes-of, spelled, imports, imports-end, offered}
 use Rattle.name.specs.Collect.{most-definitions}
-use Rattle.name_rule.specs.Serve.{is-unknown}
+use Rattle.resolution.specs.Serve.{is-unknown}
 
 -- 8: a 513th definition
 unfoldable pub too-many : List Meaning → Rule

@@ -12,7 +12,6 @@ ghost use Rattle.name_rule.specs.Judged.{judgement, Holds};
 
 mod again;
 mod offer;
-mod serve;
 mod unknown;
 
 use again::first_defined_again;

@@ -68,7 +68,7 @@ returns : tie.Need-returns
 returns c =
     let s = c .before .before .before .before .before .before .before .before .before .before .before .before in
     let many = many-collected _ _ _ (c .before .before .before .collect-definitions .ensures) _ (c .before .i .given .1) in
-    let said = subst (λ (cs : List ℕ). (most-definitions < length (definitions cs)) × (_ ≡ getD (definitions cs) most-definitions 0)) (same-classes s) many in
+    let said = subst (λ (cs : List ℕ). (most-definitions < length (definitions cs)) × (c .before .i .given .0 .0 .0 ≡ getD (definitions cs) most-definitions 0)) (same-classes s) many in
     (count-broken (said-by s) _ (said .0) _ (said .1) ∙ sym (names-are (said-by s)), tt)
 
 returns-2 : tie.Need-returns-2

@@ -7,7 +7,7 @@ use lib.ListN.{take}
 use Rattle.token.specs.Cut.{meanings-in}
 use Rattle.reference.specs.Need.{enclosing}
 use Rattle.definition.proofs.Found.{Passed, passed-miss, passed-hit, passed-end}
-use Rattle.name_rule.specs.Serve.{is-unknown}
+use Rattle.resolution.specs.Serve.{is-unknown}
 use Rattle.name_rule.specs.Refusal.{unknown-name}
 use Rattle.name_rule.proofs.unknown.first_unknown.Statement.{statement}
 use Rattle.name_rule.proofs.unknown.first_unknown.Tie as tie

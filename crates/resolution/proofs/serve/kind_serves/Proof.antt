@@ -1,10 +1,10 @@
 -- `kind_serves` is right because each need asks the kind what the definition asks.
 -- Assumes nothing.
 use mathlib.Core.Path.{sym, ap, _∙_}
-use Rattle.name_rule.specs.Serve.{kind-serves}
+use Rattle.resolution.specs.Serve.{kind-serves}
 use borrow.Author.Needs.{needs}
-use Rattle.name_rule.proofs.serve.kind_serves.Statement.{statement}
-use Rattle.name_rule.proofs.serve.kind_serves.Tie as tie
+use Rattle.resolution.proofs.serve.kind_serves.Statement.{statement}
+use Rattle.resolution.proofs.serve.kind_serves.Tie as tie
 
 enum-told : tie.Need-enum-told
 enum-told c = search needs

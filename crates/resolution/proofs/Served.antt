@@ -20,8 +20,8 @@ use Rattle.name.specs.Import.{classes-of, spelled}
 use Rattle.name.specs.Lead.{leads-to}
 use Rattle.name.specs.declared.Lead.{Lead}
 use Rattle.name.specs.declared.Lead.the-variants.{Iso, Import, Definition, Nothing}
-use Rattle.name_rule.specs.Serve.{is-oid-symbol, is-type-symbol, is-macro-symbol, serves, is-unknown}
-use Rattle.name_rule.specs.Sort.{is-oid-sort, is-type-sort, is-macro-sort}
+use Rattle.resolution.specs.Serve.{is-oid-symbol, is-type-symbol, is-macro-symbol, serves, is-unknown}
+use Rattle.resolution.specs.Sort.{is-oid-sort, is-type-sort, is-macro-sort}
 
 -- the sort of a symbol tells what it is
 pub oid-sort : (w : What) → is-oid-sort (sort-of w) ≡ is-oid-symbol w

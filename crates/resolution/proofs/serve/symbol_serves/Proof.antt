@@ -2,12 +2,12 @@
 -- Assumes nothing.
 use mathlib.Core.Path.{sym, ap, _∙_}
 use Rattle.symbol.specs.Symbol.{what-is}
-use Rattle.name_rule.specs.Serve.{symbol-serves}
-use Rattle.name_rule.specs.Sort.{is-oid-sort, is-type-sort, is-macro-sort}
-use Rattle.name_rule.proofs.Served.{oid-sort, type-sort, macro-sort}
+use Rattle.resolution.specs.Serve.{symbol-serves}
+use Rattle.resolution.specs.Sort.{is-oid-sort, is-type-sort, is-macro-sort}
+use Rattle.resolution.proofs.Served.{oid-sort, type-sort, macro-sort}
 use borrow.Author.Needs.{needs}
-use Rattle.name_rule.proofs.serve.symbol_serves.Statement.{statement}
-use Rattle.name_rule.proofs.serve.symbol_serves.Tie as tie
+use Rattle.resolution.proofs.serve.symbol_serves.Statement.{statement}
+use Rattle.resolution.proofs.serve.symbol_serves.Tie as tie
 
 sort-at-requires : tie.Need-sort-at-requires
 sort-at-requires c κs = search needs

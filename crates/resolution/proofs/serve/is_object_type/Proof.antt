@@ -1,8 +1,8 @@
 -- `is_object_type` is right because its tests are those of the definition.
 -- Assumes nothing.
 use borrow.Author.Tests.{eq-eqb, ne-eqb}
-use Rattle.name_rule.proofs.serve.is_object_type.Statement.{statement}
-use Rattle.name_rule.proofs.serve.is_object_type.Tie as tie
+use Rattle.resolution.proofs.serve.is_object_type.Statement.{statement}
+use Rattle.resolution.proofs.serve.is_object_type.Tie as tie
 
 returns : tie.Need-returns
 returns c = simp (eq-eqb _ _ (c .if1 .taken))

@@ -4,10 +4,10 @@ use mathlib.Core.Path.{sym}
 use native.Mathlib.Omega.{arith}
 use lib.ListN.{take, List·getD-eq-default}
 use Rattle.definition.specs.Landmark.{definitions}
-use Rattle.name_rule.proofs.Served.{definition-token, taken-few}
+use Rattle.resolution.proofs.Served.{definition-token, taken-few}
 use borrow.Author.Needs.{needs}
-use Rattle.name_rule.proofs.serve.name_at.Statement.{statement}
-use Rattle.name_rule.proofs.serve.name_at.Tie as tie
+use Rattle.resolution.proofs.serve.name_at.Statement.{statement}
+use Rattle.resolution.proofs.serve.name_at.Tie as tie
 
 mul-result : tie.Need-mul-result
 mul-result c = search needs

@@ -6,11 +6,11 @@ use native.Mathlib.Omega.{arith}
 use lib.ListN.{take}
 use Rattle.definition.specs.Landmark.{kind-at}
 use Rattle.name.specs.declared.Lead.{Lead}
-use Rattle.name_rule.specs.Serve.{serves, kind-serves}
-use Rattle.name_rule.proofs.Served.{definition-token, taken-few}
+use Rattle.resolution.specs.Serve.{serves, kind-serves}
+use Rattle.resolution.proofs.Served.{definition-token, taken-few}
 use borrow.Author.Needs.{needs}
-use Rattle.name_rule.proofs.serve.serves.Statement.{statement}
-use Rattle.name_rule.proofs.serve.serves.Tie as tie
+use Rattle.resolution.proofs.serve.serves.Statement.{statement}
+use Rattle.resolution.proofs.serve.serves.Tie as tie
 
 enum-told : tie.Need-enum-told
 enum-told c = search needs

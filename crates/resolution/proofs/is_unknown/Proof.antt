@@ -10,11 +10,11 @@ use Rattle.reference.specs.Need.{need-at}
 use Rattle.reference.specs.declared.Need.{Need}
 use Rattle.name.specs.Import.{classes-of}
 use Rattle.name.proofs.Names.{classes-taken}
-use Rattle.name_rule.specs.Serve.{serves}
-use Rattle.name_rule.proofs.Served.{no-use-known, use-known}
+use Rattle.resolution.specs.Serve.{serves}
+use Rattle.resolution.proofs.Served.{no-use-known, use-known}
 use borrow.Author.Needs.{needs}
-use Rattle.name_rule.proofs.unknown.is_unknown.Statement.{statement}
-use Rattle.name_rule.proofs.unknown.is_unknown.Tie as tie
+use Rattle.resolution.proofs.is_unknown.Statement.{statement}
+use Rattle.resolution.proofs.is_unknown.Tie as tie
 
 abbrev said-by : tie.Start → List Meaning
 said-by s = meanings-in (s .args .text .now)
@@ -43,7 +43,7 @@ returns-2 : tie.Need-returns-2
 returns-2 c =
     let s = c .before .before .before .before .before .before in
     use-known (said-by s) (s .args .i) _ (needed s _ (c .before .before .before .need-at .ensures)) _ (c .before .leads-to .ensures) _
-    (c .serves .ensures ∙ ap (λ (cs : List ℕ). serves cs _ _) (classes-taken _ _ _ _ _ _ (s .pre .0)))
+    (c .serves .ensures ∙ ap (λ (cs : List ℕ). serves cs (c .before .leads-to .result) (c .before .before .before .need-at .result)) (classes-taken _ _ _ _ _ _ (s .pre .0)))
 
 pub is-unknown-spec : {M : Type 1} → statement M
 is-unknown-spec =

@@ -1,9 +1,9 @@
 -- `sort_at` is right because past the last symbol there is none.
 -- Assumes nothing.
-use Rattle.name_rule.proofs.Served.{sort-past}
+use Rattle.resolution.proofs.Served.{sort-past}
 use borrow.Author.Needs.{needs}
-use Rattle.name_rule.proofs.serve.sort_at.Statement.{statement}
-use Rattle.name_rule.proofs.serve.sort_at.Tie as tie
+use Rattle.resolution.proofs.serve.sort_at.Statement.{statement}
+use Rattle.resolution.proofs.serve.sort_at.Tie as tie
 
 sort-of-requires : tie.Need-sort-of-requires
 sort-of-requires c κs = search needs
