@@ -1,2 +1,3 @@
 pub mod Landmark
 pub mod Fields
+pub mod Members

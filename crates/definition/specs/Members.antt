@@ -1,0 +1,34 @@
+-- What stands in a field's span: the names and the numbers of a list, by the indices of their tokens.
+-- Assumes nothing.
+use mathlib.Core.Bool.{Bool}
+use mathlib.Core.List.{List}
+use Prim.Native.Nat.{ℕ, _+_, _-_}
+use lib.Dec.{eqb}
+use Rattle.index.specs.First.{hits}
+use Rattle.terminal.specs.Terminal.{number, IMPLIED}
+use Rattle.definition.specs.Landmark.{class-at, is-lower}
+use Rattle.definition.specs.declared.Span.{Span}
+
+-- token i is a *lower*, as each name of an INDEX, AUGMENTS, OBJECTS or SEQUENCE list is
+abbrev pub is-name : List ℕ → ℕ → Bool
+is-name cs i = is-lower (class-at cs i)
+
+-- the names of an INDEX, AUGMENTS, OBJECTS or SEQUENCE list, in text order
+unfoldable pub names-in : List ℕ → Span → List ℕ
+names-in cs s = hits (is-name cs) (s .from) (s .to)
+
+-- IMPLIED stands directly before the name at token i
+unfoldable pub is-implied : List ℕ → ℕ → Bool
+is-implied cs i = eqb (class-at cs (i - 1)) IMPLIED
+
+-- the type of the column whose name is token i starts directly behind the name
+abbrev pub column-type : ℕ → ℕ
+column-type i = i + 1
+
+-- an OID's head comes first
+abbrev pub oid-head : Span → ℕ
+oid-head s = s .from
+
+-- an OID's own numbers, in text order: those in brackets after a label too, the label not
+unfoldable pub oid-numbers : List ℕ → Span → List ℕ
+oid-numbers cs s = hits (λ (i : ℕ). eqb (class-at cs i) number) (s .from) (s .to)
