@@ -83,6 +83,10 @@ kind-at cs d =
     (cond (eqb (class-at cs (d + 1)) NOTIFICATION-TYPE) notification
     (cond (eqb (class-at cs (d + 2)) TEXTUAL-CONVENTION) convention sequence-type)))))
 
+-- the macro word of the definition whose name is token d: one of the two tokens after the name; d + 3 where it has none
+unfoldable pub macro-word : List ℕ → ℕ → ℕ
+macro-word cs d = first (λ (i : ℕ). is-macro (class-at cs i)) (d + 1) (d + 3)
+
 -- a definition of this kind has an OID
 unfoldable pub has-oid : ℕ → Bool
 has-oid kind = leb kind object || eqb kind notification

@@ -16,6 +16,7 @@ pub use landmark::has_oid;
 pub use landmark::is_lower;
 pub use landmark::is_macro;
 pub use landmark::kind_at;
+pub use landmark::macro_word;
 pub use member::is_implied;
 pub use member::next_name;
 pub use syntax_clause::syntax_at;
