@@ -4,9 +4,11 @@ use mathlib.Core.Bool.{Bool, cond}
 use mathlib.Core.List.{List, [], _∷_}
 use Prim.Native.Nat.{ℕ}
 use Rattle.index.specs.First.{first, any}
+use Rattle.index.specs.declared.Judgement.{Judgement}
+use Rattle.index.specs.declared.Judgement.the-variants.{Kept, Broken}
 
 -- A rule: its number, the indices from `from` on, below `to`, that it is tested at, whether it is broken at one of them, and the
--- place of each. The indices go in the order of their places.
+-- place of each. The indices go in the order of their places, which are indices of tokens.
 pub record Rule : Type 0 where
   pub number : ℕ
   pub from : ℕ
@@ -14,17 +16,20 @@ pub record Rule : Type 0 where
   pub breach : ℕ → Bool
   pub place : ℕ → ℕ
 
--- what rules say: all are kept; or that of this number is broken, at this place
-pub data Judgement : Type 0 where
-  kept : Judgement
-  broken : ℕ → ℕ → Judgement
+-- the rule of this number is broken, first at this token
+abbrev pub broken : ℕ → ℕ → Judgement
+broken number place = Broken number (record { 0 = place })
 
--- the rule, where it is broken anywhere, at its earliest breach; and else what the rules after it say
-abbrev pub judge-before : Rule → Judgement → Judgement
-judge-before r after =
-    cond (any (r .breach) (r .from) (r .to)) (broken (r .number) (r .place (first (r .breach) (r .from) (r .to)))) after
+-- what one judgement says; and where that is that all is kept, what the next one says
+abbrev pub and-then : Judgement → Judgement → Judgement
+and-then Kept next = next
+and-then (Broken number place) next = Broken number place
+
+-- what a rule says: it is kept, or it is broken at its earliest breach
+unfoldable pub judge-one : Rule → Judgement
+judge-one r = cond (any (r .breach) (r .from) (r .to)) (broken (r .number) (r .place (first (r .breach) (r .from) (r .to)))) Kept
 
 -- the first rule that is broken anywhere, at its earliest breach
 unfoldable pub judge : List Rule → Judgement
-judge [] = kept
-judge (r ∷ rs) = judge-before r (judge rs)
+judge [] = Kept
+judge (r ∷ rs) = and-then (judge-one r) (judge rs)

@@ -12,3 +12,9 @@ pub struct RecordIndex(pub usize);
 
 // An index into the number buffer, which holds the sub-identifiers.
 pub struct NumberIndex(pub usize);
+
+// What rules say: all are kept; or the rule of this number is broken, first at this token.
+pub enum Judgement {
+    Kept,
+    Broken(u8, TokenIndex),
+}
