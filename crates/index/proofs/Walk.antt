@@ -31,6 +31,19 @@ module _ {A : Type 0} (step : A → A) (stop : A → Bool) (x : A) (sticky : (y 
   pub stopped-later : (m n : ℕ) → m ≤ n → stop (after step m x) ≡ true → stop (after step n x) ≡ true
   stopped-later m n l e = let k : n ≡ m + (n - m) = omega arith in rw k (stays m (n - m) e)
 
+  -- so it stops at one place alone
+  rests : (n k : ℕ) → stop (after step n x) ≡ true → after step (n + k) x ≡ after step n x
+  unfolding after
+  rests n zero e = rw (add-zero n)
+  rests n (suc k) e = rw (add-suc n k) (sticky _ (stays n k e) ∙ rests n k e)
+
+  pub one-rest : (m n : ℕ) → stop (after step m x) ≡ true → stop (after step n x) ≡ true → after step m x ≡ after step n x
+  one-rest m n p q = go (decLt m n)
+    where
+      go : Dec (m < n) → after step m x ≡ after step n x
+      go (yes l) = let k : n ≡ m + (n - m) = omega arith in sym (ap (λ (i : ℕ). after step i x) k ∙ rests m (n - m) p)
+      go (no l) = let k : m ≡ n + (m - n) = omega arith in ap (λ (i : ℕ). after step i x) k ∙ rests n (m - n) q
+
   pub not-stopped-before : (m n : ℕ) → m ≤ n → stop (after step n x) ≡ false → stop (after step m x) ≡ false
   not-stopped-before m n l e = answers (stop (after step m x)) (λ t. absurd (true-false (stopped-later m n l t) e)) (λ f. f)
 

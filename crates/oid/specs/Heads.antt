@@ -1,0 +1,29 @@
+-- The table of heads: what the head of each definition leads to, found once.
+-- Assumes nothing.
+use mathlib.Core.Path.{_≡_}
+use mathlib.Core.Bool.{cond}
+use mathlib.Core.List.{List}
+use Prim.Native.Nat.{ℕ, _+_, _-_, _<_}
+use lib.Dec.{ltb, leb, eqb}
+use lib.ListN.{length, getD}
+use Rattle.token.specs.Token.{Meaning}
+use Rattle.name.specs.Collect.{most-definitions}
+use Rattle.name.specs.declared.Lead.{Lead}
+use Rattle.name.specs.declared.Lead.the-variants.{Iso, Import, Definition, Nothing}
+use Rattle.oid.specs.Oid.{head-of}
+
+-- what a word of the table says: 0 nothing, 1 `iso`, then a number for each definition, then one for each symbol
+unfoldable pub lead-in : ℕ → Lead
+lead-in word =
+    cond (eqb word 0) Nothing
+    (cond (eqb word 1) Iso
+    (cond (ltb word (most-definitions + 2)) (Definition (record { 0 = word - 2 })) (Import (word - (most-definitions + 2)))))
+
+-- what the head of definition d leads to, by the table
+abbrev pub head-in : List ℕ → ℕ → Lead
+head-in heads d = lead-in (getD heads d 0)
+
+-- the table holds the heads of the first c definitions
+pub record HeadTable (ms : List Meaning) (heads : List ℕ) (c : ℕ) : Type 0 where
+  pub long : length heads ≡ most-definitions
+  pub entry : (d : ℕ) → d < c → head-in heads d ≡ head-of ms d

@@ -1,0 +1,3 @@
+pub mod Oid
+pub mod Heads
+pub mod Refusal
