@@ -1,1 +1,4 @@
-// OIDs: what the heads of definitions lead to, and how many numbers their OIDs have.
+// OIDs: what the heads of definitions lead to, whether they reach a built-in name, and how many numbers their OIDs have.
+mod head;
+
+pub use head::head_at;
