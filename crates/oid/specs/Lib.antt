@@ -1,3 +1,4 @@
 pub mod Oid
 pub mod Heads
+pub mod Runs
 pub mod Refusal

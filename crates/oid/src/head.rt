@@ -9,8 +9,11 @@ use name::Lead;
 
 // The words of the table: for a name that leads nowhere, for `iso`, and the first for a definition and for a symbol.
 const NOTHING: usize = 0;
+
 const ISO: usize = 1;
+
 const DEFINITION: usize = 2;
+
 const SYMBOL: usize = 514;
 
 // What a word of the table says.
