@@ -1,3 +1,4 @@
 pub mod Storing
 pub mod Ends
 pub mod Held
+pub mod Said

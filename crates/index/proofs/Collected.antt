@@ -85,3 +85,43 @@ module _ (test : ℕ → Bool) (a b : ℕ) (array : List ℕ) (i k : ℕ) (c : C
       let none : drop k (hits test a b) ≡ [] = c .left ∙ hits-none test i b h in
       let all : length (hits test a b) ≡ k = omega (arith, length-drop k (hits test a b), ap length none, c .stored) in
       record { counted = all; room = c .room; entry = c .entry }
+
+-- ---- the loop that only counts them
+
+-- it is at i and has counted k: those and the ones to come are all
+pub record Counting (test : ℕ → Bool) (a b i k : ℕ) : Type 0 where
+  pub from : a ≤ i
+  pub few : k ≤ i - a
+  pub all : k + length (hits test i b) ≡ length (hits test a b)
+
+pub counting-start : (test : ℕ → Bool) (a b : ℕ) → Counting test a b a 0
+counting-start test a b = record { from = omega arith; few = omega arith; all = omega arith }
+
+module _ (test : ℕ → Bool) (a b i k : ℕ) (c : Counting test a b i k) where
+  pub counting-miss : i < b → test i ≡ false → Counting test a b (i + 1) k
+  counting-miss h e = record {
+    from = omega (arith, c .from);
+    few = omega (arith, c .few, c .from);
+    all = rw (add-one i) (omega (arith, c .all, ap length (hits-miss test i b h e)));
+  }
+
+  pub counting-hit : i < b → test i ≡ true → Counting test a b (i + 1) (k + 1)
+  counting-hit h e = record {
+    from = omega (arith, c .from);
+    few = omega (arith, c .few, c .from);
+    all = rw (add-one i) (omega (arith, c .all, ap length (hits-hit test i b h e)));
+  }
+
+  pub counting-end : b ≤ i → k ≡ length (hits test a b)
+  counting-end h = omega (arith, c .all, ap length (hits-none test i b h))
+
+-- ---- the loop that fills an array from the left: each entry is right, and so is one more
+pub filled-more : (Right : ℕ → ℕ → Type 0) (array : List ℕ) (k v : ℕ) → ((i : ℕ) → i < k → Right i (getD array i 0)) → Right k v → k < length array
+    → (i : ℕ) → i < k + 1 → Right i (getD (set array k v) i 0)
+filled-more Right array k v before here room i h = go (decLt i k)
+  where
+    go : Dec (i < k) → Right i (getD (set array k v) i 0)
+    go (yes l) = rw (getD-set-other array k i v 0 (λ q. omega arith)) (before i l)
+    go (no l) =
+        let same : i ≡ k = omega arith in
+        rw same (rw (getD-set-same array k v 0 room) here)

@@ -17,11 +17,11 @@ use Rattle.lexicon.specs.Word.{same}
 use Rattle.token.specs.Token.{Meaning}
 use Rattle.symbol.specs.Symbol.{iso-name, symbol-of}
 use Rattle.definition.specs.Landmark.{definitions, has-oid}
-use Rattle.name.specs.Import.{classes-of, imports}
+use Rattle.name.specs.Import.{classes-of, spelled, imports}
 use Rattle.name.specs.Lead.{named, leads-to}
 use Rattle.name.specs.declared.Lead.{Lead}
 use Rattle.name.specs.declared.Lead.the-variants.{Iso, Import, Definition, Nothing}
-use Rattle.oid.specs.Oid.{HasOid, of-iso, of-symbol, of-definition, head-of, parts-of, is-built-in, next-head, Reaches, count-of, reaches, name-numbers, definition-numbers, kind-of, oid-of}
+use Rattle.oid.specs.Oid.{HasOid, of-iso, of-symbol, of-definition, head-token, head-of, parts-of, is-built-in, next-head, Reaches, count-of, reaches, name-numbers, definition-numbers, kind-of, oid-of}
 
 module _ (ms : List Meaning) where
   abbrev step : Lead → Lead
@@ -136,19 +136,26 @@ module _ (ms : List Meaning) where
   distinct (Definition d) (Import k) p q equal = absurd (true-false refl q)
   distinct (Definition d) Nothing p q equal = absurd (true-false refl q)
 
-  -- a definition that is led to is one of the module's
-  head-inside : (l : Lead) → stops (step l) ≡ false → (stops l ≡ false → index-of l < count-of ms) → index-of (step l) < count-of ms
+  -- and so is what a head leads to
+  pub head-in-module : (d : ℕ) (r : RecordIndex) → head-of ms d ≡ Definition r → r .0 < count-of ms
   unfolding head-of
-  head-inside Iso e h = absurd (true-false refl e)
-  head-inside (Import k) e h = absurd (true-false refl e)
-  head-inside (Definition d) e h = of-lead (head-of ms (d .0)) refl e
+  head-in-module d r is = go (ltb (head-token ms d) (length ms)) is
+    where
+      go : (b : Bool) → cond b (leads-to ms (spelled ms (head-token ms d))) Nothing ≡ Definition r → r .0 < count-of ms
+      go true e = lead-inside (spelled ms (head-token ms d)) r e
+      go false e = let z : _≡_ {A = ℕ} 0 1 = cc in absurd (omega arith)
+
+  step-inside : (l : Lead) → stops (step l) ≡ false → index-of (step l) < count-of ms
+  step-inside Iso e = absurd (true-false refl e)
+  step-inside (Import k) e = absurd (true-false refl e)
+  step-inside (Definition d) e = of-lead (head-of ms (d .0)) refl e
     where
       of-lead : (l : Lead) → head-of ms (d .0) ≡ l → stops l ≡ false → index-of l < count-of ms
-      of-lead (Definition r) is e = lead-inside _ r is
+      of-lead (Definition r) is e = head-in-module (d .0) r is
       of-lead Iso is e = absurd (true-false refl e)
       of-lead (Import k) is e = absurd (true-false refl e)
       of-lead Nothing is e = absurd (true-false refl e)
-  head-inside Nothing e h = absurd (true-false refl e)
+  step-inside Nothing e = absurd (true-false refl e)
 
   module _ (d : ℕ) (inside : d < count-of ms) where
     abbrev start : Lead
@@ -157,7 +164,7 @@ module _ (ms : List Meaning) where
     walk-inside : (n : ℕ) → stops (after step n start) ≡ false → index-of (after step n start) < count-of ms
     unfolding after
     walk-inside zero e = inside
-    walk-inside (suc n) e = head-inside (after step n start) e (walk-inside n)
+    walk-inside (suc n) e = step-inside (after step n start) e
 
     built-in-stops : (l : Lead) → is-built-in l ≡ true → stops l ≡ true
     built-in-stops Iso e = refl

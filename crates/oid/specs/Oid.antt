@@ -5,6 +5,7 @@ use mathlib.Core.Path.{_≡_}
 use mathlib.Core.Bool.{Bool, true, false, cond}
 use mathlib.Core.List.{List, [], _++_, map}
 use Prim.Native.Nat.{ℕ, zero, suc}
+use lib.Dec.{ltb}
 use lib.IntN.{natAbs}
 use lib.ListN.{length, getD}
 use Rattle.index.specs.Walk.{after}
@@ -21,9 +22,13 @@ use Rattle.name.specs.Lead.{leads-to}
 use Rattle.name.specs.declared.Lead.{Lead}
 use Rattle.name.specs.declared.Lead.the-variants.{Iso, Import, Definition, Nothing}
 
--- what the head of definition d leads to: its OID's first name
+-- the token of definition d's head: its OID's first name
+abbrev pub head-token : List Meaning → ℕ → ℕ
+head-token ms d = oid-head (fields-at (classes-of ms) d .oid)
+
+-- what the head of definition d leads to; nothing where the text ends before it
 unfoldable pub head-of : List Meaning → ℕ → Lead
-head-of ms d = leads-to ms (spelled ms (oid-head (fields-at (classes-of ms) d .oid)))
+head-of ms d = cond (ltb (head-token ms d) (length ms)) (leads-to ms (spelled ms (head-token ms d))) Nothing
 
 -- the numbers at these tokens
 abbrev pub values : List Meaning → List ℕ → List ℕ
