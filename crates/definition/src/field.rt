@@ -142,7 +142,7 @@ pub fn fields_of(classes: &[u8], n: usize, d: usize, e: usize) -> Fields
         d,
         e,
     );
-    let oid = braced_if(has_oid(kind), classes, n, terminal::ASSIGN, d, e);
+    let oid = braced_if(has_oid(kind as usize), classes, n, terminal::ASSIGN, d, e);
     Fields {
         kind,
         status,

@@ -120,8 +120,8 @@ pub fn macro_word(classes: &[u8], n: usize, d: usize) -> usize
 }
 
 // Whether a definition of this kind has an OID.
-pub fn has_oid(kind: u8) -> bool
+pub fn has_oid(kind: usize) -> bool
     ensures { λ r. ⌜ r ≡ has-oid kind ⌝ }
 {
-    kind <= kind::OBJECT || kind == kind::NOTIFICATION
+    kind <= kind::OBJECT as usize || kind == kind::NOTIFICATION as usize
 }

@@ -1,5 +1,7 @@
 // OIDs: what the heads of definitions lead to, whether they reach a built-in name, and how many numbers their OIDs have.
 mod head;
+mod reach;
 
 pub use head::collect_heads;
 pub use head::head_at;
+pub use reach::judge_reached;

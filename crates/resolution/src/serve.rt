@@ -124,7 +124,7 @@ fn kind_serves(kind: u8, need: Need) -> bool
         Need::Macro => false,
         Need::TypeName => kind == kind::CONVENTION,
         Need::ObjectType => is_object_type(kind),
-        Need::Head => has_oid(kind),
+        Need::Head => has_oid(kind as usize),
         Need::Object => kind == kind::OBJECT,
         Need::Sequence => kind == kind::SEQUENCE_TYPE,
     }

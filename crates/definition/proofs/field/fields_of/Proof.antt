@@ -55,6 +55,9 @@ braced-if-requires c κs =
     let start = c .before .before .before .before .before .before .before .before .before in
     (start .pre .0, start .pre .1 .1)
 
+cast-has-oid : tie.Need-cast-has-oid
+cast-has-oid c = search needs
+
 has-oid-requires : tie.Need-has-oid-requires
 has-oid-requires c κs = search needs
 
@@ -101,6 +104,7 @@ fields-of-spec =
     find-requires
     braced-after-requires-3
     braced-if-requires
+    cast-has-oid
     has-oid-requires
     braced-if-requires-2
     returns)
