@@ -42,6 +42,10 @@ module _ {text classes starts ends : List ℕ} {n : ℕ} {imported : List ℕ} {
   pub fields-said : FieldTable (classes-of (meanings-in text)) fields c
   fields-said = subst (λ (cs : List ℕ). FieldTable cs fields c) classes-said (t .fields-held)
 
+  -- a definition's name is one of the tokens
+  pub definition-before : (k : ℕ) → k < c → getD defined k 0 < n
+  definition-before k h = name-laws.definitions-in text (cut text .tokens) classes starts ends n (t .tokens) imported m defined c (t .names) .each k h
+
 -- ---- the spans of a definition lie among the tokens
 
 module _ (cs : List ℕ) (k : ℕ) (h : k < length (definitions cs)) where

@@ -1,2 +1,4 @@
 pub mod Meaning
 pub mod HeadLaws
+pub mod Reaching
+pub mod Placed

@@ -1,6 +1,16 @@
--- 
+-- The pair is right: a name that leads to a definition reaches what the definition's head does, with one head less to follow. A
+-- definition's measure is twice the heads left, and a name's one more.
 -- Assumes nothing.
-use Prim.Native.Nat.{ℕ, _<_}
+use mathlib.Core.Path.{refl, sym, ap, _∙_}
+use native.Mathlib.Omega.{arith}
+use borrow.Author.Needs.{needs}
+use Rattle.index.specs.Walk.{after}
+use Rattle.name.specs.declared.Lead.{Lead}
+use Rattle.name.specs.declared.Lead.the-variants.{Iso, Import, Nothing}
+use Rattle.oid.specs.Oid.{is-built-in, next-head}
+use Rattle.oid.specs.Heads.{head-in}
+use Rattle.oid.proofs.Reaching.{none-left, goes-on, stays-at}
+use Prim.Native.Nat.{ℕ, _+_, _-_, _*_, _<_}
 use borrow.Fn.Kinds.{In}
 use borrow.Fn.PlainCycle.{Measures, is, falls, and}
 use Rattle.oid.proofs.reach.definition_reaches.Reads as definition-reaches
@@ -14,10 +24,10 @@ use Rattle.oid.proofs.reach.+definition_reaches+name_reaches.{statement
 use Rattle.oid.proofs.reach.+definition_reaches+name_reaches.Tie.{close}
 
 abbrev μ-definition-reaches : Measures 1 definition-reaches-kinds.ps ℕ
-μ-definition-reaches κs a = ?
+μ-definition-reaches κs a = 2 * a .1 .1 .0
 
 abbrev μ-name-reaches : Measures 1 name-reaches-kinds.ps ℕ
-μ-name-reaches κs a = ?
+μ-name-reaches κs a = 2 * a .1 .1 .0 + 1
 
 abbrev definition-reaches-at : ℕ → In 1 definition-reaches-kinds.ps
 definition-reaches-at t =
@@ -47,124 +57,71 @@ name-reaches-below t =
     (falls 1 name-reaches-kinds.ps _<_ μ-name-reaches t)
     name-reaches.Pre
 
--- src/reach.rt:42:9
-definition-reaches-returns : (t : ℕ) → definition-reaches-lts.Need-returns (
-  head-at-reads.Asked,
-  head-at-reads.Learnt,
-  name-reaches-below t,
-  name-reaches.Post,
-) (definition-reaches-at t) definition-reaches.Post
-definition-reaches-returns t c = ?
+-- what the calls ask and give: those of the pair at a smaller measure
+abbrev definition-claims : ℕ → definition-reaches-lts.Claims
+definition-claims t = (head-at-reads.Asked, head-at-reads.Learnt, name-reaches-below t, name-reaches.Post)
 
--- src/reach.rt:44:25
-definition-reaches-head-at-requires : (t : ℕ) → definition-reaches-lts.Need-head-at-requires (
-  head-at-reads.Asked,
-  head-at-reads.Learnt,
-  name-reaches-below t,
-  name-reaches.Post,
-) (definition-reaches-at t) definition-reaches.Post
-definition-reaches-head-at-requires t c κs = ?
+abbrev name-claims : ℕ → name-reaches-lts.Claims
+name-claims t = (definition-reaches-below t, definition-reaches.Post)
 
--- src/reach.rt:44:46
-definition-reaches-sub-name-reaches : (t : ℕ) → definition-reaches-lts.Need-sub-name-reaches (
-  head-at-reads.Asked,
-  head-at-reads.Learnt,
-  name-reaches-below t,
-  name-reaches.Post,
-) (definition-reaches-at t) definition-reaches.Post
-definition-reaches-sub-name-reaches t c = ?
+definition-reaches-returns : (t : ℕ) → definition-reaches-lts.Need-returns (definition-claims t) (definition-reaches-at t) definition-reaches.Post
+definition-reaches-returns t c = none-left _ (c .before .args .d) _ (c .if1 .taken)
 
--- src/reach.rt:44:5
+definition-reaches-head-at-requires : (t : ℕ) → definition-reaches-lts.Need-head-at-requires (definition-claims t) (definition-reaches-at t) definition-reaches.Post
+definition-reaches-head-at-requires t c κs = c .before .pre .1
+
+definition-reaches-sub-name-reaches : (t : ℕ) → definition-reaches-lts.Need-sub-name-reaches (definition-claims t) (definition-reaches-at t) definition-reaches.Post
+definition-reaches-sub-name-reaches t c = omega (arith, c .before .if1 .left)
+
 definition-reaches-name-reaches-requires :
-    (t : ℕ) → definition-reaches-lts.Need-name-reaches-requires (
-      head-at-reads.Asked,
-      head-at-reads.Learnt,
-      name-reaches-below t,
-      name-reaches.Post,
-    ) (definition-reaches-at t) definition-reaches.Post
-definition-reaches-name-reaches-requires t c κs = ?
+    (t : ℕ) → definition-reaches-lts.Need-name-reaches-requires (definition-claims t) (definition-reaches-at t) definition-reaches.Post
+definition-reaches-name-reaches-requires t c κs =
+    let s = c .before .before in
+    (omega (arith, s .pre .0, c .before .if1 .left), s .pre .1)
 
--- src/reach.rt:37:1
-definition-reaches-returns-2 : (t : ℕ) → definition-reaches-lts.Need-returns-2 (
-  head-at-reads.Asked,
-  head-at-reads.Learnt,
-  name-reaches-below t,
-  name-reaches.Post,
-) (definition-reaches-at t) definition-reaches.Post
-definition-reaches-returns-2 t c = ?
+definition-reaches-returns-2 : (t : ℕ) → definition-reaches-lts.Need-returns-2 (definition-claims t) (definition-reaches-at t) definition-reaches.Post
+definition-reaches-returns-2 t c =
+    let s = c .before .before .before in
+    let head = head-in (s .args .heads .now) in
+    c .name-reaches .ensures
+    ∙ ap is-built-in (ap (after (next-head head) (s .args .left - 1)) (c .before .head-at .ensures) ∙ sym (goes-on head (s .args .d) (s .args .left) (c .before .before .if1 .left)))
 
--- src/reach.rt:29:22
-name-reaches-enum-told : (t : ℕ) → name-reaches-lts.Need-enum-told (
-  definition-reaches-below t,
-  definition-reaches.Post,
-) (name-reaches-at t) name-reaches.Post
-name-reaches-enum-told t c = ?
+name-reaches-enum-told : (t : ℕ) → name-reaches-lts.Need-enum-told (name-claims t) (name-reaches-at t) name-reaches.Post
+name-reaches-enum-told t c = search needs
 
--- src/reach.rt:30:28
-name-reaches-enum-told-2 : (t : ℕ) → name-reaches-lts.Need-enum-told-2 (
-  definition-reaches-below t,
-  definition-reaches.Post,
-) (name-reaches-at t) name-reaches.Post
-name-reaches-enum-told-2 t c = ?
+name-reaches-enum-told-2 : (t : ℕ) → name-reaches-lts.Need-enum-told-2 (name-claims t) (name-reaches-at t) name-reaches.Post
+name-reaches-enum-told-2 t c = search needs
 
--- src/reach.rt:31:26
-name-reaches-enum-known-lead : (t : ℕ) → name-reaches-lts.Need-enum-known-lead (
-  definition-reaches-below t,
-  definition-reaches.Post,
-) (name-reaches-at t) name-reaches.Post
-name-reaches-enum-known-lead t c = ?
+name-reaches-enum-known-lead : (t : ℕ) → name-reaches-lts.Need-enum-known-lead (name-claims t) (name-reaches-at t) name-reaches.Post
+name-reaches-enum-known-lead t c = search needs
 
--- src/reach.rt:31:32
 name-reaches-definition-reaches-requires :
-    (t : ℕ) → name-reaches-lts.Need-definition-reaches-requires (
-      definition-reaches-below t,
-      definition-reaches.Post,
-    ) (name-reaches-at t) name-reaches.Post
-name-reaches-definition-reaches-requires t c κs = ?
+    (t : ℕ) → name-reaches-lts.Need-definition-reaches-requires (name-claims t) (name-reaches-at t) name-reaches.Post
+name-reaches-definition-reaches-requires t c κs =
+    let s = c .before .before .before in
+    (omega (arith, s .pre .0), s .pre .1)
 
--- src/reach.rt:32:26
-name-reaches-enum-told-3 : (t : ℕ) → name-reaches-lts.Need-enum-told-3 (
-  definition-reaches-below t,
-  definition-reaches.Post,
-) (name-reaches-at t) name-reaches.Post
-name-reaches-enum-told-3 t c = ?
+name-reaches-enum-told-3 : (t : ℕ) → name-reaches-lts.Need-enum-told-3 (name-claims t) (name-reaches-at t) name-reaches.Post
+name-reaches-enum-told-3 t c = search needs
 
--- src/reach.rt:24:1
-name-reaches-returns : (t : ℕ) → name-reaches-lts.Need-returns (
-  definition-reaches-below t,
-  definition-reaches.Post,
-) (name-reaches-at t) name-reaches.Post
-name-reaches-returns t c = ?
+name-reaches-returns : (t : ℕ) → name-reaches-lts.Need-returns (name-claims t) (name-reaches-at t) name-reaches.Post
+name-reaches-returns t c = stays-at _ _ Iso _ (c .enum-told .given .1) refl
 
--- src/reach.rt:24:1
-name-reaches-returns-2 : (t : ℕ) → name-reaches-lts.Need-returns-2 (
-  definition-reaches-below t,
-  definition-reaches.Post,
-) (name-reaches-at t) name-reaches.Post
-name-reaches-returns-2 t c = ?
+name-reaches-returns-2 : (t : ℕ) → name-reaches-lts.Need-returns-2 (name-claims t) (name-reaches-at t) name-reaches.Post
+name-reaches-returns-2 t c = stays-at _ _ (Import _) _ (c .enum-told2 .given .1) refl
 
--- src/reach.rt:24:1
-name-reaches-returns-3 : (t : ℕ) → name-reaches-lts.Need-returns-3 (
-  definition-reaches-below t,
-  definition-reaches.Post,
-) (name-reaches-at t) name-reaches.Post
-name-reaches-returns-3 t c = ?
+name-reaches-returns-3 : (t : ℕ) → name-reaches-lts.Need-returns-3 (name-claims t) (name-reaches-at t) name-reaches.Post
+name-reaches-returns-3 t c =
+    let s = c .before .before .before .before in
+    c .definition-reaches .ensures
+    ∙ sym (ap (λ (l : Lead). is-built-in (after (next-head (head-in (s .args .heads .now))) (s .args .left) l)) (c .before .before .lead .given .1))
 
--- src/reach.rt:24:1
-name-reaches-returns-4 : (t : ℕ) → name-reaches-lts.Need-returns-4 (
-  definition-reaches-below t,
-  definition-reaches.Post,
-) (name-reaches-at t) name-reaches.Post
-name-reaches-returns-4 t c = ?
+name-reaches-returns-4 : (t : ℕ) → name-reaches-lts.Need-returns-4 (name-claims t) (name-reaches-at t) name-reaches.Post
+name-reaches-returns-4 t c = stays-at _ _ Nothing _ (c .enum-told3 .given .1) refl
 
 pub +definition-reaches+name-reaches-spec : {M : Type 1} → statement M
 +definition-reaches+name-reaches-spec =
-    close μ-definition-reaches μ-name-reaches (λ t. definition-reaches-lts.spec (
-      head-at-reads.Asked,
-      head-at-reads.Learnt,
-      name-reaches-below t,
-      name-reaches.Post,
-    )
+    close μ-definition-reaches μ-name-reaches (λ t. definition-reaches-lts.spec (definition-claims t)
     (definition-reaches-at t)
     definition-reaches.Post
     (definition-reaches-returns t)
@@ -173,7 +130,7 @@ pub +definition-reaches+name-reaches-spec : {M : Type 1} → statement M
     (definition-reaches-name-reaches-requires t)
     (definition-reaches-returns-2 t))
     λ t. name-reaches-lts.spec
-    (definition-reaches-below t, definition-reaches.Post)
+    (name-claims t)
     (name-reaches-at t)
     name-reaches.Post
     (name-reaches-enum-told t)
