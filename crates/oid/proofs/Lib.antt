@@ -2,3 +2,4 @@ pub mod Meaning
 pub mod HeadLaws
 pub mod Reaching
 pub mod Placed
+pub mod Lengths

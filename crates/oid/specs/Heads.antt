@@ -49,9 +49,18 @@ pub record HeadTable (ms : List Meaning) (heads : List ℕ) (c : ℕ) : Type 0 w
   pub long : length heads ≡ most-definitions
   pub entry : (d : ℕ) → d < c → head-in heads d ≡ head-of ms d
 
+-- how many parts definition d has, by a table
+abbrev pub parts-in : List ℕ → ℕ → ℕ
+parts-in parts d = getD parts d 0
+
+-- the first c of them have no more parts than a text has tokens
+pub record FewParts (parts : List ℕ) (c : ℕ) : Type 0 where
+  pub room : c ≤ most-definitions
+  pub few : (d : ℕ) → d < c → parts-in parts d ≤ longest-text
+
 -- how many parts each of the first c definitions has
 pub record PartTable (ms : List Meaning) (parts : List ℕ) (c : ℕ) : Type 0 where
   pub long : length parts ≡ most-definitions
-  pub entry : (d : ℕ) → d < c → getD parts d 0 ≡ length (parts-of ms d)
+  pub entry : (d : ℕ) → d < c → parts-in parts d ≡ length (parts-of ms d)
   -- no more than tokens
-  pub few : (d : ℕ) → d < c → getD parts d 0 ≤ longest-text
+  pub few : (d : ℕ) → d < c → parts-in parts d ≤ longest-text

@@ -1,7 +1,9 @@
 // OIDs: what the heads of definitions lead to, whether they reach a built-in name, and how many numbers their OIDs have.
 mod head;
+mod length;
 mod reach;
 
 pub use head::collect_heads;
 pub use head::head_at;
+pub use length::measure;
 pub use reach::judge_reached;
