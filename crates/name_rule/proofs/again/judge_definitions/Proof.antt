@@ -7,7 +7,7 @@ use Rattle.index.proofs.Judged.{Judging, judging-next, judging-broken, judging-
 use Rattle.token.specs.Cut.{meanings-in}
 use Rattle.name.proofs.Names.{names-said}
 use Rattle.name_rule.specs.Refusal.{defined-again}
-use Rattle.name_rule.proofs.Judging.{definitions-start}
+use Rattle.name_rule.proofs.Judging.{judging-definitions}
 use Rattle.name_rule.proofs.again.judge_definitions.Statement.{statement}
 use Rattle.name_rule.proofs.again.judge_definitions.Tie as tie
 
@@ -20,7 +20,7 @@ abbrev μ-loop : tie.MeasureT-loop
 loop-holds : tie.Need-loop-holds Inv-loop μ-loop
 loop-holds c =
     let s = c .before in
-    definitions-start _ (names-said _ _ _ _ _ _ (s .pre .0) _ _ _ _ (s .pre .1))
+    judging-definitions _ (names-said _ _ _ _ _ _ (s .pre .0) _ _ _ _ (s .pre .1))
 
 is-defined-again-requires : tie.Need-is-defined-again-requires Inv-loop μ-loop
 is-defined-again-requires c κs = search needs

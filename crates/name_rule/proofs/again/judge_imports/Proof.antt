@@ -7,7 +7,7 @@ use Rattle.index.proofs.Judged.{Judging, judging-next, judging-broken, judging-
 use Rattle.token.specs.Cut.{meanings-in}
 use Rattle.name.proofs.Names.{names-said}
 use Rattle.name_rule.specs.Refusal.{imported-again}
-use Rattle.name_rule.proofs.Judging.{imports-start}
+use Rattle.name_rule.proofs.Judging.{judging-imports}
 use Rattle.name_rule.proofs.again.judge_imports.Statement.{statement}
 use Rattle.name_rule.proofs.again.judge_imports.Tie as tie
 
@@ -20,7 +20,7 @@ abbrev μ-loop : tie.MeasureT-loop
 loop-holds : tie.Need-loop-holds Inv-loop μ-loop
 loop-holds c =
     let s = c .before in
-    imports-start _ (names-said _ _ _ _ _ _ (s .pre .0) _ _ _ _ (s .pre .1))
+    judging-imports _ (names-said _ _ _ _ _ _ (s .pre .0) _ _ _ _ (s .pre .1))
 
 is-imported-again-requires : tie.Need-is-imported-again-requires Inv-loop μ-loop
 is-imported-again-requires c κs = search needs

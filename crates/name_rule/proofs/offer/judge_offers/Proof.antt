@@ -15,7 +15,7 @@ use Rattle.name.specs.Collect.{NameTable}
 use Rattle.name.proofs.Names.{names-said, imports-in}
 use Rattle.name_rule.specs.Refusal.{not-offered}
 use Rattle.name_rule.proofs.Offered.{offered-breach}
-use Rattle.name_rule.proofs.Judging.{offers-start}
+use Rattle.name_rule.proofs.Judging.{judging-offers}
 use Rattle.name_rule.proofs.offer.judge_offers.Statement.{statement}
 use Rattle.name_rule.proofs.offer.judge_offers.Tie as tie
 
@@ -32,7 +32,7 @@ names : (s : tie.Start Inv-loop μ-loop) → NameTable (classes-of (said-by s)) 
 names s = names-said _ _ _ _ _ _ (s .pre .0) _ _ _ _ (s .pre .1)
 
 loop-holds : tie.Need-loop-holds Inv-loop μ-loop
-loop-holds c = offers-start _ (names (c .before))
+loop-holds c = judging-offers _ (names (c .before))
 
 mul-token-of : tie.Need-mul-token-of Inv-loop μ-loop
 mul-token-of c = search needs

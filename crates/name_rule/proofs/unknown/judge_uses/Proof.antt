@@ -12,7 +12,7 @@ use Rattle.name.specs.Import.{imports-end}
 use Rattle.name.proofs.Names.{classes-taken}
 use Rattle.reference.specs.Need.{enclosing}
 use Rattle.name_rule.specs.Refusal.{unknown-name}
-use Rattle.name_rule.proofs.Judging.{uses-start}
+use Rattle.name_rule.proofs.Judging.{judging-uses}
 use borrow.Author.Needs.{needs}
 use Rattle.name_rule.proofs.unknown.judge_uses.Statement.{statement}
 use Rattle.name_rule.proofs.unknown.judge_uses.Tie as tie
@@ -33,7 +33,7 @@ enclosing-at-requires c κs = search needs
 loop-holds : tie.Need-loop-holds Inv-loop μ-loop
 loop-holds c =
     let s = c .before .before .before in (
-      uses-start _ (s .pre .1 .1 ∙ ap imports-end (classes-taken _ _ _ _ _ _ (s .pre .0)))
+      judging-uses _ (s .pre .1 .1 ∙ ap imports-end (classes-taken _ _ _ _ _ _ (s .pre .0)))
           (length-map (cut (s .args .text .now) .tokens) (λ (t : Tok). t .says) ∙ s .pre .0 .counted),
       c .enclosing-at .ensures,
     )
