@@ -7,9 +7,8 @@ ghost use Rattle.token.specs.Cut.{cut, meanings-in};
 ghost use Rattle.token.specs.Table.{TokenTable};
 ghost use Rattle.name.specs.Collect.{NameTable};
 ghost use Rattle.name_rule.specs.Refusal.{imported-again, defined-again};
-use crate::token_of;
+use crate::token_at;
 use index::Judgement;
-use index::TokenIndex;
 use name::named;
 
 // Whether the symbol at k of the imports is `iso` or is imported before.
@@ -30,7 +29,7 @@ fn is_imported_again(
     requires index { ⌜ k < m ⌝ }
     ensures { λ r. ⌜ r ≡ imported-again (meanings-in (now (text .entry))) .breach k ⌝ }
 {
-    let i = TokenIndex(imported[k] as usize);
+    let i = token_at(imported, k);
     if symbol::is_iso(text, classes, starts, ends, n, i) {
         return true;
     }
@@ -56,7 +55,7 @@ pub fn judge_imports(
     let mut k = 0;
     while k < m {
         if is_imported_again(text, classes, starts, ends, n, imported, m, defined, c, k) {
-            return Judgement::Broken(9, token_of(imported[k]));
+            return Judgement::Broken(9, token_at(imported, k));
         }
         k += 1;
     }
@@ -81,7 +80,7 @@ fn is_defined_again(
     requires index { ⌜ k < c ⌝ }
     ensures { λ r. ⌜ r ≡ defined-again (meanings-in (now (text .entry))) .breach k ⌝ }
 {
-    let i = TokenIndex(defined[k] as usize);
+    let i = token_at(defined, k);
     if symbol::is_iso(text, classes, starts, ends, n, i) {
         return true;
     }
@@ -110,7 +109,7 @@ pub fn judge_definitions(
     let mut k = 0;
     while k < c {
         if is_defined_again(text, classes, starts, ends, n, imported, m, defined, c, k) {
-            return Judgement::Broken(9, token_of(defined[k]));
+            return Judgement::Broken(9, token_at(defined, k));
         }
         k += 1;
     }

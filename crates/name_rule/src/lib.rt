@@ -1,7 +1,8 @@
 // Refusals 8 to 11: the rules on names. All of it is told of what the tokens say, and places are token indices.
 ghost use mathlib.Core.Path.{_≡_};
 ghost use mathlib.Core.List.{[], _∷_};
-ghost use lib.ListN.{length, take};
+ghost use Prim.Native.Nat.{_<_};
+ghost use lib.ListN.{length, getD, take};
 ghost use Rattle.index.specs.Rule.{judge};
 ghost use Rattle.token.specs.Cut.{cut, meanings-in};
 ghost use Rattle.token.specs.Table.{TokenTable, longest-text};
@@ -53,11 +54,19 @@ fn judge_count(collected: Collected) -> Judgement
     }
 }
 
-// A token of an array of token indices.
-fn token_of(i: u32) -> TokenIndex
-    ensures { λ r. ⌜ r .0 ≡ i ⌝ }
+// The token of an entry in an array of token indices.
+fn token_of(entry: u32) -> TokenIndex
+    ensures { λ r. ⌜ r .0 ≡ entry ⌝ }
 {
-    TokenIndex(i as usize)
+    TokenIndex(entry as usize)
+}
+
+// The token at k in an array of token indices.
+fn token_at(tokens: &[u32], k: usize) -> TokenIndex
+    requires { ⌜ k < length (now tokens) ⌝ }
+    ensures { λ r. ⌜ r .0 ≡ getD (now (tokens .entry)) k 0 ⌝ }
+{
+    token_of(tokens[k])
 }
 
 // Refusals 9 to 11, of a module whose imports and definitions are collected.

@@ -8,7 +8,7 @@ ghost use Rattle.token.specs.Table.{TokenTable};
 ghost use Rattle.name.specs.Import.{offered};
 ghost use Rattle.name.specs.Collect.{NameTable};
 ghost use Rattle.name_rule.specs.Refusal.{not-offered};
-use crate::token_of;
+use crate::token_at;
 use definition::find;
 use index::Judgement;
 use index::TokenIndex;
@@ -56,7 +56,7 @@ pub fn judge_offers(
 {
     let mut k = 0;
     while k < m {
-        let i = token_of(imported[k]);
+        let i = token_at(imported, k);
         if !is_offered(text, classes, starts, ends, n, i) {
             return Judgement::Broken(10, i);
         }

@@ -34,31 +34,25 @@ names s = names-said _ _ _ _ _ _ (s .pre .0) _ _ _ _ (s .pre .1)
 loop-holds : tie.Need-loop-holds Inv-loop μ-loop
 loop-holds c = judging-offers _ (names (c .before))
 
-mul-token-of : tie.Need-mul-token-of Inv-loop μ-loop
-mul-token-of c = search needs
-
-element-copy-out-token-of : tie.Need-element-copy-out-token-of Inv-loop μ-loop
-element-copy-out-token-of c = search needs
-
-token-of-requires : tie.Need-token-of-requires Inv-loop μ-loop
-token-of-requires c κs = search needs
+token-at-requires : tie.Need-token-at-requires Inv-loop μ-loop
+token-at-requires c κs = search needs
 
 is-offered-requires : tie.Need-is-offered-requires Inv-loop μ-loop
 is-offered-requires c κs =
     let turn = c .before .before in
     let s = turn .before .before .before in
-    (s .pre .0, omega (arith, c .token-of .ensures, imports-in _ _ _ _ _ _ (s .pre .0) _ _ _ _ (s .pre .1) .each _ (turn .loop-test .taken)))
+    (s .pre .0, omega (arith, c .token-at .ensures, imports-in _ _ _ _ _ _ (s .pre .0) _ _ _ _ (s .pre .1) .each _ (turn .loop-test .taken)))
 
 -- what the code tests is the breach
 tested : (c : tie.After-is-offered Inv-loop μ-loop) → not (c .is-offered .result) ≡ not-offered (said-by (c .before .before .before .before .before .before)) .breach (c .before .before .before .before .loop .k)
 tested c =
     let turn = c .before .before .before in
-    offered-breach _ (names (turn .before .before .before)) (turn .before .loop .k) (turn .loop-test .taken) (c .before .token-of .ensures) (c .is-offered .ensures)
+    offered-breach _ (names (turn .before .before .before)) (turn .before .loop .k) (turn .loop-test .taken) (c .before .token-at .ensures) (c .is-offered .ensures)
 
 returns : tie.Need-returns Inv-loop μ-loop
 returns c =
     let turn = c .before .before .before .before in
-    judging-broken (turn .before .loop .inv) (turn .loop-test .taken) (tested (c .before)) (c .if1 .taken) _ (c .before .before .token-of .ensures)
+    judging-broken (turn .before .loop .inv) (turn .loop-test .taken) (tested (c .before)) (c .if1 .taken) _ (c .before .before .token-at .ensures)
 
 add-k : tie.Need-add-k Inv-loop μ-loop
 add-k c = search needs
@@ -81,9 +75,7 @@ judge-offers-spec =
     Inv-loop
     μ-loop
     loop-holds
-    mul-token-of
-    element-copy-out-token-of
-    token-of-requires
+    token-at-requires
     is-offered-requires
     returns
     add-k
