@@ -65,21 +65,22 @@ count-is ms array r collects = go r collects
         ∙ sym (first-is (too-many ms .breach) 0 count most-definitions (omega arith) many breaks (λ k _ h. lt-leb most-definitions k h)))
         many breaks (i .0) at
 
--- and with it the rules after it; the classes of the tokens stand in an array
-module _ (ms : List Meaning) (cs : List ℕ) (same : cs ≡ classes-of ms) (array : List ℕ) (r : Collected) (collects : Collects cs array r) where
-  abbrev after-count : List Rule
-  after-count = imported-again ms ∷ defined-again ms ∷ not-offered ms ∷ unknown-name ms ∷ []
+-- the rules after it
+abbrev pub after-count : List Meaning → List Rule
+after-count ms = imported-again ms ∷ defined-again ms ∷ not-offered ms ∷ unknown-name ms ∷ []
 
+-- they are asked where it is kept
+module _ (ms : List Meaning) (cs : List ℕ) (same : cs ≡ classes-of ms) (array : List ℕ) (r : Collected) (collects : Collects cs array r) where
   said : count-judged r ≡ judge-one (too-many ms)
   said = count-is ms array r (subst (λ (l : List ℕ). Collects l array r) same collects)
 
-  pub count-kept : (c : ℕ) → r ≡ All c → names-judged ms ≡ judge after-count
+  pub count-kept : (c : ℕ) → r ≡ All c → names-judged ms ≡ judge (after-count ms)
   unfolding names-judged name-rules
-  count-kept c is = kept-next (too-many ms) after-count (count-judged r) said (ap count-judged is)
+  count-kept c is = kept-next (too-many ms) (after-count ms) (count-judged r) said (ap count-judged is)
 
   pub count-broken : (i : TokenIndex) → r ≡ TooMany i → count-judged r ≡ names-judged ms
   unfolding names-judged name-rules
-  count-broken i is = broken-first (too-many ms) after-count (count-judged r) said 8 i (ap count-judged is)
+  count-broken i is = broken-first (too-many ms) (after-count ms) (count-judged r) said 8 i (ap count-judged is)
 
 -- a judgement that refuses is the call's
 pub refused : (cs imported defined : List ℕ) {all j : Judgement} → j ≡ all → {number : ℕ} {i : TokenIndex} → j ≡ Judgement.Broken number i

@@ -7,42 +7,38 @@ use Rattle.index.specs.Rule.{Rule, judge}
 use Rattle.index.proofs.Judged.{judge-alone, kept-next, broken-first}
 use Rattle.token.specs.Token.{Meaning}
 use Rattle.token.specs.Cut.{meanings-in}
-use Rattle.name_rule.specs.Refusal.{imported-again, defined-again, not-offered, unknown-name}
+use Rattle.name_rule.specs.Refusal.{defined-again, not-offered, unknown-name}
+use Rattle.name_rule.proofs.Judging.{after-count}
 use Rattle.name_rule.proofs.judge_collected.Statement.{statement}
 use Rattle.name_rule.proofs.judge_collected.Tie as tie
 
--- the rules from each on
-abbrev from-uses : List Meaning → List Rule
-from-uses ms = unknown-name ms ∷ []
+-- the rules after each
+abbrev after-offers : List Meaning → List Rule
+after-offers ms = unknown-name ms ∷ []
 
-abbrev from-offers : List Meaning → List Rule
-from-offers ms = not-offered ms ∷ from-uses ms
+abbrev after-definitions : List Meaning → List Rule
+after-definitions ms = not-offered ms ∷ after-offers ms
 
-abbrev from-definitions : List Meaning → List Rule
-from-definitions ms = defined-again ms ∷ from-offers ms
+abbrev after-imports : List Meaning → List Rule
+after-imports ms = defined-again ms ∷ after-definitions ms
 
-abbrev from-imports : List Meaning → List Rule
-from-imports ms = imported-again ms ∷ from-definitions ms
+-- what the tokens say
+abbrev said-by : tie.After-enum-told → List Meaning
+said-by c = meanings-in (c .before .before .before .before .args .text .now)
 
--- what the tokens say, at each step that is left with its rule kept
-abbrev after-imports : tie.After-enum-told → List Meaning
-after-imports c = meanings-in (c .before .before .before .before .args .text .now)
-
-abbrev after-definitions : tie.After-enum-told3 → List Meaning
-after-definitions c = after-imports (c .before .before .before)
-
-abbrev after-offers : tie.After-enum-told5 → List Meaning
-after-offers c = after-definitions (c .before .before .before)
-
--- what is left to judge there
-imports-kept : (c : tie.After-enum-told) → judge (from-imports (after-imports c)) ≡ judge (from-definitions (after-imports c))
+-- each step that finds its rule kept leaves the rules after it to judge
+imports-kept : (c : tie.After-enum-told) → judge (after-count (said-by c)) ≡ judge (after-imports (said-by c))
 imports-kept c = kept-next _ _ _ (c .before .before .judge-imports .ensures) (c .enum-told .given .1)
 
-definitions-kept : (c : tie.After-enum-told3) → judge (from-imports (after-definitions c)) ≡ judge (from-offers (after-definitions c))
-definitions-kept c = imports-kept (c .before .before .before) ∙ kept-next _ _ _ (c .before .before .judge-definitions .ensures) (c .enum-told3 .given .1)
+definitions-kept : (c : tie.After-enum-told3) → judge (after-count (said-by (c .before .before .before))) ≡ judge (after-definitions (said-by (c .before .before .before)))
+definitions-kept c =
+    let step = c .before .before in
+    imports-kept (step .before) ∙ kept-next _ _ _ (step .judge-definitions .ensures) (c .enum-told3 .given .1)
 
-offers-kept : (c : tie.After-enum-told5) → judge (from-imports (after-offers c)) ≡ judge (from-uses (after-offers c))
-offers-kept c = definitions-kept (c .before .before .before) ∙ kept-next _ _ _ (c .before .before .judge-offers .ensures) (c .enum-told5 .given .1)
+offers-kept : (c : tie.After-enum-told5) → judge (after-count (said-by (c .before .before .before .before .before .before))) ≡ judge (after-offers (said-by (c .before .before .before .before .before .before)))
+offers-kept c =
+    let step = c .before .before in
+    definitions-kept (step .before) ∙ kept-next _ _ _ (step .judge-offers .ensures) (c .enum-told5 .given .1)
 
 judge-imports-requires : tie.Need-judge-imports-requires
 judge-imports-requires c κs = search needs

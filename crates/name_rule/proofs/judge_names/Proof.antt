@@ -7,14 +7,15 @@ use native.Mathlib.Omega.{arith}
 use lib.ListN.{length, take}
 use lib.Seq.{length-take-le}
 use borrow.Author.Needs.{needs}
+use Rattle.index.specs.Rule.{judge}
 use Rattle.token.specs.Token.{Meaning}
 use Rattle.token.specs.Cut.{meanings-in}
 use Rattle.token.specs.Table.{longest-text}
 use Rattle.name.specs.Import.{classes-of}
-use Rattle.name.specs.Collect.{NameTable}
 use Rattle.name.proofs.Names.{classes-taken}
+use Rattle.name_rule.specs.Refusal.{names-judged}
 use Rattle.name_rule.specs.Judged.{count-judged}
-use Rattle.name_rule.proofs.Judging.{count-kept, count-broken, refused, end-few, collected-names}
+use Rattle.name_rule.proofs.Judging.{after-count, count-kept, count-broken, refused, end-few, collected-names}
 use Rattle.name_rule.proofs.judge_names.Statement.{statement}
 use Rattle.name_rule.proofs.judge_names.Tie as tie
 
@@ -33,9 +34,18 @@ enough s = omega (arith, s .pre .0 .few, s .pre .0 .classes-long)
 short : (s : tie.Start) → length (classes s) ≤ longest-text
 short s = omega (arith, length-take-le (s .args .n) (s .args .classes .now) (enough s), s .pre .0 .few)
 
--- the imports and the definitions are collected
 abbrev start-of : tie.After-collect-definitions → tie.Start
 start-of d = d .before .before .before .before .before .before .before .before .before
+
+-- all definitions are collected: the rules after their count are left to judge
+abbrev collected-by : tie.After-judge-collected → tie.After-collected
+collected-by j = j .before .before .before .before
+
+left : (j : tie.After-judge-collected) → names-judged (said-by (start-of (collected-by j .before .before))) ≡ judge (after-count (said-by (start-of (collected-by j .before .before))))
+left j =
+    let a = collected-by j in
+    let d = a .before .before in
+    count-kept _ _ (same-classes (start-of d)) _ _ (d .collect-definitions .ensures) _ (a .collected .given .1)
 
 imports-end-requires : tie.Need-imports-end-requires
 imports-end-requires c κs = search needs
@@ -96,22 +106,16 @@ returns-2 : tie.Need-returns-2
 returns-2 c =
     let told = c .before in
     let j = told .before .before in
-    let a = j .before .before .before .before in
-    let d = a .before .before in
-    let s = start-of d in
-    refused _ _ _ (j .judge-collected .ensures ∙ sym (count-kept (said-by s) _ (same-classes s) _ _ (d .collect-definitions .ensures) _ (a .collected .given .1)))
-    (told .enum-told3 .given .1) (c .refusal2 .ensures)
+    refused _ _ _ (j .judge-collected .ensures ∙ sym (left j)) (told .enum-told3 .given .1) (c .refusal2 .ensures)
 
 returns-3 : tie.Need-returns-3
 returns-3 c =
     let j = c .before .before in
-    let a = j .before .before .before .before in
+    let a = collected-by j in
     let d = a .before .before in
-    let s = start-of d in
-    let i = d .before .before .before in
-    let all = a .collected .given .1 in (
-      sym (c .enum-told2 .given .1) ∙ j .judge-collected .ensures ∙ sym (count-kept (said-by s) _ (same-classes s) _ _ (d .collect-definitions .ensures) _ all),
-      collected-names (classes s) (short s) _ _ (i .collect-imports .ensures) _ _ (d .collect-definitions .ensures) _ all,
+    let s = start-of d in (
+      sym (c .enum-told2 .given .1) ∙ j .judge-collected .ensures ∙ sym (left j),
+      collected-names (classes s) (short s) _ _ (d .before .before .before .collect-imports .ensures) _ _ (d .collect-definitions .ensures) _ (a .collected .given .1),
     )
 
 pub judge-names-spec : {M : Type 1} → statement M

@@ -1,11 +1,9 @@
 -- `judge_uses` is right by the law of the loop that judges a rule: beside the place it keeps the word before the braces around it.
 -- Assumes nothing.
-use mathlib.Core.Path.{_≡_, refl, sym, ap, _∙_}
-use mathlib.Core.List.{List}
+use mathlib.Core.Path.{_≡_, refl, ap, _∙_}
 use Prim.Native.Nat.{ℕ, _-_}
-use native.Mathlib.Omega.{arith}
-use lib.ListN.{length, length-map, take}
-use Rattle.token.specs.Token.{Tok, Meaning}
+use lib.ListN.{length-map, take}
+use Rattle.token.specs.Token.{Tok}
 use Rattle.token.specs.Cut.{cut, meanings-in}
 use Rattle.index.proofs.Judged.{Judging, judging-next, judging-broken, judging-kept}
 use Rattle.name.specs.Import.{imports-end}
