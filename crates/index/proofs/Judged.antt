@@ -14,7 +14,7 @@ use Rattle.index.specs.Rule.{Rule, broken, and-then, judge-one, judge}
 use Rattle.index.specs.declared.TokenIndex.{TokenIndex}
 use Rattle.index.specs.declared.Judgement.{Judgement}
 use Rattle.index.specs.declared.Judgement.the-variants.{Kept, Broken}
-use Rattle.index.proofs.Search.{Searched, any-none, any-some, any-first, first-hit, first-miss, first-none, first-inside, first-holds, first-passed}
+use Rattle.index.proofs.Search.{true-false, answers, Searched, any-index, any-none, any-some, any-first, first-hit, first-miss, first-none, first-inside, first-holds, first-passed, first-is}
 
 -- the rule is kept: it is broken nowhere
 abbrev pub NeverBroken : Rule → Type 0
@@ -131,6 +131,22 @@ module _ (r : Rule) (b k : ℕ) (end : r .to ≡ b) (s : Searched (r .breach) (r
 
   pub no-breach : b ≤ k → Kept ≡ judge-one r
   no-breach = none-left r b k end (s .2)
+
+-- what breaches say of a judgement
+pub never-broken : (r : Rule) → NeverBroken r → Kept ≡ judge-one r
+unfolding judge-one
+never-broken r none = answers (any (r .breach) (r .from) (r .to)) (λ some. absurd (nowhere some)) (λ no. rw no)
+  where
+    nowhere : any (r .breach) (r .from) (r .to) ≡ true → ⊥
+    nowhere some =
+        let found = any-index (r .breach) (r .from) (r .to) (any-some (r .breach) (r .from) (r .to) some) some in
+        true-false (found .3) (none (found .0) (found .1) (found .2))
+
+pub broken-at : (r : Rule) (number place : ℕ) → BrokenAt r number place → broken number place ≡ judge-one r
+broken-at r number place b =
+    let is = first-is (r .breach) (r .from) (r .to) (b .index) (b .inside .0) (b .inside .1) (b .breaks) (b .none-before) in
+    rw (← (b .its-number))
+    (breach-here r (r .to) (b .index) refl (first-hit (r .breach) (b .index) (r .to) (b .inside .1) (b .breaks) ∙ sym is) (b .inside .1) (b .breaks) place (sym (b .its-place)))
 
 -- ---- the loop that judges a rule
 

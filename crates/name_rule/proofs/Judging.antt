@@ -1,19 +1,18 @@
 -- How the rules on names are judged: where the loops start, the count of the definitions, and the call's answer.
 -- Assumes nothing.
 use mathlib.Core.Path.{_≡_, refl, sym, ap, subst, _∙_}
-use mathlib.Core.List.{List, [], _∷_}
+use mathlib.Core.List.{List}
 use Prim.Native.Nat.{ℕ, _≤_, _<_}
 use native.Mathlib.Decide.{decLt}
 use native.Mathlib.Omega.{arith}
 use lib.ListN.{length, getD}
 use borrow.Author.Tests.{le-leb, lt-leb}
 use Rattle.index.specs.First.{Listed}
-use Rattle.index.specs.Rule.{Rule, judge-one, judge}
+use Rattle.index.specs.Rule.{judge-one, judge}
 use Rattle.index.specs.declared.TokenIndex.{TokenIndex}
 use Rattle.index.specs.declared.Judgement.{Judgement}
-use Rattle.index.proofs.Search.{first-hit, first-none, first-is, first-end}
 use Rattle.index.proofs.Hits.{hits-few}
-use Rattle.index.proofs.Judged.{Judging, judging-start, judging-each, breach-here, none-left, kept-next, broken-first}
+use Rattle.index.proofs.Judged.{Judging, judging-start, judging-each, never-broken, broken-at, kept-next, broken-first}
 use Rattle.token.specs.Token.{Meaning}
 use Rattle.token.specs.Table.{longest-text}
 use Rattle.definition.specs.Landmark.{definitions}
@@ -23,7 +22,7 @@ use Rattle.name.specs.declared.collect.Collected.{Collected}
 use Rattle.name.specs.declared.collect.Collected.the-variants.{All, TooMany}
 use Rattle.name.proofs.Names.{end-inside}
 use Rattle.name_rule.specs.Refusal.{too-many, imported-again, defined-again, not-offered, unknown-name, name-rules, names-judged}
-use Rattle.name_rule.specs.Judged.{judgement, refusal-of, count-judged, Holds}
+use Rattle.name_rule.specs.Judged.{judgement, refusal-of, count-judged, after-count, Holds}
 use Rattle.name_rule.specs.declared.Names.{Names}
 
 -- the loops that judge a rule start
@@ -47,29 +46,19 @@ judging-uses ms from long = judging-start (unknown-name ms) from long
 -- refusal 8, by what collecting the definitions answers
 count-is : (ms : List Meaning) (array : List ℕ) (r : Collected) → Collects (classes-of ms) array r → count-judged r ≡ judge-one (too-many ms)
 unfolding too-many
-count-is ms array r collects = go r collects
-  where
-    count : ℕ
-    count = length (definitions (classes-of ms))
+count-is ms array (All c) (listed, few) = never-broken (too-many ms) (λ k _ h. lt-leb most-definitions k (omega (arith, listed .counted)))
+count-is ms array (TooMany i) (many, at) =
+    broken-at (too-many ms) 8 (i .0)
+    record {
+      its-number = refl;
+      index = most-definitions;
+      inside = (omega arith, many);
+      its-place = sym at;
+      breaks = le-leb most-definitions most-definitions (omega arith);
+      none-before = λ k _ h. lt-leb most-definitions k h;
+    }
 
-    go : (r : Collected) → Collects (classes-of ms) array r → count-judged r ≡ judge-one (too-many ms)
-    go (All c) (listed, few) =
-        none-left (too-many ms) count count refl
-        (first-none (too-many ms .breach) count count (omega arith)
-        ∙ sym (first-end (too-many ms .breach) 0 count (omega arith) (λ k _ h. lt-leb most-definitions k (omega (arith, listed .counted)))))
-        (omega arith)
-    go (TooMany i) (many, at) =
-        let breaks = le-leb most-definitions most-definitions (omega arith) in
-        breach-here (too-many ms) count most-definitions refl
-        (first-hit (too-many ms .breach) most-definitions count many breaks
-        ∙ sym (first-is (too-many ms .breach) 0 count most-definitions (omega arith) many breaks (λ k _ h. lt-leb most-definitions k h)))
-        many breaks (i .0) at
-
--- the rules after it
-abbrev pub after-count : List Meaning → List Rule
-after-count ms = imported-again ms ∷ defined-again ms ∷ not-offered ms ∷ unknown-name ms ∷ []
-
--- they are asked where it is kept
+-- the rules after it are asked where it is kept
 module _ (ms : List Meaning) (cs : List ℕ) (same : cs ≡ classes-of ms) (array : List ℕ) (r : Collected) (collects : Collects cs array r) where
   said : count-judged r ≡ judge-one (too-many ms)
   said = count-is ms array r (subst (λ (l : List ℕ). Collects l array r) same collects)

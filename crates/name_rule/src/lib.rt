@@ -1,6 +1,5 @@
 // Refusals 8 to 11: the rules on names. All of it is told of what the tokens say, and places are token indices.
 ghost use mathlib.Core.Path.{_≡_};
-ghost use mathlib.Core.List.{[], _∷_};
 ghost use Prim.Native.Nat.{_<_};
 ghost use lib.ListN.{length, getD, take};
 ghost use Rattle.index.specs.Rule.{judge};
@@ -8,8 +7,8 @@ ghost use Rattle.token.specs.Cut.{cut, meanings-in};
 ghost use Rattle.token.specs.Table.{TokenTable, longest-text};
 ghost use Rattle.name.specs.Import.{imports-end};
 ghost use Rattle.name.specs.Collect.{NameTable, most-definitions};
-ghost use Rattle.name_rule.specs.Refusal.{imported-again, defined-again, not-offered, unknown-name, names-judged};
-ghost use Rattle.name_rule.specs.Judged.{judgement, refusal-of, count-judged, Holds};
+ghost use Rattle.name_rule.specs.Refusal.{names-judged};
+ghost use Rattle.name_rule.specs.Judged.{judgement, refusal-of, count-judged, after-count, Holds};
 
 mod again;
 mod offer;
@@ -85,7 +84,7 @@ fn judge_collected(
     requires table { ⌜ TokenTable (now text) (cut (now text) .tokens) (now classes) (now starts) (now ends) n ⌝ }
     requires names { ⌜ NameTable (take n (now classes)) (now imported) m (now defined) c ⌝ }
     requires end { ⌜ end ≡ imports-end (take n (now classes)) ⌝ }
-    ensures { λ r. ⌜ r ≡ judge (imported-again (meanings-in (now (text .entry))) ∷ defined-again (meanings-in (now (text .entry))) ∷ not-offered (meanings-in (now (text .entry))) ∷ unknown-name (meanings-in (now (text .entry))) ∷ []) ⌝ }
+    ensures { λ r. ⌜ r ≡ judge (after-count (meanings-in (now (text .entry)))) ⌝ }
 {
     let imports = judge_imports(text, classes, starts, ends, n, imported, m, defined, c);
     let Judgement::Kept = imports else {

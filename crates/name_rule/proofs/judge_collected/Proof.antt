@@ -8,7 +8,7 @@ use Rattle.index.proofs.Judged.{judge-alone, kept-next, broken-first}
 use Rattle.token.specs.Token.{Meaning}
 use Rattle.token.specs.Cut.{meanings-in}
 use Rattle.name_rule.specs.Refusal.{defined-again, not-offered, unknown-name}
-use Rattle.name_rule.proofs.Judging.{after-count}
+use Rattle.name_rule.specs.Judged.{after-count}
 use Rattle.name_rule.proofs.judge_collected.Statement.{statement}
 use Rattle.name_rule.proofs.judge_collected.Tie as tie
 

@@ -14,8 +14,8 @@ use Rattle.token.specs.Table.{longest-text}
 use Rattle.name.specs.Import.{classes-of}
 use Rattle.name.proofs.Names.{classes-taken}
 use Rattle.name_rule.specs.Refusal.{names-judged}
-use Rattle.name_rule.specs.Judged.{count-judged}
-use Rattle.name_rule.proofs.Judging.{after-count, count-kept, count-broken, refused, end-few, collected-names}
+use Rattle.name_rule.specs.Judged.{count-judged, after-count}
+use Rattle.name_rule.proofs.Judging.{count-kept, count-broken, refused, end-few, collected-names}
 use Rattle.name_rule.proofs.judge_names.Statement.{statement}
 use Rattle.name_rule.proofs.judge_names.Tie as tie
 
