@@ -27,7 +27,7 @@ abbrev pub count-judged : Collected → Judgement
 count-judged (All count) = Judgement.Kept
 count-judged (TooMany i) = Judgement.Broken 8 i
 
--- the rules after it
+-- the rules on names after refusal 8
 abbrev pub after-count : List Meaning → List Rule
 after-count ms = imported-again ms ∷ defined-again ms ∷ not-offered ms ∷ unknown-name ms ∷ []
 
