@@ -4,15 +4,17 @@
 use mathlib.Core.Path.{_≡_, refl, ap}
 use mathlib.Core.Bool.{Bool, true, false, cond}
 use mathlib.Core.List.{List, [], _∷_, _++_}
-use Prim.Native.Nat.{ℕ, _≤_, _<_}
+use Prim.Native.Nat.{ℕ, _+_, _≤_, _<_}
+use native.Mathlib.Numerals.{add-one}
 use native.Mathlib.Omega.{arith}
 use borrow.Author.Tests.{lt-ltb, le-ltb}
-use Rattle.index.specs.First.{first, any}
+use lib.ListN.{length, getD}
+use Rattle.index.specs.First.{first, any, Listed}
 use Rattle.index.specs.Rule.{Rule, broken, and-then, judge-one, judge}
 use Rattle.index.specs.declared.TokenIndex.{TokenIndex}
 use Rattle.index.specs.declared.Judgement.{Judgement}
 use Rattle.index.specs.declared.Judgement.the-variants.{Kept, Broken}
-use Rattle.index.proofs.Search.{Searched, searched-hit, searched-end, any-none, any-some, any-first, first-inside, first-holds, first-passed}
+use Rattle.index.proofs.Search.{true-false, answers, Searched, any-index, any-none, any-some, any-first, first-hit, first-miss, first-none, first-inside, first-holds, first-passed, first-is}
 
 -- the rule is kept: it is broken nowhere
 abbrev pub NeverBroken : Rule → Type 0
@@ -89,6 +91,15 @@ judge-row (r ∷ rs) ss = go (judge-one r) (judge-row rs ss)
     go Kept ih = ih
     go (Broken n p) ih = refl
 
+-- a rule alone
+pub judge-alone : (r : Rule) → judge-one r ≡ judge (r ∷ [])
+unfolding judge
+judge-alone r = go (judge-one r)
+  where
+    go : (j : Judgement) → j ≡ and-then j Kept
+    go Kept = refl
+    go (Broken n p) = refl
+
 -- a rule and those after it, by what the rule says
 module _ (r : Rule) (rs : List Rule) (j : Judgement) (is : j ≡ judge-one r) where
   pub kept-next : j ≡ Kept → judge (r ∷ rs) ≡ judge rs
@@ -99,16 +110,86 @@ module _ (r : Rule) (rs : List Rule) (j : Judgement) (is : j ≡ judge-one r) wh
   unfolding judge
   broken-first number place e = rw (← is, e)
 
--- the loop that searches for a breach of a rule up to b, and is at k
-module _ (r : Rule) (b k : ℕ) (end : r .to ≡ b) (s : Searched (r .breach) (r .from) b k) where
-  pub breach-found : k < b → r .breach k ≡ true → (place : ℕ) → place ≡ r .place k → broken (r .number) place ≡ judge-one r
+-- the loop that searches for a breach of a rule up to b, and is at k: from there on it finds what the whole search finds
+module _ (r : Rule) (b k : ℕ) (end : r .to ≡ b) (passed : first (r .breach) k b ≡ first (r .breach) (r .from) b) where
+  pub breach-here : k < b → r .breach k ≡ true → (place : ℕ) → place ≡ r .place k → broken (r .number) place ≡ judge-one r
   unfolding judge-one any
-  breach-found h e place at =
-      let is : k ≡ first (r .breach) (r .from) b = searched-hit (r .breach) (r .from) b k s h e in
+  breach-here h e place at =
+      let is : k ≡ first (r .breach) (r .from) b = sym (first-hit (r .breach) k b h e) ∙ passed in
       rw (end, ← is) (simp (lt-ltb k b h, at))
 
-  pub no-breach : b ≤ k → Kept ≡ judge-one r
+  pub none-left : b ≤ k → Kept ≡ judge-one r
   unfolding judge-one any
-  no-breach h =
-      let is : b ≡ first (r .breach) (r .from) b = searched-end (r .breach) (r .from) b k s h in
-      rw (end, ← is) (simp (le-ltb b b (omega arith)))
+  none-left h =
+      let is : k ≡ first (r .breach) (r .from) b = sym (first-none (r .breach) k b h) ∙ passed in
+      rw (end, ← is) (simp (le-ltb k b h))
+
+-- the same for a loop that starts no later than b
+module _ (r : Rule) (b k : ℕ) (end : r .to ≡ b) (s : Searched (r .breach) (r .from) b k) where
+  pub breach-found : k < b → r .breach k ≡ true → (place : ℕ) → place ≡ r .place k → broken (r .number) place ≡ judge-one r
+  breach-found = breach-here r b k end (s .2)
+
+  pub no-breach : b ≤ k → Kept ≡ judge-one r
+  no-breach = none-left r b k end (s .2)
+
+-- what breaches say of a judgement
+pub never-broken : (r : Rule) → NeverBroken r → Kept ≡ judge-one r
+unfolding judge-one
+never-broken r none = answers (any (r .breach) (r .from) (r .to)) (λ some. absurd (nowhere some)) (λ no. rw no)
+  where
+    nowhere : any (r .breach) (r .from) (r .to) ≡ true → ⊥
+    nowhere some =
+        let found = any-index (r .breach) (r .from) (r .to) (any-some (r .breach) (r .from) (r .to) some) some in
+        true-false (found .3) (none (found .0) (found .1) (found .2))
+
+pub broken-at : (r : Rule) (number place : ℕ) → BrokenAt r number place → broken number place ≡ judge-one r
+broken-at r number place b =
+    let is = first-is (r .breach) (r .from) (r .to) (b .index) (b .inside .0) (b .inside .1) (b .breaks) (b .none-before) in
+    rw (← (b .its-number))
+    (breach-here r (r .to) (b .index) refl (first-hit (r .breach) (b .index) (r .to) (b .inside .1) (b .breaks) ∙ sym is) (b .inside .1) (b .breaks) place (sym (b .its-place)))
+
+-- ---- the loop that judges a rule
+
+-- the loop tests the indices up to b and is at k, and has passed no breach; it answers a breach at i by `number` and `place i`
+pub record Judging (r : Rule) (number : ℕ) (place : ℕ → ℕ) (b k : ℕ) : Type 0 where
+  pub numbered : r .number ≡ number
+  pub placed : (i : ℕ) → i < b → place i ≡ r .place i
+  pub end : r .to ≡ b
+  pub passed : first (r .breach) k b ≡ first (r .breach) (r .from) b
+
+-- it starts at the first index; where the rule is tested at each of a list of tokens, the array that holds them gives the places
+pub judging-start : (r : Rule) {b k : ℕ} → k ≡ r .from → r .to ≡ b → Judging r (r .number) (r .place) b k
+judging-start r {b} from end = record {
+  numbered = refl;
+  placed = λ i h. refl;
+  end = end;
+  passed = ap (λ (a : ℕ). first (r .breach) a b) from;
+}
+
+pub judging-each : (r : Rule) {tokens array : List ℕ} {m : ℕ} → Listed tokens array m → 0 ≡ r .from → r .to ≡ length tokens → ((i : ℕ) → getD tokens i 0 ≡ r .place i)
+    → Judging r (r .number) (λ (i : ℕ). getD array i 0) m 0
+judging-each r {m = m} held from end placed = record {
+  numbered = refl;
+  placed = λ i h. held .entry i h ∙ placed i;
+  end = end ∙ held .counted;
+  passed = ap (λ (a : ℕ). first (r .breach) a m) from;
+}
+
+-- the code tests the index that the loop is at
+module _ {r : Rule} {number : ℕ} {place : ℕ → ℕ} {b k : ℕ} (j : Judging r number place b k) (h : k < b) {test : Bool} (is : test ≡ r .breach k) where
+  -- no breach: the loop goes on
+  pub judging-next : test ≡ false → Judging r number place b (k + 1)
+  judging-next e = record {
+    numbered = j .numbered;
+    placed = j .placed;
+    end = j .end;
+    passed = rw (add-one k) (sym (first-miss (r .breach) k b h (sym is ∙ e)) ∙ j .passed);
+  }
+
+  -- a breach is the first
+  pub judging-broken : test ≡ true → (i : ℕ) → i ≡ place k → broken number i ≡ judge-one r
+  judging-broken e i at = rw (← (j .numbered)) (breach-here r b k (j .end) (j .passed) h (sym is ∙ e) i (at ∙ j .placed k h))
+
+-- no index is left: there is no breach
+pub judging-kept : {r : Rule} {number : ℕ} {place : ℕ → ℕ} {b k : ℕ} → Judging r number place b k → b ≤ k → Kept ≡ judge-one r
+judging-kept {r} {b = b} {k = k} j h = none-left r b k (j .end) (j .passed) h

@@ -1,115 +1,84 @@
--- The judgement of the rules on names, one rule after the other.
+-- How the rules on names are judged: where the loops start, the count of the definitions, and the call's answer.
 -- Assumes nothing.
 use mathlib.Core.Path.{_≡_, refl, sym, ap, subst, _∙_}
-use mathlib.Core.List.{List, [], _∷_}
+use mathlib.Core.List.{List}
 use Prim.Native.Nat.{ℕ, _≤_, _<_}
+use native.Mathlib.Decide.{decLt}
 use native.Mathlib.Omega.{arith}
 use lib.ListN.{length, getD}
-use borrow.Author.Tests.{lt-ltb, le-ltb, le-leb, lt-leb}
-use native.Mathlib.Decide.{decLt}
-use Rattle.index.specs.First.{first, any, Listed}
-use Rattle.index.specs.Rule.{Rule, broken, judge}
+use borrow.Author.Tests.{le-leb, lt-leb}
+use Rattle.index.specs.First.{Listed}
+use Rattle.index.specs.Rule.{judge-one, judge}
 use Rattle.index.specs.declared.TokenIndex.{TokenIndex}
-use Rattle.index.proofs.Search.{first-is, first-end}
+use Rattle.index.specs.declared.Judgement.{Judgement}
 use Rattle.index.proofs.Hits.{hits-few}
+use Rattle.index.proofs.Judged.{Judging, judging-start, judging-each, never-broken, broken-at, kept-next, broken-first}
 use Rattle.token.specs.Token.{Meaning}
+use Rattle.token.specs.Table.{longest-text}
 use Rattle.definition.specs.Landmark.{definitions}
 use Rattle.name.specs.Import.{classes-of, imports, imports-start, imports-end, is-symbol}
 use Rattle.name.specs.Collect.{NameTable, Collects, most-definitions}
 use Rattle.name.specs.declared.collect.Collected.{Collected}
 use Rattle.name.specs.declared.collect.Collected.the-variants.{All, TooMany}
 use Rattle.name.proofs.Names.{end-inside}
-use Rattle.token.specs.Table.{longest-text}
 use Rattle.name_rule.specs.Refusal.{too-many, imported-again, defined-again, not-offered, unknown-name, name-rules, names-judged}
+use Rattle.name_rule.specs.Judged.{judgement, refusal-of, count-judged, after-count, Holds}
+use Rattle.name_rule.specs.declared.Names.{Names}
 
--- a rule that is tested up to b, and whose search answers k
-module _ (r : Rule) (rs : List Rule) (b k : ℕ) (end : r .to ≡ b) (is : k ≡ first (r .breach) (r .from) b) where
-  pub rule-broken : k < b → judge (r ∷ rs) ≡ broken (r .number) (r .place k)
-  unfolding judge any
-  rule-broken h = rw (end, ← is) (simp (lt-ltb k b h))
+-- the loops that judge a rule start
+module _ (ms : List Meaning) {imported : List ℕ} {m : ℕ} {defined : List ℕ} {c : ℕ} (names : NameTable (classes-of ms) imported m defined c) where
+  pub judging-imports : Judging (imported-again ms) 9 (λ (k : ℕ). getD imported k 0) m 0
+  unfolding imported-again
+  judging-imports = judging-each (imported-again ms) (names .import-list) refl refl (λ k. refl)
 
-  pub rule-kept : b ≤ k → judge (r ∷ rs) ≡ judge rs
-  unfolding judge any
-  rule-kept h = rw (end, ← is) (simp (le-ltb k b h))
+  pub judging-definitions : Judging (defined-again ms) 9 (λ (k : ℕ). getD defined k 0) c 0
+  unfolding defined-again
+  judging-definitions = judging-each (defined-again ms) (names .definition-list) refl refl (λ k. refl)
 
-module _ (ms : List Meaning) (imported : List ℕ) (m : ℕ) (defined : List ℕ) (c : ℕ) (names : NameTable (classes-of ms) imported m defined c) (rs : List Rule) where
-  module _ (k : ℕ) (is : k ≡ first (imported-again ms .breach) 0 m) where
-    pub imports-broken : k < m → (i : ℕ) → i ≡ getD imported k 0 → broken 9 i ≡ judge (imported-again ms ∷ rs)
-    unfolding imported-again
-    imports-broken h i at =
-        ap (broken 9) (at ∙ names .import-list .entry k h)
-        ∙ sym (rule-broken (imported-again ms) rs m k (names .import-list .counted) is h)
+  pub judging-offers : Judging (not-offered ms) 10 (λ (k : ℕ). getD imported k 0) m 0
+  unfolding not-offered
+  judging-offers = judging-each (not-offered ms) (names .import-list) refl refl (λ k. refl)
 
-    pub imports-kept : m ≤ k → judge (imported-again ms ∷ rs) ≡ judge rs
-    unfolding imported-again
-    imports-kept h = rule-kept (imported-again ms) rs m k (names .import-list .counted) is h
+pub judging-uses : (ms : List Meaning) {n end : ℕ} → end ≡ imports-end (classes-of ms) → length ms ≡ n → Judging (unknown-name ms) 11 (λ (i : ℕ). i) n end
+unfolding unknown-name
+judging-uses ms from long = judging-start (unknown-name ms) from long
 
-  module _ (k : ℕ) (is : k ≡ first (defined-again ms .breach) 0 c) where
-    pub definitions-broken : k < c → (i : ℕ) → i ≡ getD defined k 0 → broken 9 i ≡ judge (defined-again ms ∷ rs)
-    unfolding defined-again
-    definitions-broken h i at =
-        ap (broken 9) (at ∙ names .definition-list .entry k h)
-        ∙ sym (rule-broken (defined-again ms) rs c k (names .definition-list .counted) is h)
+-- refusal 8, by what collecting the definitions answers
+count-is : (ms : List Meaning) (array : List ℕ) (r : Collected) → Collects (classes-of ms) array r → count-judged r ≡ judge-one (too-many ms)
+unfolding too-many
+count-is ms array (All c) (listed, few) = never-broken (too-many ms) (λ k _ h. lt-leb most-definitions k (omega (arith, listed .counted)))
+count-is ms array (TooMany i) (many, at) =
+    broken-at (too-many ms) 8 (i .0)
+    record {
+      its-number = refl;
+      index = most-definitions;
+      inside = (omega arith, many);
+      its-place = sym at;
+      breaks = le-leb most-definitions most-definitions (omega arith);
+      none-before = λ k _ h. lt-leb most-definitions k h;
+    }
 
-    pub definitions-kept : c ≤ k → judge (defined-again ms ∷ rs) ≡ judge rs
-    unfolding defined-again
-    definitions-kept h = rule-kept (defined-again ms) rs c k (names .definition-list .counted) is h
+-- the rules after it are asked where it is kept
+module _ (ms : List Meaning) (cs : List ℕ) (same : cs ≡ classes-of ms) (array : List ℕ) (r : Collected) (collects : Collects cs array r) where
+  said : count-judged r ≡ judge-one (too-many ms)
+  said = count-is ms array r (subst (λ (l : List ℕ). Collects l array r) same collects)
 
-  module _ (k : ℕ) (is : k ≡ first (not-offered ms .breach) 0 m) where
-    pub offers-broken : k < m → (i : ℕ) → i ≡ getD imported k 0 → broken 10 i ≡ judge (not-offered ms ∷ rs)
-    unfolding not-offered
-    offers-broken h i at =
-        ap (broken 10) (at ∙ names .import-list .entry k h)
-        ∙ sym (rule-broken (not-offered ms) rs m k (names .import-list .counted) is h)
+  pub count-kept : (c : ℕ) → r ≡ All c → names-judged ms ≡ judge (after-count ms)
+  unfolding names-judged name-rules
+  count-kept c is = kept-next (too-many ms) (after-count ms) (count-judged r) said (ap count-judged is)
 
-    pub offers-kept : m ≤ k → judge (not-offered ms ∷ rs) ≡ judge rs
-    unfolding not-offered
-    offers-kept h = rule-kept (not-offered ms) rs m k (names .import-list .counted) is h
+  pub count-broken : (i : TokenIndex) → r ≡ TooMany i → count-judged r ≡ names-judged ms
+  unfolding names-judged name-rules
+  count-broken i is = broken-first (too-many ms) (after-count ms) (count-judged r) said 8 i (ap count-judged is)
 
--- the uses of names, from the end of the imports on
-module _ (ms : List Meaning) (rs : List Rule) (n end k : ℕ) (long : length ms ≡ n) (from : end ≡ imports-end (classes-of ms)) (is : k ≡ first (unknown-name ms .breach) end n) where
-  searched : k ≡ first (unknown-name ms .breach) (imports-end (classes-of ms)) n
-  searched = is ∙ ap (λ (a : ℕ). first (unknown-name ms .breach) a n) from
+-- a judgement that refuses is the call's
+pub refused : (cs imported defined : List ℕ) {all j : Judgement} → j ≡ all → {number : ℕ} {i : TokenIndex} → j ≡ Judgement.Broken number i
+    → {r : Names} → r ≡ refusal-of j → (judgement r ≡ all) × Holds cs r imported defined
+refused cs imported defined judged {number} {i} is {r} answer =
+    let broken : r ≡ Names.Broken number i = answer ∙ ap refusal-of is in
+    (ap judgement broken ∙ sym is ∙ judged, rw broken tt)
 
-  pub uses-broken : k < n → broken 11 k ≡ judge (unknown-name ms ∷ rs)
-  unfolding unknown-name
-  uses-broken h = sym (rule-broken (unknown-name ms) rs n k long searched h)
-
-  pub uses-kept : n ≤ k → judge (unknown-name ms ∷ rs) ≡ judge rs
-  unfolding unknown-name
-  uses-kept h = rule-kept (unknown-name ms) rs n k long searched h
-
--- the count of definitions
-module _ (ms : List Meaning) (rs : List Rule) where
-  pub count-broken : most-definitions < length (definitions (classes-of ms)) → (i : ℕ) → i ≡ getD (definitions (classes-of ms)) most-definitions 0 → broken 8 i ≡ judge (too-many ms ∷ rs)
-  unfolding too-many
-  count-broken h i at =
-      ap (broken 8) at
-      ∙ sym (rule-broken (too-many ms) rs (length (definitions (classes-of ms))) most-definitions refl
-      (sym (first-is (too-many ms .breach) 0 (length (definitions (classes-of ms))) most-definitions (omega arith) h (le-leb most-definitions most-definitions (omega arith)) (λ j _ p. lt-leb most-definitions j p)))
-      h)
-
-  pub count-kept : (c : ℕ) → length (definitions (classes-of ms)) ≡ c → c ≤ most-definitions → judge (too-many ms ∷ rs) ≡ judge rs
-  unfolding too-many
-  count-kept c counted few =
-      rule-kept (too-many ms) rs (length (definitions (classes-of ms))) (length (definitions (classes-of ms))) refl
-      (sym (first-end (too-many ms .breach) 0 (length (definitions (classes-of ms))) (omega arith) (λ j _ p. lt-leb most-definitions j (omega arith))))
-      (omega arith)
-
--- the rules on names after the first
-pub names-are : (ms : List Meaning) → names-judged ms ≡ judge (too-many ms ∷ imported-again ms ∷ defined-again ms ∷ not-offered ms ∷ unknown-name ms ∷ [])
-unfolding names-judged name-rules
-names-are ms = refl
-
--- what the collected definitions say of the two answers
-module _ (cs array : List ℕ) (r : Collected) (collects : Collects cs array r) where
-  pub all-collected : (c : ℕ) → r ≡ All c → Listed (definitions cs) array c × (c ≤ most-definitions)
-  all-collected c is = subst (Collects cs array) is collects
-
-  pub many-collected : (i : TokenIndex) → r ≡ TooMany i → (most-definitions < length (definitions cs)) × (i .0 ≡ getD (definitions cs) most-definitions 0)
-  many-collected i is = subst (Collects cs array) is collects
-
--- the imports of a text that is not too long are few enough, and end in time
+-- the imports of a text that is not too long end in time, and are few enough to be collected with the definitions
 module _ (cs : List ℕ) (short : length cs ≤ longest-text) where
   pub end-few : imports-end cs ≤ longest-text
   end-few = go (decLt imports-start (imports-end cs))
@@ -118,6 +87,17 @@ module _ (cs : List ℕ) (short : length cs ≤ longest-text) where
       go (yes h) = omega (arith, end-inside cs h)
       go (no h) = omega arith
 
-  pub imports-few : (array : List ℕ) (m : ℕ) → Listed (imports cs) array m → m ≤ longest-text
+  imports-few : (array : List ℕ) (m : ℕ) → Listed (imports cs) array m → m ≤ longest-text
   unfolding imports
   imports-few array m l = omega (arith, l .counted, hits-few (is-symbol cs) imports-start (imports-end cs), end-few)
+
+  pub collected-names : (imported : List ℕ) (m : ℕ) → Listed (imports cs) imported m → (defined : List ℕ) (r : Collected) → Collects cs defined r
+      → (c : ℕ) → r ≡ All c → NameTable cs imported m defined c
+  collected-names imported m listed defined r collects c is =
+      let all : Listed (definitions cs) defined c × (c ≤ most-definitions) = subst (Collects cs defined) is collects in
+      record {
+        import-list = listed;
+        few-imports = imports-few imported m listed;
+        definition-list = all .0;
+        few-definitions = all .1;
+      }

@@ -18,7 +18,7 @@ use Rattle.terminal.specs.Terminal.{FROM}
 use Rattle.definition.specs.Landmark.{class-at}
 use Rattle.definition.specs.Fields.{find}
 use Rattle.index.proofs.Search.{first-inside}
-use Rattle.name.specs.Import.{classes-of, spelled, imports, source, offered}
+use Rattle.name.specs.Import.{classes-of, spelled, source, offered}
 use Rattle.name.specs.Collect.{NameTable}
 use Rattle.name_rule.specs.Refusal.{not-offered}
 
@@ -67,15 +67,8 @@ source-is cs cs′ n i at same long is =
 pub source-inside : (cs : List ℕ) (n i at : ℕ) → i ≤ n → at ≡ find cs FROM i n → at ≤ n
 source-inside cs n i at h is = omega (arith, is, first-inside (λ (j : ℕ). eqb (class-at cs j) FROM) i n h)
 
--- a symbol that is offered breaks nothing, and one that isn't breaks refusal 10
-module _ (ms : List Meaning) (imported : List ℕ) (m : ℕ) (defined : List ℕ) (c : ℕ) (names : NameTable (classes-of ms) imported m defined c) (k : ℕ) (h : k < m) where
-  import-there : offered ms (getD imported k 0) ≡ offered ms (getD (imports (classes-of ms)) k 0)
-  import-there = ap (offered ms) (names .import-list .entry k h)
-
-  pub import-offered : offered ms (getD imported k 0) ≡ true → not-offered ms .breach k ≡ false
-  unfolding not-offered
-  import-offered e = ap not (sym import-there ∙ e)
-
-  pub import-refused : offered ms (getD imported k 0) ≡ false → not-offered ms .breach k ≡ true
-  unfolding not-offered
-  import-refused e = ap not (sym import-there ∙ e)
+-- a symbol that isn't offered breaks refusal 10: the import at k of the array, which is token i
+pub offered-breach : (ms : List Meaning) {imported : List ℕ} {m : ℕ} {defined : List ℕ} {c : ℕ} → NameTable (classes-of ms) imported m defined c
+    → (k : ℕ) → k < m → {i : ℕ} → i ≡ getD imported k 0 → {r : Bool} → r ≡ offered ms i → not r ≡ not-offered ms .breach k
+unfolding not-offered
+offered-breach ms names k h at is = ap not (is ∙ ap (offered ms) (at ∙ names .import-list .entry k h))

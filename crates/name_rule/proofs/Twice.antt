@@ -34,51 +34,49 @@ or-true a b e = rw e
 or-false : (a b c : Bool) → a ≡ false → c ≡ b → c ≡ (a || b)
 or-false a b c e q = rw e q
 
-module _ (ms : List Meaning) (imported : List ℕ) (m : ℕ) (defined : List ℕ) (c : ℕ) (names : NameTable (classes-of ms) imported m defined c) where
-  -- the import at k
-  module _ (k : ℕ) (h : k < m) (s : List ℕ) (is : s ≡ spelled ms (getD imported k 0)) where
-    import-name : s ≡ spelled ms (getD (imports (classes-of ms)) k 0)
-    import-name = is ∙ ap (spelled ms) (names .import-list .entry k h)
+module _ (ms : List Meaning) {imported : List ℕ} {m : ℕ} {defined : List ℕ} {c : ℕ} (names : NameTable (classes-of ms) imported m defined c) (k : ℕ) where
+  -- token i is the import at k
+  module _ (h : k < m) {i : ℕ} (at : i ≡ getD imported k 0) where
+    the-import : i ≡ getD (imports (classes-of ms)) k 0
+    the-import = at ∙ names .import-list .entry k h
 
-    pub import-is-iso : same s iso-name ≡ true → true ≡ imported-again ms .breach k
+    pub import-is-iso : same (spelled ms i) iso-name ≡ true → true ≡ imported-again ms .breach k
     unfolding imported-again
-    import-is-iso e = rw (← import-name) (or-true (same s iso-name) _ e)
+    import-is-iso e = rw (← the-import) (or-true _ _ e)
 
-    pub import-stands : same s iso-name ≡ false → (r : ℕ) → r ≡ first (λ (j : ℕ). same (spelled ms (getD imported j 0)) s) 0 k → ltb r k ≡ imported-again ms .breach k
+    pub import-stands : same (spelled ms i) iso-name ≡ false → (r : ℕ) → r ≡ first (λ (j : ℕ). same (spelled ms (getD imported j 0)) (spelled ms i)) 0 k → ltb r k ≡ imported-again ms .breach k
     unfolding imported-again
     import-stands e r q =
-        rw (← import-name)
-        (or-false (same s iso-name) _ _ e (ap (λ (x : ℕ). ltb x k) q ∙ stands ms (imports (classes-of ms)) imported m k s (names .import-list) (omega arith)))
+        rw (← the-import)
+        (or-false _ _ _ e (ap (λ (x : ℕ). ltb x k) q ∙ stands ms (imports (classes-of ms)) imported m k (spelled ms i) (names .import-list) (omega arith)))
 
-  -- the definition at k
-  module _ (k : ℕ) (h : k < c) (s : List ℕ) (is : s ≡ spelled ms (getD defined k 0)) where
-    definition-name : s ≡ spelled ms (getD (definitions (classes-of ms)) k 0)
-    definition-name = is ∙ ap (spelled ms) (names .definition-list .entry k h)
+  -- token i is the name of the definition at k
+  module _ (h : k < c) {i : ℕ} (at : i ≡ getD defined k 0) where
+    the-definition : i ≡ getD (definitions (classes-of ms)) k 0
+    the-definition = at ∙ names .definition-list .entry k h
 
-    pub definition-is-iso : same s iso-name ≡ true → true ≡ defined-again ms .breach k
+    pub definition-is-iso : same (spelled ms i) iso-name ≡ true → true ≡ defined-again ms .breach k
     unfolding defined-again
-    definition-is-iso e = rw (← definition-name) (or-true (same s iso-name) _ e)
+    definition-is-iso e = rw (← the-definition) (or-true _ _ e)
 
-    in-imports : (r : ℕ) → r ≡ first (λ (j : ℕ). same (spelled ms (getD imported j 0)) s) 0 m → ltb r m ≡ stands-in ms (imports (classes-of ms)) (length (imports (classes-of ms))) s
+    in-imports : (r : ℕ) → r ≡ first (λ (j : ℕ). same (spelled ms (getD imported j 0)) (spelled ms i)) 0 m → ltb r m ≡ stands-in ms (imports (classes-of ms)) (length (imports (classes-of ms))) (spelled ms i)
     in-imports r q =
         ap (λ (x : ℕ). ltb x m) q
-        ∙ stands ms (imports (classes-of ms)) imported m m s (names .import-list) (omega arith)
-        ∙ ap (λ (n : ℕ). stands-in ms (imports (classes-of ms)) n s) (sym (names .import-list .counted))
+        ∙ stands ms (imports (classes-of ms)) imported m m (spelled ms i) (names .import-list) (omega arith)
+        ∙ ap (λ (n : ℕ). stands-in ms (imports (classes-of ms)) n (spelled ms i)) (sym (names .import-list .counted))
 
-    pub definition-imported : same s iso-name ≡ false → (r : ℕ) → r ≡ first (λ (j : ℕ). same (spelled ms (getD imported j 0)) s) 0 m → r < m → true ≡ defined-again ms .breach k
+    pub definition-imported : same (spelled ms i) iso-name ≡ false → (r : ℕ) → r ≡ first (λ (j : ℕ). same (spelled ms (getD imported j 0)) (spelled ms i)) 0 m → r < m → true ≡ defined-again ms .breach k
     unfolding defined-again
-    definition-imported e r q l =
-        rw (← definition-name)
-        (or-false (same s iso-name) _ _ e (or-true _ _ (sym (in-imports r q) ∙ lt-ltb r m l)))
+    definition-imported e r q l = rw (← the-definition) (or-false _ _ _ e (or-true _ _ (sym (in-imports r q) ∙ lt-ltb r m l)))
 
-    pub definition-stands : same s iso-name ≡ false → (r : ℕ) → r ≡ first (λ (j : ℕ). same (spelled ms (getD imported j 0)) s) 0 m → m ≤ r
-        → (d : ℕ) → d ≡ first (λ (j : ℕ). same (spelled ms (getD defined j 0)) s) 0 k → ltb d k ≡ defined-again ms .breach k
+    pub definition-stands : same (spelled ms i) iso-name ≡ false → (r : ℕ) → r ≡ first (λ (j : ℕ). same (spelled ms (getD imported j 0)) (spelled ms i)) 0 m → m ≤ r
+        → (d : ℕ) → d ≡ first (λ (j : ℕ). same (spelled ms (getD defined j 0)) (spelled ms i)) 0 k → ltb d k ≡ defined-again ms .breach k
     unfolding defined-again
     definition-stands e r q l d p =
-        rw (← definition-name)
-        (or-false (same s iso-name) _ _ e
+        rw (← the-definition)
+        (or-false _ _ _ e
         (or-false _ _ _ (sym (in-imports r q) ∙ le-ltb r m l)
-        (ap (λ (x : ℕ). ltb x k) p ∙ stands ms (definitions (classes-of ms)) defined c k s (names .definition-list) (omega arith))))
+        (ap (λ (x : ℕ). ltb x k) p ∙ stands ms (definitions (classes-of ms)) defined c k (spelled ms i) (names .definition-list) (omega arith))))
 
 -- the first entries of an array of tokens
 pub first-tokens : (array : List ℕ) (m k n : ℕ) → TokensIn array m n → k ≤ m → TokensIn array k n

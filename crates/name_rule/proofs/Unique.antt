@@ -10,7 +10,7 @@ use lib.ListN.{length, getD}
 use borrow.Author.Tests.{lt-ltb}
 use Rattle.index.specs.First.{any}
 use Rattle.index.proofs.Search.{first-is, any-none, true-false}
-use Rattle.index.proofs.Judged.{Kept}
+use Rattle.index.proofs.Judged.{NeverBroken}
 use Rattle.lexicon.specs.Word.{same}
 use Rattle.lexicon.proofs.Words.{same-refl}
 use Rattle.token.specs.Token.{Meaning}
@@ -45,7 +45,7 @@ module _ (ms : List Meaning) where
   abbrev defined : List ℕ
   defined = definitions (classes-of ms)
 
-  module _ (k : ℕ) (h : k < length imported) (once : Kept (imported-again ms)) where
+  module _ (k : ℕ) (h : k < length imported) (once : NeverBroken (imported-again ms)) where
     abbrev import-name : List ℕ
     import-name = spelled ms (getD imported k 0)
 
@@ -60,7 +60,7 @@ module _ (ms : List Meaning) where
         let itself = named-itself ms imported k h (or-right (same import-name iso-name) (stands-in ms imported k import-name) kept-import) in
         simp (other, lt-ltb (named ms imported import-name) (length imported) (omega (arith, itself)))
 
-  module _ (k : ℕ) (h : k < length defined) (once : Kept (defined-again ms)) where
+  module _ (k : ℕ) (h : k < length defined) (once : NeverBroken (defined-again ms)) where
     abbrev definition-name : List ℕ
     definition-name = spelled ms (getD defined k 0)
 

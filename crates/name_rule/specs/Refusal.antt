@@ -6,7 +6,8 @@ use Prim.Native.Nat.{ℕ}
 use lib.Dec.{leb}
 use lib.ListN.{length, getD}
 use Rattle.index.specs.First.{any}
-use Rattle.index.specs.Rule.{Rule, Judgement, judge}
+use Rattle.index.specs.Rule.{Rule, judge}
+use Rattle.index.specs.declared.Judgement.{Judgement}
 use Rattle.lexicon.specs.Word.{same}
 use Rattle.token.specs.Token.{Meaning}
 use Rattle.symbol.specs.Symbol.{iso-name}

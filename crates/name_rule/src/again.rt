@@ -2,12 +2,13 @@
 ghost use mathlib.Core.Path.{_≡_};
 ghost use Prim.Native.Nat.{_<_};
 ghost use lib.ListN.{take};
-ghost use Rattle.index.specs.First.{first};
+ghost use Rattle.index.specs.Rule.{judge-one};
 ghost use Rattle.token.specs.Cut.{cut, meanings-in};
 ghost use Rattle.token.specs.Table.{TokenTable};
 ghost use Rattle.name.specs.Collect.{NameTable};
 ghost use Rattle.name_rule.specs.Refusal.{imported-again, defined-again};
-use index::TokenIndex;
+use crate::token_at;
+use index::Judgement;
 use name::named;
 
 // Whether the symbol at k of the imports is `iso` or is imported before.
@@ -28,15 +29,15 @@ fn is_imported_again(
     requires index { ⌜ k < m ⌝ }
     ensures { λ r. ⌜ r ≡ imported-again (meanings-in (now (text .entry))) .breach k ⌝ }
 {
-    let i = TokenIndex(imported[k] as usize);
+    let i = token_at(imported, k);
     if symbol::is_iso(text, classes, starts, ends, n, i) {
         return true;
     }
     named(text, classes, starts, ends, n, imported, k, i) < k
 }
 
-// The first import that breaks refusal 9, by its index among the imports; m where none does.
-pub fn first_imported_again(
+// Refusal 9 in the imports, at the first that breaks it.
+pub fn judge_imports(
     text: &[u8],
     classes: &[u8; 65536],
     starts: &[u32; 65536],
@@ -46,19 +47,19 @@ pub fn first_imported_again(
     m: usize,
     defined: &[u32; 512],
     c: usize,
-) -> usize
+) -> Judgement
     requires table { ⌜ TokenTable (now text) (cut (now text) .tokens) (now classes) (now starts) (now ends) n ⌝ }
     requires names { ⌜ NameTable (take n (now classes)) (now imported) m (now defined) c ⌝ }
-    ensures { λ r. ⌜ r ≡ first (imported-again (meanings-in (now (text .entry))) .breach) 0 m ⌝ }
+    ensures { λ r. ⌜ r ≡ judge-one (imported-again (meanings-in (now (text .entry)))) ⌝ }
 {
     let mut k = 0;
     while k < m {
         if is_imported_again(text, classes, starts, ends, n, imported, m, defined, c, k) {
-            return k;
+            return Judgement::Broken(9, token_at(imported, k));
         }
         k += 1;
     }
-    m
+    Judgement::Kept
 }
 
 // Whether the definition at k has the name `iso`, or one that is imported or defined before.
@@ -79,7 +80,7 @@ fn is_defined_again(
     requires index { ⌜ k < c ⌝ }
     ensures { λ r. ⌜ r ≡ defined-again (meanings-in (now (text .entry))) .breach k ⌝ }
 {
-    let i = TokenIndex(defined[k] as usize);
+    let i = token_at(defined, k);
     if symbol::is_iso(text, classes, starts, ends, n, i) {
         return true;
     }
@@ -89,8 +90,8 @@ fn is_defined_again(
     named(text, classes, starts, ends, n, defined, k, i) < k
 }
 
-// The first definition that breaks refusal 9, by its index among the definitions; c where none does.
-pub fn first_defined_again(
+// Refusal 9 in the definitions, at the first that breaks it.
+pub fn judge_definitions(
     text: &[u8],
     classes: &[u8; 65536],
     starts: &[u32; 65536],
@@ -100,17 +101,17 @@ pub fn first_defined_again(
     m: usize,
     defined: &[u32; 512],
     c: usize,
-) -> usize
+) -> Judgement
     requires table { ⌜ TokenTable (now text) (cut (now text) .tokens) (now classes) (now starts) (now ends) n ⌝ }
     requires names { ⌜ NameTable (take n (now classes)) (now imported) m (now defined) c ⌝ }
-    ensures { λ r. ⌜ r ≡ first (defined-again (meanings-in (now (text .entry))) .breach) 0 c ⌝ }
+    ensures { λ r. ⌜ r ≡ judge-one (defined-again (meanings-in (now (text .entry)))) ⌝ }
 {
     let mut k = 0;
     while k < c {
         if is_defined_again(text, classes, starts, ends, n, imported, m, defined, c, k) {
-            return k;
+            return Judgement::Broken(9, token_at(defined, k));
         }
         k += 1;
     }
-    c
+    Judgement::Kept
 }

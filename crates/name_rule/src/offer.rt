@@ -2,13 +2,15 @@
 ghost use mathlib.Core.Path.{_≡_};
 ghost use Prim.Native.Nat.{_<_};
 ghost use lib.ListN.{take};
-ghost use Rattle.index.specs.First.{first};
+ghost use Rattle.index.specs.Rule.{judge-one};
 ghost use Rattle.token.specs.Cut.{cut, meanings-in};
 ghost use Rattle.token.specs.Table.{TokenTable};
 ghost use Rattle.name.specs.Import.{offered};
 ghost use Rattle.name.specs.Collect.{NameTable};
 ghost use Rattle.name_rule.specs.Refusal.{not-offered};
+use crate::token_at;
 use definition::find;
+use index::Judgement;
 use index::TokenIndex;
 use symbol::SYMBOLS;
 
@@ -36,8 +38,8 @@ fn is_offered(
     symbol::offered_by(text, classes, starts, ends, n, k, TokenIndex(source))
 }
 
-// The first import that its module doesn't offer, by its index among the imports; m where there is none.
-pub fn first_not_offered(
+// Refusal 10, at the first import that its module doesn't offer.
+pub fn judge_offers(
     text: &[u8],
     classes: &[u8; 65536],
     starts: &[u32; 65536],
@@ -47,25 +49,18 @@ pub fn first_not_offered(
     m: usize,
     defined: &[u32; 512],
     c: usize,
-) -> usize
+) -> Judgement
     requires table { ⌜ TokenTable (now text) (cut (now text) .tokens) (now classes) (now starts) (now ends) n ⌝ }
     requires names { ⌜ NameTable (take n (now classes)) (now imported) m (now defined) c ⌝ }
-    ensures { λ r. ⌜ r ≡ first (not-offered (meanings-in (now (text .entry))) .breach) 0 m ⌝ }
+    ensures { λ r. ⌜ r ≡ judge-one (not-offered (meanings-in (now (text .entry)))) ⌝ }
 {
     let mut k = 0;
     while k < m {
-        if is_offered(
-            text,
-            classes,
-            starts,
-            ends,
-            n,
-            TokenIndex(imported[k] as usize),
-        ) {
-            k += 1;
-        } else {
-            return k;
+        let i = token_at(imported, k);
+        if !is_offered(text, classes, starts, ends, n, i) {
+            return Judgement::Broken(10, i);
         }
+        k += 1;
     }
-    m
+    Judgement::Kept
 }

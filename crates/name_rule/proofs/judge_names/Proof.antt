@@ -1,20 +1,21 @@
 -- `judge_names` is right because a 513th definition is refused first, and the other rules are judged over what was collected.
 -- Assumes nothing.
-use mathlib.Core.Path.{_≡_, sym, ap, subst, _∙_}
+use mathlib.Core.Path.{_≡_, sym, ap, _∙_}
 use mathlib.Core.List.{List}
-use Prim.Native.Nat.{ℕ, _≤_, _<_}
+use Prim.Native.Nat.{ℕ, _≤_}
 use native.Mathlib.Omega.{arith}
-use lib.ListN.{length, getD, take}
+use lib.ListN.{length, take}
 use lib.Seq.{length-take-le}
+use borrow.Author.Needs.{needs}
+use Rattle.index.specs.Rule.{judge}
 use Rattle.token.specs.Token.{Meaning}
 use Rattle.token.specs.Cut.{meanings-in}
-use Rattle.name.specs.Import.{classes-of, imports-end}
-use Rattle.name.specs.Collect.{NameTable, most-definitions}
-use Rattle.definition.specs.Landmark.{definitions}
-use Rattle.name.proofs.Names.{classes-taken}
 use Rattle.token.specs.Table.{longest-text}
-use Rattle.name_rule.proofs.Judging.{count-broken, count-kept, names-are, all-collected, many-collected, end-few, imports-few}
-use borrow.Author.Needs.{needs}
+use Rattle.name.specs.Import.{classes-of}
+use Rattle.name.proofs.Names.{classes-taken}
+use Rattle.name_rule.specs.Refusal.{names-judged}
+use Rattle.name_rule.specs.Judged.{count-judged, after-count}
+use Rattle.name_rule.proofs.Judging.{count-kept, count-broken, refused, end-few, collected-names}
 use Rattle.name_rule.proofs.judge_names.Statement.{statement}
 use Rattle.name_rule.proofs.judge_names.Tie as tie
 
@@ -33,6 +34,19 @@ enough s = omega (arith, s .pre .0 .few, s .pre .0 .classes-long)
 short : (s : tie.Start) → length (classes s) ≤ longest-text
 short s = omega (arith, length-take-le (s .args .n) (s .args .classes .now) (enough s), s .pre .0 .few)
 
+abbrev start-of : tie.After-collect-definitions → tie.Start
+start-of d = d .before .before .before .before .before .before .before .before .before
+
+-- all definitions are collected: the rules after their count are left to judge
+abbrev collected-by : tie.After-judge-collected → tie.After-collected
+collected-by j = j .before .before .before .before
+
+left : (j : tie.After-judge-collected) → names-judged (said-by (start-of (collected-by j .before .before))) ≡ judge (after-count (said-by (start-of (collected-by j .before .before))))
+left j =
+    let a = collected-by j in
+    let d = a .before .before in
+    count-kept _ _ (same-classes (start-of d)) _ _ (d .collect-definitions .ensures) _ (a .collected .given .1)
+
 imports-end-requires : tie.Need-imports-end-requires
 imports-end-requires c κs = search needs
 
@@ -45,38 +59,64 @@ collect-imports-requires c κs =
 collect-definitions-requires : tie.Need-collect-definitions-requires
 collect-definitions-requires c κs = search needs
 
-enum-known-i : tie.Need-enum-known-i
-enum-known-i c = search needs
+enum-known-collected : tie.Need-enum-known-collected
+enum-known-collected c = search needs
 
-enum-known-c : tie.Need-enum-known-c
-enum-known-c c = search needs
+enum-told : tie.Need-enum-told
+enum-told c = search needs
 
-judge-collected-requires : tie.Need-judge-collected-requires
-judge-collected-requires c κs =
-    let s = c .before .before .before .before .before .before .before .before .before .before .before .before .before .before in
-    let imports = c .before .before .before .before .before .before .before .before .collect-imports .ensures in
-    let all = all-collected _ _ _ (c .before .before .before .before .before .collect-definitions .ensures) _ (c .before .before .before .c .given .1) in
-    let table : NameTable (classes s) _ _ _ _ = record {
-      import-list = imports;
-      few-imports = imports-few (classes s) (short s) _ _ imports;
-      definition-list = all .0;
-      few-definitions = all .1;
-    } in
-    (s .pre .0, (table, c .before .before .before .before .before .before .before .before .before .before .before .imports-end .ensures))
+judge-count-requires : tie.Need-judge-count-requires
+judge-count-requires c κs = search needs
+
+refusal-requires : tie.Need-refusal-requires
+refusal-requires c κs = search needs
 
 returns : tie.Need-returns
 returns c =
-    let s = c .before .before .before .before .before .before .before .before .before .before .before .before in
-    let many = many-collected _ _ _ (c .before .before .before .collect-definitions .ensures) _ (c .before .i .given .1) in
-    let said = subst (λ (cs : List ℕ). (most-definitions < length (definitions cs)) × (c .before .i .given .0 .0 .0 ≡ getD (definitions cs) most-definitions 0)) (same-classes s) many in
-    (count-broken (said-by s) _ (said .0) _ (said .1) ∙ sym (names-are (said-by s)), tt)
+    let told = c .before .before in
+    let d = told .before .before in
+    let s = start-of d in
+    let judged = c .before .judge-count .ensures in
+    let many = told .enum-told .given .1 in
+    refused _ _ _ (judged ∙ count-broken (said-by s) _ (same-classes s) _ _ (d .collect-definitions .ensures) _ many) (judged ∙ ap count-judged many) (c .refusal .ensures)
+
+judge-collected-requires : tie.Need-judge-collected-requires
+judge-collected-requires c κs =
+    let a = c .before .before .before in
+    let d = a .before .before in
+    let s = start-of d in
+    let i = d .before .before .before in (
+      s .pre .0,
+      (
+        collected-names (classes s) (short s) _ _ (i .collect-imports .ensures) _ _ (d .collect-definitions .ensures) _ (a .collected .given .1),
+        i .before .before .before .imports-end .ensures,
+      ),
+    )
+
+enum-told-2 : tie.Need-enum-told-2
+enum-told-2 c = search needs
+
+enum-told-3 : tie.Need-enum-told-3
+enum-told-3 c = search needs
+
+refusal-requires-2 : tie.Need-refusal-requires-2
+refusal-requires-2 c κs = search needs
 
 returns-2 : tie.Need-returns-2
 returns-2 c =
-    let s = c .before .before .before .before .before .before .before .before .before .before .before .before .before .before .before in
-    let all = all-collected _ _ _ (c .before .before .before .before .before .before .collect-definitions .ensures) _ (c .before .before .before .before .c .given .1) in
-    let counted = ap (λ (cs : List ℕ). length (definitions cs)) (sym (same-classes s)) ∙ all .0 .counted in
-    (c .judge-collected .ensures .0 ∙ sym (names-are (said-by s) ∙ count-kept (said-by s) _ _ counted (all .1)), c .judge-collected .ensures .1)
+    let told = c .before in
+    let j = told .before .before in
+    refused _ _ _ (j .judge-collected .ensures ∙ sym (left j)) (told .enum-told3 .given .1) (c .refusal2 .ensures)
+
+returns-3 : tie.Need-returns-3
+returns-3 c =
+    let j = c .before .before in
+    let a = collected-by j in
+    let d = a .before .before in
+    let s = start-of d in (
+      sym (c .enum-told2 .given .1) ∙ j .judge-collected .ensures ∙ sym (left j),
+      collected-names (classes s) (short s) _ _ (d .before .before .before .collect-imports .ensures) _ _ (d .collect-definitions .ensures) _ (a .collected .given .1),
+    )
 
 pub judge-names-spec : {M : Type 1} → statement M
 judge-names-spec =
@@ -85,8 +125,14 @@ judge-names-spec =
     imports-end-requires
     collect-imports-requires
     collect-definitions-requires
-    enum-known-i
-    enum-known-c
-    judge-collected-requires
+    enum-known-collected
+    enum-told
+    judge-count-requires
+    refusal-requires
     returns
-    returns-2)
+    judge-collected-requires
+    enum-told-2
+    enum-told-3
+    refusal-requires-2
+    returns-2
+    returns-3)
