@@ -3,3 +3,4 @@ pub mod HeadLaws
 pub mod Reaching
 pub mod Placed
 pub mod Lengths
+pub mod Runs
