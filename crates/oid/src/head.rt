@@ -87,20 +87,9 @@ fn find_head(
     ensures { λ r. ⌜ r ≡ head-of (meanings-in (now (text .entry))) d ⌝ }
 {
     let oid = field_table::oid(fields, RecordIndex(d));
-    let token = oid.from;
-    if token < n {
-        return leads_to(
-            text,
-            classes,
-            starts,
-            ends,
-            n,
-            imported,
-            m,
-            defined,
-            c,
-            TokenIndex(token),
-        );
+    let i = TokenIndex(oid.from);
+    if i.0 < n {
+        return leads_to(text, classes, starts, ends, n, imported, m, defined, c, i);
     }
     Lead::Nothing
 }

@@ -32,13 +32,13 @@ leads-to-requires c κs = search needs
 
 returns : tie.Need-returns
 returns c =
-    let s = c .before .before .before .before in
-    head-there (said-by s) (s .args .d) (s .args .n) (said-counted (s .pre .0)) _ (token-is (c .before .before)) (c .before .if1 .taken) _ (c .leads-to .ensures)
+    let s = c .before .before .before .before .before in
+    head-there (said-by s) (s .args .d) (s .args .n) (said-counted (s .pre .0)) _ (token-is (c .before .before .before)) (c .before .if1 .taken) _ (c .leads-to .ensures)
 
 returns-2 : tie.Need-returns-2
 returns-2 c =
-    let s = c .before .before .before in
-    head-missing (said-by s) (s .args .d) (s .args .n) (said-counted (s .pre .0)) _ (token-is (c .before)) (c .if1 .left)
+    let s = c .before .before .before .before in
+    head-missing (said-by s) (s .args .d) (s .args .n) (said-counted (s .pre .0)) _ (token-is (c .before .before)) (c .if1 .left)
 
 pub find-head-spec : {M : Type 1} → statement M
 find-head-spec = tie.close (tie.spec oid-requires leads-to-requires returns returns-2)
