@@ -1,3 +1,4 @@
 pub mod Writing
 pub mod Parts
 pub mod Steps
+pub mod Oids

@@ -2,3 +2,5 @@
 mod built_in;
 mod part;
 mod writer;
+
+pub use writer::write_oids;

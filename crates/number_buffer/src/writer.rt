@@ -5,11 +5,12 @@ ghost use mathlib.Core.Path.{_≡_};
 ghost use Prim.Native.Nat.{_≤_, _<_};
 ghost use lib.ListN.{length};
 ghost use Rattle.token.specs.Cut.{meanings-in};
-ghost use Rattle.oid.specs.Oid.{head-of, parts-of, count-of, name-numbers, definition-numbers};
+ghost use Rattle.oid.specs.Oid.{head-of, parts-of, count-of, name-numbers, definition-numbers, oid-of, numbers-before};
 ghost use Rattle.number_buffer.specs.Writing.{Written, Sources, LeadsInside};
 use crate::built_in::write_iso;
 use crate::built_in::write_symbol;
 use crate::part::write_parts;
+use definition::has_oid;
 use index::RecordIndex;
 use name::Lead;
 
@@ -86,4 +87,67 @@ fn write_definition(
     );
     let span = field_table::oid(fields, d);
     count + write_parts(text, classes, starts, ends, n, &mut numbers[count..], span)
+}
+
+// Writes the OID of definition k, of c, and answers how many numbers it has: none where its kind has no OID. As many heads as there
+// are definitions are far enough.
+fn write_oid(
+    text: &[u8],
+    classes: &[u8; 65536],
+    starts: &[u32; 65536],
+    ends: &[u32; 65536],
+    n: usize,
+    c: usize,
+    fields: &[usize; 8192],
+    heads: &[usize; 512],
+    numbers: &mut [u32],
+    k: RecordIndex,
+) -> usize
+    requires sources { ⌜ Sources (now text) (now classes) (now starts) (now ends) n (now fields) (now heads) ⌝ }
+    requires count { ⌜ c ≡ count-of (meanings-in (now text)) ⌝ }
+    requires inside { ⌜ k .0 < c ⌝ }
+    requires room { ⌜ length (oid-of (meanings-in (now text)) (k .0)) ≤ length (now numbers) ⌝ }
+    ensures { λ r. ⌜ Written (oid-of (meanings-in (now (text .entry))) (k .0)) r (now (numbers .entry)) (now (numbers .exit)) ⌝ }
+{
+    if !has_oid(field_table::kind(fields, k) as u8) {
+        return 0;
+    }
+    write_definition(text, classes, starts, ends, n, fields, heads, numbers, k, c)
+}
+
+// Writes the OIDs of all c definitions in text order, each one's into the next free words, and answers how many numbers they have.
+pub fn write_oids(
+    text: &[u8],
+    classes: &[u8; 65536],
+    starts: &[u32; 65536],
+    ends: &[u32; 65536],
+    n: usize,
+    c: usize,
+    fields: &[usize; 8192],
+    heads: &[usize; 512],
+    numbers: &mut [u32],
+) -> usize
+    requires sources { ⌜ Sources (now text) (now classes) (now starts) (now ends) n (now fields) (now heads) ⌝ }
+    requires count { ⌜ c ≡ count-of (meanings-in (now text)) ⌝ }
+    requires room { ⌜ length (numbers-before (meanings-in (now text)) c) ≤ length (now numbers) ⌝ }
+    ensures { λ r. ⌜ Written (numbers-before (meanings-in (now (text .entry))) c) r (now (numbers .entry)) (now (numbers .exit)) ⌝ }
+{
+    let mut at = 0;
+    let mut k = 0;
+    while k < c {
+        at += write_oid(
+            text,
+            classes,
+            starts,
+            ends,
+            n,
+            c,
+            fields,
+            heads,
+            &mut numbers[at..],
+            RecordIndex(k),
+        );
+        k += 1;
+    }
+    at
 }
