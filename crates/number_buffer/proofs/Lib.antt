@@ -2,3 +2,5 @@ pub mod Writing
 pub mod Parts
 pub mod Steps
 pub mod Oids
+pub mod Sources
+pub mod Held

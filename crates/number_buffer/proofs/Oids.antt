@@ -1,6 +1,6 @@
 -- The OIDs of definitions, one after the other.
 -- Assumes nothing.
-use mathlib.Core.Path.{_≡_, refl}
+use mathlib.Core.Path.{_≡_, refl, _∙_}
 use mathlib.Core.Bool.{Bool, true, false, cond}
 use mathlib.Core.List.{List, [], _++_}
 use Prim.Native.Nat.{ℕ, zero, suc, _+_, _≤_, _<_}
@@ -8,7 +8,8 @@ use native.Mathlib.Decide.{decLt}
 use native.Mathlib.Numerals.{add-one}
 use native.Mathlib.Omega.{arith}
 use lib.Dec.{eqb}
-use lib.ListN.{length, getD, length-append}
+use lib.ListN.{length, getD, take, length-append}
+use lib.Seq.{take-append-le, take-length}
 use Rattle.terminal.specs.Terminal.{MODULE-IDENTITY, NOTIFICATION-TYPE, OBJECT, OBJECT-IDENTITY, OBJECT-TYPE, TEXTUAL-CONVENTION}
 use Rattle.token.specs.Token.{Meaning}
 use Rattle.definition.specs.Landmark.{class-at, definitions, has-oid, identity, plain, object-identity, object, convention, sequence-type, notification, kind-at}
@@ -65,3 +66,15 @@ module _ (ms : List Meaning) where
       go : Dec (j < suc k) → (j ≤ k → length (numbers-before ms j) ≤ length (numbers-before ms k)) → length (numbers-before ms j) ≤ length (numbers-before ms k ++ oid-of ms k)
       go (yes h) ih = omega (arith, ih (omega arith), length-append (numbers-before ms k) (oid-of ms k))
       go (no h) ih = let e : j ≡ suc k = omega arith in rw e (omega arith)
+
+  -- those before an earlier definition come first
+  pub before-first : (k c : ℕ) → k ≤ c → take (length (numbers-before ms k)) (numbers-before ms c) ≡ numbers-before ms k
+  unfolding numbers-before
+  before-first k zero l = let e : k ≡ 0 = omega arith in rw e
+  before-first k (suc c) l = go (decLt k (suc c)) (before-first k c)
+    where
+      go : Dec (k < suc c) → (k ≤ c → take (length (numbers-before ms k)) (numbers-before ms c) ≡ numbers-before ms k)
+          → take (length (numbers-before ms k)) (numbers-before ms c ++ oid-of ms c) ≡ numbers-before ms k
+      go (yes h) ih =
+          take-append-le (length (numbers-before ms k)) (numbers-before ms c) (oid-of ms c) (before-grows k c (omega arith)) ∙ ih (omega arith)
+      go (no h) ih = let e : k ≡ suc c = omega arith in rw e (take-length (numbers-before ms c ++ oid-of ms c))
