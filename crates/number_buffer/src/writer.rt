@@ -9,6 +9,7 @@ ghost use Rattle.oid.specs.Oid.{head-of, parts-of, count-of, name-numbers, defi
 ghost use Rattle.number_buffer.specs.Writing.{Written, Sources, LeadsInside};
 use crate::built_in::write_iso;
 use crate::built_in::write_symbol;
+use crate::kind::kind_of;
 use crate::part::write_parts;
 use definition::has_oid;
 use index::RecordIndex;
@@ -109,7 +110,7 @@ fn write_oid(
     requires room { ⌜ length (oid-of (meanings-in (now text)) (k .0)) ≤ length (now numbers) ⌝ }
     ensures { λ r. ⌜ Written (oid-of (meanings-in (now (text .entry))) (k .0)) r (now (numbers .entry)) (now (numbers .exit)) ⌝ }
 {
-    if !has_oid(field_table::kind(fields, k) as u8) {
+    if !has_oid(kind_of(fields, k)) {
         return 0;
     }
     write_definition(text, classes, starts, ends, n, fields, heads, numbers, k, c)
