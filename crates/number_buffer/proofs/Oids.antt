@@ -16,7 +16,8 @@ use Rattle.definition.specs.Landmark.{class-at, definitions, has-oid, identity,
 use Rattle.definition.specs.Fields.{fields-of, fields-at}
 use Rattle.field_table.specs.Table.{word-in, FieldTable}
 use Rattle.field_table.proofs.Held.{kind-held}
-use Rattle.oid.specs.Oid.{head-of, parts-of, count-of, definition-numbers, kind-of, oid-of, numbers-before}
+use Rattle.oid.specs.Oid.{count-of, kind-of, oid-of, numbers-before}
+use Rattle.number_buffer.specs.Writing.{numbers-of-definition}
 
 -- the last of the kinds is `notification`
 seven : (a b c d e f : Bool)
@@ -49,7 +50,7 @@ module _ (ms : List Meaning) where
   unfolding oid-of
   no-oid k e = simp e
 
-  pub its-oid : (k c : ℕ) → has-oid (kind-of ms k) ≡ true → c ≡ count-of ms → oid-of ms k ≡ definition-numbers (head-of ms) (parts-of ms) c k
+  pub its-oid : (k c : ℕ) → has-oid (kind-of ms k) ≡ true → c ≡ count-of ms → oid-of ms k ≡ numbers-of-definition ms c k
   unfolding oid-of
   its-oid k c e all = simp (e, all)
 

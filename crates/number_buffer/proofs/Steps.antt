@@ -1,11 +1,10 @@
 -- The step from a definition to its head and its own parts.
 -- Assumes nothing.
-use mathlib.Core.Path.{_≡_, refl, sym, ap, subst, _∙_}
-use mathlib.Core.List.{List, _++_}
+use mathlib.Core.Path.{_≡_, refl}
+use mathlib.Core.List.{List, [], _++_}
 use Prim.Native.Nat.{ℕ, zero, suc, _+_, _-_, _≤_, _<_}
 use native.Mathlib.Omega.{arith}
 use lib.ListN.{length, getD}
-use Rattle.index.specs.declared.RecordIndex.{RecordIndex}
 use Rattle.index.proofs.Hits.{hit-inside}
 use Rattle.index.proofs.Search.{first-inside}
 use Rattle.token.specs.Token.{Meaning}
@@ -14,18 +13,21 @@ use Rattle.definition.specs.Fields.{fields-of, fields-at}
 use Rattle.definition.proofs.Inside.{oid-inside}
 use Rattle.name.specs.declared.Lead.{Lead}
 use Rattle.name.specs.declared.Lead.the-variants.{Iso, Import, Definition, Nothing}
-use Rattle.oid.specs.Oid.{head-of, count-of, name-numbers, definition-numbers}
+use Rattle.oid.specs.Oid.{head-of, parts-of, definition-numbers}
 use Rattle.oid.proofs.Meaning.{lead-inside}
-use Rattle.number_buffer.specs.Writing.{LeadsInside}
+use Rattle.number_buffer.specs.Writing.{numbers-of-definition, numbers-of-name, LeadsInside}
 
 -- with heads left to follow, a definition's numbers are its head's, with one head less, followed by its parts'
-pub numbers-step : (head : ℕ → Lead) (parts : ℕ → List ℕ) (left d : ℕ) → (left ≡ 0 → ⊥)
-    → definition-numbers head parts left d ≡ name-numbers (definition-numbers head parts (left - 1)) (head d) ++ parts d
+pub numbers-step : (ms : List Meaning) (left d : ℕ) → (left ≡ 0 → ⊥)
+    → numbers-of-definition ms left d ≡ numbers-of-name ms (left - 1) (head-of ms d) ++ parts-of ms d
 unfolding definition-numbers
-numbers-step head parts zero d some = absurd (some refl)
-numbers-step head parts (suc left) d some =
-    let less : suc left - 1 ≡ left = omega arith in
-    rw less
+numbers-step ms zero d some = absurd (some refl)
+numbers-step ms (suc left) d some = let less : suc left - 1 ≡ left = omega arith in rw less
+
+-- with none left it has none
+pub numbers-none : (ms : List Meaning) (left d : ℕ) → left ≡ 0 → numbers-of-definition ms left d ≡ []
+unfolding definition-numbers
+numbers-none ms left d none = rw none
 
 -- a head leads to no definition but the module's
 pub head-leads-inside : (ms : List Meaning) (d : ℕ) → LeadsInside ms (head-of ms d)
