@@ -18,11 +18,14 @@ use Rattle.definition.specs.declared.Span.{Span}
 use Rattle.name.specs.Import.{classes-of}
 use Rattle.name.specs.declared.Lead.{Lead}
 use Rattle.field_table.proofs.Held.{oid-held}
-use Rattle.oid.specs.Oid.{values, head-of, parts-of}
-use Rattle.number_buffer.specs.Writing.{numbers-of-definition, numbers-of-name, LeadsInside}
+use Rattle.oid.specs.Oid.{values, count-of, head-of, parts-of}
+use Rattle.number_buffer.specs.Writing.{numbers-of-definition, numbers-of-name}
 use Rattle.number_buffer.proofs.Writing.{first-inside, second-room, returned-length, written-both, written-none}
 use Rattle.number_buffer.proofs.Parts.{classes-counted}
-use Rattle.number_buffer.proofs.Steps.{numbers-step, numbers-none, head-leads-inside, oid-ends}
+use Rattle.number_buffer.proofs.Steps.{numbers-step, numbers-none}
+use Rattle.name.specs.Lead.{Inside}
+use Rattle.field_table.proofs.Said.{oid-span-inside}
+use Rattle.oid.proofs.Meaning.{head-inside}
 use Rattle.number_buffer.proofs.writer.write_definition.Reads as write-definition
 use Rattle.number_buffer.proofs.writer.write_definition.Kinds as write-definition-kinds
 use Rattle.number_buffer.proofs.writer.+write_definition+write_name.Lts-write_definition as write-definition-lts
@@ -172,7 +175,7 @@ module _ (t : ℕ) where
         (
           s .pre .1 .0,
           (
-            subst (LeadsInside (said s)) (sym (head-is h)) (head-leads-inside (said s) (s .args .d .0)),
+            subst (Inside (count-of (said s))) (sym (head-is h)) (head-inside (said s) (s .args .d .0)),
             omega (arith, ap length (step h), length-append (first-numbers h) (parts-of (said s) (s .args .d .0)), s .pre .1 .1 .1),
           ),
         ),
@@ -204,7 +207,7 @@ module _ (t : ℕ) where
       let source = s .pre .1 .0 in (
         source .tokens,
         (
-          omega (arith, ap (λ (x : Span). x .to) (span-is o), oid-ends (classes-of (said s)) (s .args .d .0) (s .pre .1 .1 .0), classes-counted _ _ _ _ _ (source .tokens)),
+          omega (arith, ap (λ (x : Span). x .to) (span-is o), oid-span-inside (classes-of (said s)) (s .args .d .0) (s .pre .1 .1 .0) .1, classes-counted _ _ _ _ _ (source .tokens)),
           second-room (first-numbers (headed o)) (second-numbers (headed o) (o .oid .result)) _ _ _ (both-room o) (o .before .before .before .write-name .ensures),
         ),
       )
@@ -263,7 +266,7 @@ module _ (t : ℕ) where
       let s = c .before .before .before .before .before .before in
       let e = c .before .before .lead2 .given .1 in (
         omega (arith, s .pre .0),
-        (s .pre .1 .0, (subst (LeadsInside (meanings-in (s .args .text .now))) e (s .pre .1 .1 .0), room s _ e)),
+        (s .pre .1 .0, (subst (Inside (count-of (meanings-in (s .args .text .now)))) e (s .pre .1 .1 .0), room s _ e)),
       )
 
   write-name-enum-told-2 : write-name-lts.Need-enum-told-2 (name-claims t) (write-name-at t) write-name.Post

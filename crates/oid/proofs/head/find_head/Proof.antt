@@ -3,12 +3,10 @@
 use Rattle.definition.specs.declared.Span.{Span}
 use Rattle.field_table.proofs.Held.{oid-held}
 use Rattle.field_table.proofs.Said.{said-counted, fields-said}
-use mathlib.Core.Path.{_≡_, ap, subst, _∙_}
+use mathlib.Core.Path.{_≡_, ap, _∙_}
 use mathlib.Core.List.{List}
-use Prim.Native.Nat.{ℕ}
-use lib.ListN.{length, length-map}
-use Rattle.token.specs.Token.{Tok, Meaning}
-use Rattle.token.specs.Cut.{cut, meanings-in}
+use Rattle.token.specs.Token.{Meaning}
+use Rattle.token.specs.Cut.{meanings-in}
 use Rattle.oid.specs.Oid.{head-token}
 use Rattle.oid.proofs.HeadLaws.{head-there, head-missing}
 use borrow.Author.Needs.{needs}
