@@ -3,3 +3,5 @@ pub mod Search
 pub mod Hits
 pub mod Collected
 pub mod Judged
+pub mod Step
+pub mod Each
