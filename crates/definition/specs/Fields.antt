@@ -6,7 +6,8 @@ use Prim.Native.Nat.{ℕ, _+_, _-_}
 use lib.Dec.{ltb, eqb}
 use Rattle.index.specs.First.{first}
 use Rattle.terminal.specs.Terminal.{left-brace, right-brace, left-paren, right-paren, Upper, assign, current, not-accessible, AUGMENTS, BITS, DEFVAL, INDEX, INTEGER, MAX-ACCESS, OBJECT, OBJECTS, OCTET, SEQUENCE, SIZE, STATUS, SYNTAX, UNITS}
-use Rattle.definition.specs.Landmark.{class-at, kind-at, has-oid, sequence-type}
+use lib.ListN.{getD}
+use Rattle.definition.specs.Landmark.{class-at, kind-at, has-oid, sequence-type, definitions, definition-end}
 use Rattle.definition.specs.declared.Span.{Span}
 use Rattle.definition.specs.declared.Fields.{Fields}
 use Rattle.definition.specs.declared.Restriction.{Restriction}
@@ -67,6 +68,10 @@ fields-of cs d e = record {
   columns = columns-span cs d e;
   oid = oid-span cs d e;
 }
+
+-- the fields of definition k, by its index among the definitions
+unfoldable pub fields-at : List ℕ → ℕ → Fields
+fields-at cs k = fields-of cs (getD (definitions cs) k 0) (definition-end cs (getD (definitions cs) k 0))
 
 -- the restriction that starts at token r, in a definition that ends at e: sizes are ( SIZE ( .. ) ), ranges ( .. ), an
 -- enumeration { .. }; each with what stands between its brackets

@@ -10,6 +10,12 @@ use lib.ListN.{length, getD}
 use Rattle.index.specs.First.{first-of, first, hits-of, hits}
 use Rattle.index.proofs.Search.{true-false}
 
+-- an entry inside a list is the same whatever stands for one outside
+pub inside-same : (l : List ℕ) (i d e : ℕ) → i < length l → getD l i d ≡ getD l i e
+inside-same [] i d e h = absurd (omega arith)
+inside-same (x ∷ l) zero d e h = refl
+inside-same (x ∷ l) (suc i) d e h = inside-same l i d e (omega arith)
+
 module _ (test : ℕ → Bool) where
   of-hit : (a n : ℕ) → test a ≡ true → hits-of test a (suc n) ≡ a ∷ hits-of test (suc a) n
   unfolding hits-of
