@@ -10,13 +10,7 @@ use native.Mathlib.Omega.{arith}
 use lib.ListN.{length, getD, List·getD-eq-default}
 use Rattle.index.specs.First.{first, hits}
 use Rattle.index.proofs.Search.{first-none}
-use Rattle.index.proofs.Hits.{hits-none, hits-few, hit-inside, first-hit-is, next-hit}
-
--- inside a list what stands for a missing entry does not matter
-pub entry-any : {A : Type 0} (l : List A) (k : ℕ) (d e : A) → k < length l → getD l k d ≡ getD l k e
-entry-any [] k d e h = absurd (omega arith)
-entry-any (x ∷ l) zero d e h = refl
-entry-any (x ∷ l) (suc k) d e h = entry-any l k d e (omega arith)
+use Rattle.index.proofs.Hits.{hits-none, hits-few, hit-inside, first-hit-is, next-hit, inside-same}
 
 -- the entry of a list that is made of another's entries
 pub entry-made : {A : Type 0} {B : Type 0} (f : A → B) (l : List A) (k : ℕ) (d : A) (e : B) → k < length l → getD (map f l) k e ≡ f (getD l k d)
@@ -39,14 +33,14 @@ module _ (test : ℕ → Bool) (a b : ℕ) where
       more h = go (decLt k (length (hits test a b)))
         where
           go : Dec (k < length (hits test a b)) → (k < length (hits test a b)) × (getD (hits test a b) k 0 ≡ i)
-          go (yes m) = (m, entry-any (hits test a b) k 0 b m ∙ is)
+          go (yes m) = (m, inside-same (hits test a b) k 0 b m ∙ is)
           go (no m) = absurd (omega (arith, List·getD-eq-default (hits test a b) b {n = k} (omega arith)))
 
       done : b ≤ i → length (hits test a b) ≤ k
       done h = go (decLt k (length (hits test a b)))
         where
           go : Dec (k < length (hits test a b)) → length (hits test a b) ≤ k
-          go (yes m) = absurd (omega (arith, hit-inside test a b k m, entry-any (hits test a b) k b 0 m))
+          go (yes m) = absurd (omega (arith, hit-inside test a b k m, inside-same (hits test a b) k b 0 m))
           go (no m) = omega arith
 
   -- the first hit

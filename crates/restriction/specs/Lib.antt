@@ -1,0 +1,4 @@
+pub mod Ranges
+pub mod Enumeration
+pub mod Limits
+pub mod Refusal

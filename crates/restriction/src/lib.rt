@@ -1,0 +1,22 @@
+// The restrictions of a syntax: ranges, sizes and enumerations, walked by their cursors, and refusals 16 to 18 on one of them.
+use index::TokenIndex;
+
+// A range: its low and its high number, whether it is written as a pair, and its first token.
+pub struct Range {
+    pub low: i64,
+    pub high: i64,
+    pub paired: bool,
+    pub place: TokenIndex,
+}
+
+// An item of an enumeration: its label and its number.
+pub struct Item {
+    pub label: TokenIndex,
+    pub number: i64,
+}
+
+// What numbers may be: none is allowed, or those from the first up to the second.
+pub enum Limits {
+    Nothing,
+    Within(i64, i64),
+}
