@@ -1,10 +1,10 @@
 -- The limits of ranges, sizes and enumerations: refusals 17 and 18.
 -- Assumes nothing.
-use mathlib.Core.Bool.{Bool, true, cond, not, _&&_, _||_}
+use mathlib.Core.Bool.{Bool, true, cond, _||_}
 use Prim.Native.Nat.{ℕ}
 use lib.Dec.{eqb}
 use lib.IntN.{ℤ, pos, negsuc}
-use lib.Signed.{leZ}
+use lib.Signed.{ltZ}
 use Rattle.symbol.specs.Symbol.{integer, octets, gauge32, unsigned32}
 use Rattle.restriction.specs.declared.Range.{Range}
 use Rattle.restriction.specs.declared.Limits.{Limits}
@@ -31,10 +31,10 @@ size-limits class = cond (eqb class octets) (Within (pos 0) (pos 65535)) Nothing
 abbrev pub bit-limits : Limits
 bit-limits = unsigned-limits
 
--- a number is outside the limits
+-- a number is outside the limits: below the lower or above the higher
 abbrev pub is-outside : Limits → ℤ → Bool
 is-outside Nothing z = true
-is-outside (Within low high) z = not (leZ low z && leZ z high)
+is-outside (Within low high) z = ltZ z low || ltZ high z
 
 -- 17: one of the bounds of a range is
 abbrev pub exceeds : Limits → Range → Bool

@@ -1,5 +1,10 @@
 // The restrictions of a syntax: ranges, sizes and enumerations, walked by their cursors, and refusals 16 to 18 on one of them.
+mod number;
+mod ranges;
+
 use index::TokenIndex;
+pub use ranges::judge_limits;
+pub use ranges::judge_order;
 
 // A range: its low and its high number, whether it is written as a pair, and its first token.
 pub struct Range {

@@ -18,6 +18,7 @@ use Rattle.name.specs.Import.{classes-of}
 use Rattle.name.specs.declared.Lead.{Lead}
 use Rattle.name.specs.declared.Lead.the-variants.{Iso, Import, Definition, Nothing}
 use Rattle.restriction.specs.Limits.{range-limits, size-limits, integer-limits, bit-limits}
+use Rattle.restriction.specs.declared.Limits.{Limits}
 use Rattle.restriction.specs.Refusal.{misplaced-range, range-outside, misfit-item}
 use Rattle.syntax_class.specs.Class.{kind-of, syntax-of, syntax-lead, is-indirect, class-of}
 
@@ -48,19 +49,20 @@ limit-rule ms class (Ranges s) = range-outside ms (range-limits class) s
 limit-rule ms class (Sizes s) = range-outside ms (size-limits class) s
 limit-rule ms class (Enumeration s) = nothing-tested 17
 
--- 18, on an enumeration: an INTEGER's numbers are those of class 1, and none of BITS is negative
+-- 18, on a restriction, with the limits of its numbers
+unfoldable pub enumeration-rule : List Meaning → Limits → Restriction → Rule
+enumeration-rule ms limits Free = nothing-tested 18
+enumeration-rule ms limits (Ranges s) = nothing-tested 18
+enumeration-rule ms limits (Sizes s) = nothing-tested 18
+enumeration-rule ms limits (Enumeration s) = misfit-item ms limits s
+
+-- 18, on a syntax: an INTEGER's numbers are those of class 1, and none of BITS is negative
 unfoldable pub item-rule : List Meaning → Syntax → Rule
-item-rule ms (Integer (Enumeration s)) = misfit-item ms integer-limits s
-item-rule ms (Integer Free) = nothing-tested 18
-item-rule ms (Integer (Ranges s)) = nothing-tested 18
-item-rule ms (Integer (Sizes s)) = nothing-tested 18
-item-rule ms (Bits (Enumeration s)) = misfit-item ms bit-limits s
-item-rule ms (Bits Free) = nothing-tested 18
-item-rule ms (Bits (Ranges s)) = nothing-tested 18
-item-rule ms (Bits (Sizes s)) = nothing-tested 18
+item-rule ms (Integer r) = enumeration-rule ms integer-limits r
 item-rule ms (Named t r) = nothing-tested 18
 item-rule ms (Octets r) = nothing-tested 18
 item-rule ms ObjectIdentifier = nothing-tested 18
+item-rule ms (Bits r) = enumeration-rule ms bit-limits r
 item-rule ms (SequenceOf t) = nothing-tested 18
 
 -- definition k has a syntax: an object or a convention
