@@ -32,6 +32,9 @@ passed-on {z} h = toZ-ofZ {z = z} (record { sfits = h })
 pub below-passed : {a b : ℤ} → SFits w64 a → SFits w64 b → ltZ (toZ w64 (ofZ w64 a)) (toZ w64 (ofZ w64 b)) ≡ ltZ a b
 below-passed fa fb = rw (toZ-ofZ fa, toZ-ofZ fb)
 
+pub same-passed : {a b : ℤ} → SFits w64 a → SFits w64 b → same-number (toZ w64 (ofZ w64 a)) (toZ w64 (ofZ w64 b)) ≡ same-number a b
+same-passed fa fb = rw (toZ-ofZ fa, toZ-ofZ fb)
+
 pub beyond-passed : {low high z : ℤ} → SFits w64 low → SFits w64 high → SFits w64 z
     → (ltZ (toZ w64 (ofZ w64 z)) (toZ w64 (ofZ w64 low)) || ltZ (toZ w64 (ofZ w64 high)) (toZ w64 (ofZ w64 z))) ≡ (ltZ z low || ltZ high z)
 beyond-passed fl fh fz = rw (toZ-ofZ fl, toZ-ofZ fh, toZ-ofZ fz)

@@ -1,7 +1,9 @@
 // The restrictions of a syntax: ranges, sizes and enumerations, walked by their cursors, and refusals 16 to 18 on one of them.
+mod enumeration;
 mod number;
 mod ranges;
 
+pub use enumeration::judge_items;
 use index::TokenIndex;
 pub use ranges::judge_limits;
 pub use ranges::judge_order;
