@@ -21,7 +21,8 @@ unsigned-limits = Within (pos 0) (pos 4294967295)
 -- what ranges may hold on a class; nothing on a class other than 1, 8, 9
 unfoldable pub range-limits : ℕ → Limits
 range-limits class =
-    cond (eqb class integer) integer-limits (cond (eqb class gauge32 || eqb class unsigned32) unsigned-limits Nothing)
+    cond (eqb class integer) integer-limits
+    (cond (eqb class gauge32) unsigned-limits (cond (eqb class unsigned32) unsigned-limits Nothing))
 
 -- what sizes may hold on a class; nothing on one other than 3
 unfoldable pub size-limits : ℕ → Limits

@@ -1,10 +1,15 @@
 // The restrictions of a syntax: ranges, sizes and enumerations, walked by their cursors, and refusals 16 to 18 on one of them.
 mod enumeration;
+mod limit;
 mod number;
 mod ranges;
 
 pub use enumeration::judge_items;
 use index::TokenIndex;
+pub use limit::bit_limits;
+pub use limit::integer_limits;
+pub use limit::range_limits;
+pub use limit::size_limits;
 pub use ranges::judge_limits;
 pub use ranges::judge_order;
 
