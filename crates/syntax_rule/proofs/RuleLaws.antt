@@ -1,25 +1,31 @@
 -- Where nothing is tested a rule is kept; and the cursors in the syntax of a definition stand behind their brackets.
 -- Assumes nothing.
-use mathlib.Core.Path.{_≡_, refl}
+use mathlib.Core.Path.{_≡_, refl, sym, ap, subst, _∙_}
 use mathlib.Core.Bool.{Bool, true, false, cond}
 use mathlib.Core.List.{List}
 use Prim.Native.Nat.{ℕ, _+_, _≤_, _<_}
 use native.Mathlib.Omega.{arith}
 use lib.Dec.{eqb}
 use lib.ListN.{length}
+use lib.Seq.{length-take-le}
 use Rattle.index.specs.First.{first-of, first, any}
 use Rattle.index.specs.Rule.{judge-one}
 use Rattle.index.specs.declared.TokenIndex.{TokenIndex}
 use Rattle.index.specs.declared.Judgement.the-variants.{Kept}
+use Rattle.token.specs.Cut.{meanings-in}
 use Rattle.terminal.specs.Terminal.{Upper, INTEGER, OCTET, OBJECT, BITS}
 use Rattle.definition.specs.Landmark.{class-at, definitions}
 use Rattle.definition.specs.Fields.{fields-at, restriction-at, syntax-at}
 use Rattle.definition.specs.declared.Restriction.{Restriction}
+use Rattle.definition.specs.declared.Syntax.{Syntax}
 use Rattle.definition.specs.declared.Syntax.the-variants.{Integer, Named, Octets, ObjectIdentifier, Bits, SequenceOf}
+use Rattle.name.specs.Import.{classes-of}
+use Rattle.field_table.specs.Table.{ModuleTable}
 use Rattle.restriction.specs.Within.{BracketedIn}
 use Rattle.restriction.proofs.Bracketing.{restriction-bracketed}
 use Rattle.syntax_class.specs.Class.{syntax-of}
 use Rattle.syntax_class.proofs.Syntaxes.{syntax-early}
+use Rattle.syntax_class.proofs.Tables.{taken, enough, counted-said}
 use Rattle.syntax_rule.specs.Refusal.{nothing-tested, restriction-of}
 
 pub nothing-kept : (number : ℕ) → Kept ≡ judge-one (nothing-tested number)
@@ -53,3 +59,12 @@ module _ (cs : List ℕ) where
   definition-bracketed few k h =
       let early = syntax-early cs k h in
       syntax-bracketed (fields-at cs k .syntax .from) (fields-at cs k .syntax .to) (omega (arith, early)) (omega (arith, early))
+
+-- those of a definition in the tables of a module
+pub table-bracketed : {text classes starts ends imported defined fields : List ℕ} {n m c : ℕ} (t : ModuleTable text classes starts ends n imported m defined c fields)
+    → (k : ℕ) → k < c → (syntax : Syntax) → syntax ≡ syntax-of (classes-of (meanings-in text)) k → BracketedIn (restriction-of syntax)
+table-bracketed {text} {classes} {n = n} {c = c} t k h syntax is =
+    let cs = classes-of (meanings-in text) in
+    let long : length cs ≡ n = sym (ap length (taken t)) ∙ length-take-le n classes (enough t .0) in
+    subst (λ (x : Syntax). BracketedIn (restriction-of x)) (sym is)
+    (definition-bracketed cs (omega (arith, enough t .1)) k (omega (arith, counted-said t)))
