@@ -2,25 +2,25 @@
 -- Assumes nothing.
 use mathlib.Core.Path.{_≡_, refl, sym, ap, subst, _∙_}
 use mathlib.Core.Bool.{Bool, true, false, cond}
-use mathlib.Core.List.{List}
+use mathlib.Core.List.{List, [], _∷_}
 use Prim.Native.Nat.{ℕ, _+_, _≤_, _<_}
 use native.Mathlib.Omega.{arith}
 use lib.Dec.{eqb}
 use lib.ListN.{length}
 use lib.Seq.{length-take-le}
 use Rattle.index.specs.First.{first-of, first, any}
-use Rattle.index.specs.Rule.{judge-one}
-use Rattle.index.specs.declared.TokenIndex.{TokenIndex}
-use Rattle.index.specs.declared.Judgement.the-variants.{Kept}
+use Rattle.index.specs.Rule.{Rule, and-then, judge-one, judge}
+use Rattle.index.specs.declared.Judgement.{Judgement}
+use Rattle.index.specs.declared.Judgement.the-variants.{Kept, Broken}
 use Rattle.token.specs.Cut.{meanings-in}
 use Rattle.terminal.specs.Terminal.{Upper, INTEGER, OCTET, OBJECT, BITS}
 use Rattle.definition.specs.Landmark.{class-at, definitions}
 use Rattle.definition.specs.Fields.{fields-at, restriction-at, syntax-at}
-use Rattle.definition.specs.declared.Restriction.{Restriction}
 use Rattle.definition.specs.declared.Syntax.{Syntax}
 use Rattle.definition.specs.declared.Syntax.the-variants.{Integer, Named, Octets, ObjectIdentifier, Bits, SequenceOf}
 use Rattle.name.specs.Import.{classes-of}
-use Rattle.field_table.specs.Table.{ModuleTable}
+use Rattle.field_table.specs.Table.{span-in, ModuleTable}
+use Rattle.field_table.proofs.Held.{syntax-held}
 use Rattle.restriction.specs.Within.{BracketedIn}
 use Rattle.restriction.proofs.Bracketing.{restriction-bracketed}
 use Rattle.syntax_class.specs.Class.{syntax-of}
@@ -68,3 +68,17 @@ table-bracketed {text} {classes} {n = n} {c = c} t k h syntax is =
     let long : length cs ≡ n = sym (ap length (taken t)) ∙ length-take-le n classes (enough t .0) in
     subst (λ (x : Syntax). BracketedIn (restriction-of x)) (sym is)
     (definition-bracketed cs (omega (arith, enough t .1)) k (omega (arith, counted-said t)))
+
+-- where the table says that the syntax of a definition stands
+pub syntax-placed : {text classes starts ends imported defined fields : List ℕ} {n m c : ℕ} (t : ModuleTable text classes starts ends n imported m defined c fields)
+    → (k : ℕ) → k < c → span-in fields k 4 ≡ fields-at (classes-of (meanings-in text)) k .syntax
+syntax-placed t k h = syntax-held _ _ _ (t .fields-held) k h ∙ ap (λ (cs : List ℕ). fields-at cs k .syntax) (taken t)
+
+-- the last rule of a list
+pub last-rule : (r : Rule) → judge-one r ≡ judge (r ∷ [])
+unfolding judge
+last-rule r = go (judge-one r)
+  where
+    go : (j : Judgement) → j ≡ and-then j Kept
+    go Kept = refl
+    go (Broken number place) = refl

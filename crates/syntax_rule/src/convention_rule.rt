@@ -62,7 +62,18 @@ pub fn judge_conventions(
     while k < c {
         let record = RecordIndex(k);
         if is_indirect(
-            text, classes, starts, ends, n, imported, m, defined, c, fields, held, record,
+            text,
+            classes,
+            starts,
+            ends,
+            n,
+            imported,
+            m,
+            defined,
+            c,
+            fields,
+            held,
+            record,
         ) {
             let span = field_table::syntax(fields, record);
             return Judgement::Broken(19, TokenIndex(span.from));

@@ -74,7 +74,17 @@ pub fn judge_all_orders(
     let mut k = 0;
     while k < c {
         let judged = judge_order_of(
-            text, classes, starts, ends, n, imported, m, defined, c, fields, RecordIndex(k),
+            text,
+            classes,
+            starts,
+            ends,
+            n,
+            imported,
+            m,
+            defined,
+            c,
+            fields,
+            RecordIndex(k),
         );
         let Judgement::Kept = judged else {
             return judged;
@@ -111,7 +121,15 @@ fn judge_limits_of(
             return Judgement::Kept;
         }
         let syntax = syntax_of(classes, n, fields, c, k);
-        judge_restriction_limits(text, classes, starts, ends, n, class, restriction_of(syntax))
+        judge_restriction_limits(
+            text,
+            classes,
+            starts,
+            ends,
+            n,
+            class,
+            restriction_of(syntax),
+        )
     } else {
         Judgement::Kept
     }
@@ -138,7 +156,18 @@ pub fn judge_all_limits(
     let mut k = 0;
     while k < c {
         let judged = judge_limits_of(
-            text, classes, starts, ends, n, imported, m, defined, c, fields, held, RecordIndex(k),
+            text,
+            classes,
+            starts,
+            ends,
+            n,
+            imported,
+            m,
+            defined,
+            c,
+            fields,
+            held,
+            RecordIndex(k),
         );
         let Judgement::Kept = judged else {
             return judged;
@@ -193,7 +222,17 @@ pub fn judge_all_items(
     let mut k = 0;
     while k < c {
         let judged = judge_items_of(
-            text, classes, starts, ends, n, imported, m, defined, c, fields, RecordIndex(k),
+            text,
+            classes,
+            starts,
+            ends,
+            n,
+            imported,
+            m,
+            defined,
+            c,
+            fields,
+            RecordIndex(k),
         );
         let Judgement::Kept = judged else {
             return judged;

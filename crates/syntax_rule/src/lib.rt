@@ -35,24 +35,62 @@ pub fn judge_syntax(
     ensures { λ r. ⌜ r ≡ judge (syntax-rules (meanings-in (now (text .entry)))) ⌝ }
 {
     let orders = judge_all_orders(
-        text, classes, starts, ends, n, imported, m, defined, c, fields,
+        text,
+        classes,
+        starts,
+        ends,
+        n,
+        imported,
+        m,
+        defined,
+        c,
+        fields,
     );
     let Judgement::Kept = orders else {
         return orders;
     };
     let limits = judge_all_limits(
-        text, classes, starts, ends, n, imported, m, defined, c, fields, held,
+        text,
+        classes,
+        starts,
+        ends,
+        n,
+        imported,
+        m,
+        defined,
+        c,
+        fields,
+        held,
     );
     let Judgement::Kept = limits else {
         return limits;
     };
     let items = judge_all_items(
-        text, classes, starts, ends, n, imported, m, defined, c, fields,
+        text,
+        classes,
+        starts,
+        ends,
+        n,
+        imported,
+        m,
+        defined,
+        c,
+        fields,
     );
     let Judgement::Kept = items else {
         return items;
     };
     judge_conventions(
-        text, classes, starts, ends, n, imported, m, defined, c, fields, held,
+        text,
+        classes,
+        starts,
+        ends,
+        n,
+        imported,
+        m,
+        defined,
+        c,
+        fields,
+        held,
     )
 }

@@ -21,7 +21,7 @@ enum-known-restriction : tie.Need-enum-known-restriction
 enum-known-restriction c = search needs
 
 judge-items-requires : tie.Need-judge-items-requires
-judge-items-requires c κs = 
+judge-items-requires c κs =
     let s = c .before .before .before .before in
     (s .pre .0, subst BracketedIn (c .before .restriction .given .1) (s .pre .1))
 

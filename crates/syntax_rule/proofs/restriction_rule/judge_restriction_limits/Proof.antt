@@ -24,7 +24,7 @@ range-limits-requires : tie.Need-range-limits-requires
 range-limits-requires c κs = search needs
 
 judge-limits-requires : tie.Need-judge-limits-requires
-judge-limits-requires c κs = 
+judge-limits-requires c κs =
     let s = c .before .before .before .before .before in
     (s .pre .0, subst BracketedIn (c .before .before .restriction .given .1) (s .pre .1))
 
@@ -35,7 +35,7 @@ size-limits-requires : tie.Need-size-limits-requires
 size-limits-requires c κs = search needs
 
 judge-limits-requires-2 : tie.Need-judge-limits-requires-2
-judge-limits-requires-2 c κs = 
+judge-limits-requires-2 c κs =
     let s = c .before .before .before .before .before in
     (s .pre .0, subst BracketedIn (c .before .before .restriction2 .given .1) (s .pre .1))
 
@@ -48,7 +48,7 @@ returns c = rw (c .enum-told .given .1) (nothing-kept 17)
 
 returns-2 : tie.Need-returns-2
 unfolding limit-rule
-returns-2 c = 
+returns-2 c =
     let s = c .before .before .before .before .before .before in
     let span = c .before .before .before .restriction .given in
     rw (span .1)
@@ -56,7 +56,7 @@ returns-2 c =
 
 returns-3 : tie.Need-returns-3
 unfolding limit-rule
-returns-3 c = 
+returns-3 c =
     let s = c .before .before .before .before .before .before in
     let span = c .before .before .before .restriction2 .given in
     rw (span .1)

@@ -17,7 +17,7 @@ enum-known-restriction : tie.Need-enum-known-restriction
 enum-known-restriction c = search needs
 
 judge-order-requires : tie.Need-judge-order-requires
-judge-order-requires c κs = 
+judge-order-requires c κs =
     let s = c .before .before .before .before in
     (s .pre .0, subst BracketedIn (c .before .restriction .given .1) (s .pre .1))
 
@@ -25,7 +25,7 @@ enum-known-restriction-2 : tie.Need-enum-known-restriction-2
 enum-known-restriction-2 c = search needs
 
 judge-order-requires-2 : tie.Need-judge-order-requires-2
-judge-order-requires-2 c κs = 
+judge-order-requires-2 c κs =
     let s = c .before .before .before .before in
     (s .pre .0, subst BracketedIn (c .before .restriction2 .given .1) (s .pre .1))
 

@@ -50,7 +50,7 @@ enum-told-4 c = search needs
 
 returns : tie.Need-returns
 unfolding item-rule
-returns c = 
+returns c =
     let s = c .before .before .before .before .before .before in
     let restriction = c .before .before .before .syntax .given in
     rw (restriction .1)
@@ -70,7 +70,7 @@ returns-4 c = rw (c .enum-told3 .given .1) (nothing-kept 18)
 
 returns-5 : tie.Need-returns-5
 unfolding item-rule
-returns-5 c = 
+returns-5 c =
     let s = c .before .before .before .before .before .before in
     let restriction = c .before .before .before .syntax2 .given in
     rw (restriction .1)
