@@ -1,6 +1,6 @@
 -- What a walk asks of its cursor.
 -- Assumes nothing.
-use Prim.Native.Nat.{ℕ, _≤_, _<_}
+use Prim.Native.Nat.{_≤_, _<_}
 use Rattle.definition.specs.declared.Span.{Span}
 use Rattle.definition.specs.declared.Restriction.{Restriction}
 use Rattle.definition.specs.declared.Restriction.the-variants.{Free, Ranges, Sizes, Enumeration}

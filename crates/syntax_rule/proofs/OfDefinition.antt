@@ -5,7 +5,6 @@ use mathlib.Core.Bool.{Bool, true, false, cond}
 use mathlib.Core.List.{List}
 use Prim.Native.Nat.{ℕ}
 use borrow.Author.Tests.{eq-eqb, ne-eqb}
-use lib.Dec.{eqb}
 use Rattle.index.specs.Rule.{Rule, judge-one}
 use Rattle.index.specs.declared.Judgement.the-variants.{Kept}
 use Rattle.token.specs.Token.{Meaning}
@@ -13,7 +12,7 @@ use Rattle.definition.specs.declared.Restriction.{Restriction}
 use Rattle.definition.specs.declared.Syntax.{Syntax}
 use Rattle.name.specs.Import.{classes-of}
 use Rattle.syntax_class.specs.Class.{unsettled, kind-of, syntax-of, class-of}
-use Rattle.syntax_rule.specs.Refusal.{nothing-tested, restriction-of, order-rule, limit-rule, item-rule, has-syntax, is-untested, misplaced-in, outside-in, misfit-in}
+use Rattle.syntax_rule.specs.Refusal.{nothing-tested, restriction-of, order-rule, limit-rule, item-rule, has-syntax, misplaced-in, outside-in, misfit-in}
 use Rattle.syntax_rule.proofs.RuleLaws.{nothing-kept}
 use Rattle.syntax_rule.proofs.Unsettled.{untested-unsettled}
 

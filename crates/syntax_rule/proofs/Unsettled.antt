@@ -1,13 +1,12 @@
 -- The class of a definition is unsettled just where 17 isn't tested: in a convention that breaches 19 and in an object that names one.
 -- Assumes nothing.
-use mathlib.Core.Path.{_≡_, refl, sym, ap, _∙_}
+use mathlib.Core.Path.{_≡_, refl, sym, _∙_}
 use mathlib.Core.Bool.{Bool, true, false, cond, _&&_, _||_}
 use mathlib.Core.List.{List}
-use Prim.Native.Nat.{ℕ, _≤_, _<_}
+use Prim.Native.Nat.{ℕ, _<_}
 use native.Mathlib.Omega.{arith}
-use borrow.Author.Tests.{ne-eqb, eqb-true, eq-eqb}
-use lib.Dec.{eqb, lit<}
-use Rattle.index.proofs.Search.{answers}
+use borrow.Author.Tests.{ne-eqb, eqb-true}
+use lib.Dec.{eqb}
 use Rattle.token.specs.Token.{Meaning}
 use Rattle.symbol.specs.Symbol.{what-is, type-class}
 use Rattle.symbol.proofs.Symbols.{class-small}

@@ -3,7 +3,6 @@
 use mathlib.Core.Path.{sym, ap, _∙_}
 use Prim.Native.Nat.{_-_}
 use native.Mathlib.Omega.{arith}
-use borrow.Author.Needs.{needs}
 use Rattle.index.proofs.Search.{Searched, searched-start, searched-miss}
 use Rattle.index.proofs.Judged.{breach-found, no-breach}
 use Rattle.token.specs.Cut.{meanings-in}

@@ -1,19 +1,15 @@
 -- `judge_items_of` is right because only an object and a convention have a syntax.
 -- Assumes nothing.
-use mathlib.Core.Path.{_≡_, sym, ap, subst, _∙_}
+use mathlib.Core.Path.{_≡_, sym, _∙_}
 use mathlib.Core.List.{List}
-use Prim.Native.Nat.{ℕ, _<_}
+use Prim.Native.Nat.{_<_}
 use native.Mathlib.Omega.{arith}
-use lib.ListN.{length}
 use borrow.Author.Needs.{needs}
 use Rattle.token.specs.Token.{Meaning}
 use Rattle.token.specs.Cut.{meanings-in}
-use Rattle.definition.specs.declared.Syntax.{Syntax}
 use Rattle.name.specs.Import.{classes-of}
-use Rattle.restriction.specs.Within.{BracketedIn}
 use Rattle.syntax_class.specs.Class.{kind-of, syntax-of}
 use Rattle.syntax_class.proofs.Tables.{enough, counted, kind-said, syntax-said}
-use Rattle.syntax_rule.specs.Refusal.{restriction-of}
 use Rattle.syntax_rule.proofs.RuleLaws.{table-bracketed}
 use Rattle.syntax_rule.proofs.OfDefinition.{items-untested, items-tested}
 use Rattle.syntax_rule.proofs.each_definition.judge_items_of.Statement.{statement}
