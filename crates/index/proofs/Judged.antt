@@ -1,7 +1,7 @@
 -- What a judgement says of breaches: the rule named is broken at that place and nowhere earlier, and no rule before it is broken
 -- anywhere; or no rule is broken at all. And how a judgement is come to: by a loop for each rule, and one rule after the other.
 -- Assumes nothing.
-use mathlib.Core.Path.{_≡_, refl, sym, ap, _∙_}
+use mathlib.Core.Path.{_≡_, refl, ap}
 use mathlib.Core.Bool.{Bool, true, false, cond}
 use mathlib.Core.List.{List, [], _∷_, _++_}
 use Prim.Native.Nat.{ℕ, _≤_, _<_}

@@ -5,3 +5,5 @@ pub mod Collected
 pub mod Judged
 pub mod Step
 pub mod Each
+pub mod Pigeonhole
+pub mod Walk

@@ -1,5 +1,5 @@
 // Places and indices, each with a type of its own, so that they can't be mixed; and, in specs/ and proofs/, the laws of
-// searches by index that every layer cites.
+// searches by index, rules and walks that every layer cites.
 
 // A place: a byte offset in the text.
 pub struct Place(pub usize);
