@@ -1,0 +1,3 @@
+pub mod Spans
+pub mod Small
+pub mod Words
