@@ -6,6 +6,11 @@ use mathlib.Core.List.{List, [], _++_}
 use Prim.Native.Nat.{ℕ, _-_, _≤_, _<_}
 use lib.ListN.{length, drop, replicate}
 use Rattle.token.specs.Table.{longest-text, overlaid}
+use Rattle.index.specs.declared.Judgement.{Judgement}
+use Rattle.index.specs.declared.Judgement.the-variants as judgement
+use Rattle.token.specs.Token.{Tok, meanings}
+use Rattle.oid.specs.Oid.{count-of as definitions-in}
+use Rattle.record.specs.Record.{records-before}
 use Rattle.syntax.specs.Parsing.{Parses}
 use Rattle.syntax.specs.declared.Answer.{Answer as Parsing}
 use Rattle.reader.specs.Reading.{Outcome, accepted, refused, outcome}
@@ -55,6 +60,11 @@ abbrev pub Laid : Outcome → List ℕ → List ℕ → List ℕ → List ℕ �
 Laid (accepted count words sub-identifiers) records records′ numbers numbers′ =
     (records′ ≡ overlaid words records) × (numbers′ ≡ overlaid sub-identifiers numbers)
 Laid (refused number place) records records′ numbers numbers′ = (length records′ ≡ length records) × (length numbers′ ≡ length numbers)
+
+-- the same of the record buffer alone, by what the rules say
+abbrev pub RecordsLaid : List Tok → Judgement → List ℕ → List ℕ → Type 0
+RecordsLaid ts judgement.Kept records records′ = records′ ≡ overlaid (records-before ts (definitions-in (meanings ts))) records
+RecordsLaid ts (judgement.Broken number place) records records′ = length records′ ≡ length records
 
 -- the answer is right, and the two buffers hold these words
 pub record Left (answer right : Answer) (records words numbers sub-identifiers : List ℕ) : Type 0 where
