@@ -5,3 +5,5 @@ pub mod Collected
 pub mod Judged
 pub mod Pigeonhole
 pub mod Walk
+pub mod Step
+pub mod Each

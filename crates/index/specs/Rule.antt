@@ -2,7 +2,7 @@
 -- Assumes nothing.
 use mathlib.Core.Bool.{Bool, cond}
 use mathlib.Core.List.{List, [], _∷_}
-use Prim.Native.Nat.{ℕ}
+use Prim.Native.Nat.{ℕ, zero, suc, _-_}
 use Rattle.index.specs.First.{first, any}
 use Rattle.index.specs.declared.Judgement.{Judgement}
 use Rattle.index.specs.declared.Judgement.the-variants.{Kept, Broken}
@@ -33,3 +33,12 @@ judge-one r = cond (any (r .breach) (r .from) (r .to)) (broken (r .number) (r .p
 unfoldable pub judge : List Rule → Judgement
 judge [] = Kept
 judge (r ∷ rs) = and-then (judge-one r) (judge rs)
+
+-- a rule for each of n indices from a on, in rising order
+unfoldable pub each-of : (ℕ → Rule) → ℕ → ℕ → List Rule
+each-of rule a zero = []
+each-of rule a (suc n) = rule a ∷ each-of rule (suc a) n
+
+-- a rule for each index from a on, below b, in rising order
+unfoldable pub each : (ℕ → Rule) → ℕ → ℕ → List Rule
+each rule a b = each-of rule a (b - a)

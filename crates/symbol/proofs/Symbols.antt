@@ -2,17 +2,19 @@
 -- is spelled as what it names.
 -- Assumes nothing.
 use mathlib.Core.Path.{_≡_, refl, sym, ap, _∙_}
-use mathlib.Core.Bool.{Bool, _||_}
+use mathlib.Core.Bool.{Bool, false, _&&_, _||_}
 use mathlib.Core.List.{List, [], map}
-use Prim.Native.Nat.{ℕ, _+_, _<_}
+use Prim.Native.Nat.{ℕ, _+_, _≤_, _<_}
+use native.Mathlib.Omega.{arith}
+use borrow.Author.Tests.{ne-eqb}
 use lib.Dec.{T, eqb, eqb→eq, ltb, ltb→lt}
-use lib.ListN.{length, getD, List·getD-map}
+use lib.ListN.{length, getD, List·getD-map, List·getD-eq-default}
 use Rattle.index.specs.First.{first, first-of}
 use Rattle.index.proofs.Tested.{tested}
 use Rattle.terminal.specs.Terminal.{lower, Upper, MODULE-IDENTITY, OBJECT-IDENTITY, OBJECT-TYPE, NOTIFICATION-TYPE, TEXTUAL-CONVENTION}
 use Rattle.lexicon.specs.Byte.{class-of, class-in, rows}
 use Rattle.lexicon.specs.Word.{bytes, same, name-class, place-in, words, word-table, word-classes, word}
-use Rattle.symbol.specs.Symbol.{What, oid, type, macro, Symbol, symbols, modules, symbol-names, symbol-count, symbol-of, symbol, no-symbol, of-smi, of-tc, below-internet, what-is, numbers, numbers-of, sort-of, start-in, Joined}
+use Rattle.symbol.specs.Symbol.{What, oid, type, macro, Symbol, symbols, modules, symbol-names, symbol-count, symbol-of, symbol, no-symbol, of-smi, of-tc, below-internet, what-is, numbers, numbers-of, sort-of, type-class, class-of-sort, is-smi-type, start-in, Joined}
 use Rattle.symbol.specs.declared.Sort.{Sort}
 use Rattle.symbol.proofs.Joined.{part-length, part-inside, part-at}
 
@@ -105,3 +107,37 @@ well-spelled k s = spelled-as (s .what) (name-class (s .name))
 pub spelling-fits : (k : ℕ) → k < symbol-count → T (spelled-as (what-is k) (name-class (getD symbol-names k [])))
 unfolding well-spelled spelled-as what-is symbol no-symbol name-class place-in words word-table word-classes word bytes same class-of class-in rows symbols of-smi of-tc below-internet
 spelling-fits k h = rw (name-is k) (tested well-spelled no-symbol symbols tt k h)
+
+-- the class of a type, by what the code says of it; past the last symbol there is none
+pub class-said : (w : What) → class-of-sort (sort-of w) ≡ type-class w
+unfolding sort-of type-class
+class-said (oid ns) = refl
+class-said (type class) = refl
+class-said macro = refl
+
+all-symbols : length symbols ≡ symbol-count
+unfolding symbols
+all-symbols = refl
+
+past-symbols : (k : ℕ) → symbol-count ≤ k → symbol k ≡ no-symbol
+unfolding symbol
+past-symbols k h = List·getD-eq-default symbols no-symbol (omega (arith, all-symbols))
+
+pub class-past : (k : ℕ) → symbol-count ≤ k → 0 ≡ type-class (what-is k)
+unfolding what-is no-symbol type-class
+class-past k h = sym (ap (λ (s : Symbol). type-class (s .what)) (past-symbols k h))
+
+pub smi-type-past : (k : ℕ) → symbol-count ≤ k → false ≡ is-smi-type k
+unfolding is-smi-type what-is no-symbol type-class
+smi-type-past k h =
+    sym (ap (λ (s : Symbol). eqb (s .module-index) 0 && ltb 0 (type-class (s .what))) (past-symbols k h))
+
+-- whether a symbol is one of SMI's types, by the index of its module and its class
+module _ (k : ℕ) where
+  pub smi-type-first : getD module-indices k 0 ≡ 0 → (class : ℕ) → class ≡ type-class (what-is k) → ltb 0 class ≡ is-smi-type k
+  unfolding is-smi-type
+  smi-type-first first class is = rw (← module-index-is k, first, is)
+
+  pub smi-type-later : (getD module-indices k 0 ≡ 0 → ⊥) → eqb (getD module-indices k 0) 0 ≡ is-smi-type k
+  unfolding is-smi-type
+  smi-type-later later = rw (← module-index-is k) (simp (ne-eqb (getD module-indices k 0) 0 later))

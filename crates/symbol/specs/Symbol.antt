@@ -2,9 +2,11 @@
 -- is. `iso` needs no import and stands by itself.
 -- Assumes nothing.
 use mathlib.Core.Path.{_≡_}
+use mathlib.Core.Bool.{Bool, _&&_}
 use mathlib.Core.List.{List, [], _∷_, _++_, map}
 use Prim.Native.Nat.{ℕ, _+_, _≤_}
 use Prim.Native.String.{String}
+use lib.Dec.{ltb, eqb}
 use lib.ListN.{length, getD}
 use Rattle.index.specs.First.{first}
 use Rattle.lexicon.specs.Word.{bytes, same, joined, start-of, between}
@@ -181,6 +183,22 @@ unfoldable pub sort-of : What → Sort
 sort-of (oid ns) = Sort.Oid
 sort-of (type class) = Sort.Type class
 sort-of macro = Sort.Macro
+
+-- the class of a type; 0 for what is no type
+unfoldable pub type-class : What → ℕ
+type-class (oid ns) = 0
+type-class (type class) = class
+type-class macro = 0
+
+-- the same of what the code says
+abbrev pub class-of-sort : Sort → ℕ
+class-of-sort Sort.Oid = 0
+class-of-sort (Sort.Type class) = class
+class-of-sort Sort.Macro = 0
+
+-- symbol k is one of SMI's eight types: a type that SNMPv2-SMI, the first of the modules, offers
+unfoldable pub is-smi-type : ℕ → Bool
+is-smi-type k = eqb (symbol k .module-index) 0 && ltb 0 (type-class (what-is k))
 
 -- where the list k starts, by a table of starts
 unfoldable pub start-in : List ℕ → ℕ → ℕ

@@ -6,8 +6,9 @@ ghost use lib.ListN.{length, getD};
 ghost use Rattle.lexicon.specs.Word.{same, Within};
 ghost use Rattle.token.specs.Cut.{cut, meanings-in, said};
 ghost use Rattle.token.specs.Table.{TokenTable};
-ghost use Rattle.symbol.specs.Symbol.{symbol-count, symbol-names, symbol-of, module-name, what-is, numbers-of, sort-of, iso-name, start-in, part, Joined};
+ghost use Rattle.symbol.specs.Symbol.{symbol-count, symbol-names, symbol-of, module-name, what-is, numbers-of, sort-of, type-class, class-of-sort, is-smi-type, iso-name, start-in, part, Joined};
 
+pub mod class;
 mod table;
 
 use crate::table::ISO;
@@ -170,6 +171,37 @@ pub fn sort_of(k: usize) -> Sort
     ensures { λ r. ⌜ r ≡ sort-of (what-is k) ⌝ }
 {
     SORTS[k]
+}
+
+// The class of a type; 0 for what is no type.
+fn class_of(sort: Sort) -> u8
+    ensures { λ r. ⌜ r ≡ class-of-sort sort ⌝ }
+{
+    match sort {
+        Sort::Oid => 0,
+        Sort::Type(class) => class,
+        Sort::Macro => 0,
+    }
+}
+
+// The class of symbol k as a type; 0 where it is none, and past the last symbol.
+pub fn type_class(k: usize) -> u8
+    ensures { λ r. ⌜ r ≡ type-class (what-is k) ⌝ }
+{
+    if SYMBOLS <= k {
+        return 0;
+    }
+    class_of(sort_of(k))
+}
+
+// Whether symbol k is one of SMI's eight types.
+pub fn is_smi_type(k: usize) -> bool
+    ensures { λ r. ⌜ r ≡ is-smi-type k ⌝ }
+{
+    if SYMBOLS <= k {
+        return false;
+    }
+    MODULES[k] == 0 && 0 < type_class(k)
 }
 
 // How many numbers the OID of symbol k has; 0 where it has none.

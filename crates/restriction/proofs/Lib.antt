@@ -1,0 +1,4 @@
+pub mod Numbers
+pub mod Walking
+pub mod RangeLaws
+pub mod ItemLaws

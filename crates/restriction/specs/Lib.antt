@@ -1,0 +1,5 @@
+pub mod Ranges
+pub mod Enumeration
+pub mod Limits
+pub mod Within
+pub mod Refusal

@@ -1,0 +1,1 @@
+// Refusals 16 to 19 over a module.
