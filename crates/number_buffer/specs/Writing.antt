@@ -1,0 +1,35 @@
+-- What the writer of OIDs reads, and what it leaves in the number buffer.
+-- Assumes nothing.
+use mathlib.Core.Path.{_≡_}
+use mathlib.Core.List.{List}
+use Prim.Native.Nat.{ℕ, _≤_, _<_}
+use lib.ListN.{length}
+use Rattle.token.specs.Token.{Meaning}
+use Rattle.token.specs.Cut.{cut, meanings-in}
+use Rattle.token.specs.Table.{TokenTable, overlaid}
+use Rattle.name.specs.Import.{classes-of}
+use Rattle.name.specs.Collect.{most-definitions}
+use Rattle.name.specs.declared.Lead.{Lead}
+use Rattle.name.specs.declared.Lead.the-variants.{Iso, Import, Definition, Nothing}
+use Rattle.field_table.specs.Table.{FieldTable}
+use Rattle.oid.specs.Oid.{count-of}
+use Rattle.oid.specs.Heads.{HeadTable}
+
+-- these numbers are written to the start of a buffer, the rest of which is as it was, and how many they are is answered
+pub record Written (numbers : List ℕ) (count : ℕ) (before after : List ℕ) : Type 0 where
+  pub counted : count ≡ length numbers
+  pub held : after ≡ overlaid numbers before
+
+-- what the writer reads: the tokens, and the fields and the head of every definition
+pub record Sources (text classes starts ends : List ℕ) (n : ℕ) (fields heads : List ℕ) : Type 0 where
+  pub tokens : TokenTable text (cut text .tokens) classes starts ends n
+  pub few : count-of (meanings-in text) ≤ most-definitions
+  pub fields-held : FieldTable (classes-of (meanings-in text)) fields (count-of (meanings-in text))
+  pub heads-held : HeadTable (meanings-in text) heads (count-of (meanings-in text))
+
+-- a name that leads to a definition leads to one of the module's
+abbrev pub LeadsInside : List Meaning → Lead → Type 0
+LeadsInside ms Iso = Unit {0}
+LeadsInside ms (Import k) = Unit {0}
+LeadsInside ms (Definition d) = d .0 < count-of ms
+LeadsInside ms Nothing = Unit {0}
