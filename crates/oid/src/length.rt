@@ -28,7 +28,13 @@ fn symbol_length(k: usize) -> usize
 }
 
 // How many numbers the OID has that a name leads to, with so many heads left to follow.
-fn name_length(heads: &[usize; 512], parts: &[usize; 512], c: usize, lead: Lead, left: usize) -> usize
+fn name_length(
+    heads: &[usize; 512],
+    parts: &[usize; 512],
+    c: usize,
+    lead: Lead,
+    left: usize,
+) -> usize
     requires heads { ⌜ Closed (now heads) c ⌝ }
     requires parts { ⌜ FewParts (now parts) c ⌝ }
     requires left { ⌜ left ≤ most-definitions ⌝ }
