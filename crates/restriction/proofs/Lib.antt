@@ -2,3 +2,4 @@ pub mod Numbers
 pub mod Walking
 pub mod RangeLaws
 pub mod ItemLaws
+pub mod Bracketing

@@ -2,9 +2,18 @@
 -- Assumes nothing.
 use Prim.Native.Nat.{ℕ, _≤_, _<_}
 use Rattle.definition.specs.declared.Span.{Span}
+use Rattle.definition.specs.declared.Restriction.{Restriction}
+use Rattle.definition.specs.declared.Restriction.the-variants.{Free, Ranges, Sizes, Enumeration}
 
 -- what stands between brackets stands behind a token, and ends where tokens do: each is at most 65536, and a bracket a few behind
 pub record Bracketed (s : Span) : Type 0 where
   pub behind : 0 < s .from
   pub ordered : s .from ≤ s .to
   pub short : s .to ≤ 65542
+
+-- the cursor of a restriction stands so
+abbrev pub BracketedIn : Restriction → Type 0
+BracketedIn Free = Unit {0}
+BracketedIn (Ranges s) = Bracketed s
+BracketedIn (Sizes s) = Bracketed s
+BracketedIn (Enumeration s) = Bracketed s

@@ -5,6 +5,7 @@ use mathlib.Core.Path.{_≡_, refl, sym, ap, _∙_}
 use mathlib.Core.Bool.{Bool, false, _&&_, _||_}
 use mathlib.Core.List.{List, [], map}
 use Prim.Native.Nat.{ℕ, _+_, _≤_, _<_}
+use native.Mathlib.Decide.{decLt}
 use native.Mathlib.Omega.{arith}
 use borrow.Author.Tests.{ne-eqb}
 use lib.Dec.{T, eqb, eqb→eq, ltb, ltb→lt}
@@ -141,3 +142,18 @@ module _ (k : ℕ) where
   pub smi-type-later : (getD module-indices k 0 ≡ 0 → ⊥) → eqb (getD module-indices k 0) 0 ≡ is-smi-type k
   unfolding is-smi-type
   smi-type-later later = rw (← module-index-is k) (simp (ne-eqb (getD module-indices k 0) 0 later))
+
+-- the class of each type is one of the first twelve
+in-classes : ℕ → Symbol → Bool
+in-classes k s = ltb (type-class (s .what)) 13
+
+listed-class-small : (k : ℕ) → k < symbol-count → type-class (what-is k) < 13
+unfolding in-classes type-class what-is symbol no-symbol symbols of-smi of-tc below-internet
+listed-class-small k h = ltb→lt (type-class (what-is k)) 13 (tested in-classes no-symbol symbols tt k h)
+
+pub class-small : (k : ℕ) → type-class (what-is k) < 13
+class-small k = go (decLt k symbol-count)
+  where
+    go : Dec (k < symbol-count) → type-class (what-is k) < 13
+    go (yes h) = listed-class-small k h
+    go (no h) = omega (arith, class-past k (omega arith))

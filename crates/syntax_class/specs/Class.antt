@@ -13,6 +13,8 @@ use Rattle.definition.specs.declared.Restriction.{Restriction}
 use Rattle.definition.specs.declared.Restriction.the-variants.{Free, Ranges, Sizes, Enumeration}
 use Rattle.definition.specs.declared.Syntax.{Syntax}
 use Rattle.definition.specs.declared.Syntax.the-variants.{Integer, Named, Octets, ObjectIdentifier, Bits, SequenceOf}
+use Rattle.syntax_class.specs.declared.TypeName.{TypeName}
+use Rattle.syntax_class.specs.declared.TypeName.the-variants.{Name, Unnamed}
 use Rattle.name.specs.Import.{classes-of, spelled}
 use Rattle.name.specs.Lead.{leads-to}
 use Rattle.name.specs.declared.Lead.{Lead}
@@ -50,18 +52,29 @@ is-smi-lead (Import k) = is-smi-type k
 is-smi-lead (Definition r) = false
 is-smi-lead Nothing = false
 
--- a syntax has a name that isn't one of them
-unfoldable pub names-another : List Meaning → Syntax → Bool
-names-another ms (Integer r) = false
-names-another ms (Named t r) = not (is-smi-lead (lead-of ms (t .0)))
-names-another ms (Octets r) = false
-names-another ms ObjectIdentifier = false
-names-another ms (Bits r) = false
-names-another ms (SequenceOf t) = false
+-- the name of a syntax, where it has one
+unfoldable pub type-name : Syntax → TypeName
+type-name (Integer r) = Unnamed
+type-name (Named t r) = Name t
+type-name (Octets r) = Unnamed
+type-name ObjectIdentifier = Unnamed
+type-name (Bits r) = Unnamed
+type-name (SequenceOf t) = Unnamed
+
+-- what it leads to
+abbrev pub lead-in : List Meaning → TypeName → Lead
+lead-in ms (Name t) = lead-of ms (t .0)
+lead-in ms Unnamed = Nothing
+
+-- it isn't one of SMI's eight types, imported
+abbrev pub names-another : List Meaning → TypeName → Bool
+names-another ms (Name t) = not (is-smi-lead (lead-of ms (t .0)))
+names-another ms Unnamed = false
 
 -- 19: definition k is a convention whose SYNTAX name isn't one of SMI's eight types, imported
 unfoldable pub is-indirect : List Meaning → ℕ → Bool
-is-indirect ms k = eqb (kind-of (classes-of ms) k) convention && names-another ms (syntax-of (classes-of ms) k)
+is-indirect ms k =
+    eqb (kind-of (classes-of ms) k) convention && names-another ms (type-name (syntax-of (classes-of ms) k))
 
 -- the class of INTEGER: enumerated where it has an enumeration
 abbrev pub integer-class : Restriction → ℕ
@@ -79,15 +92,6 @@ syntax-class ObjectIdentifier class = object-identifier
 syntax-class (Bits r) class = bits
 syntax-class (SequenceOf t) class = table
 
--- what a syntax's name leads to
-unfoldable pub syntax-lead : List Meaning → Syntax → Lead
-syntax-lead ms (Integer r) = Nothing
-syntax-lead ms (Named t r) = lead-of ms (t .0)
-syntax-lead ms (Octets r) = Nothing
-syntax-lead ms ObjectIdentifier = Nothing
-syntax-lead ms (Bits r) = Nothing
-syntax-lead ms (SequenceOf t) = Nothing
-
 -- the class of a built-in type; 0 where a name leads to none
 abbrev pub built-in-class : Lead → ℕ
 built-in-class Iso = 0
@@ -98,8 +102,8 @@ built-in-class Nothing = 0
 -- the class of convention k
 unfoldable pub convention-class : List Meaning → ℕ → ℕ
 convention-class ms k =
-    cond (names-another ms (syntax-of (classes-of ms) k)) unsettled
-    (syntax-class (syntax-of (classes-of ms) k) (built-in-class (syntax-lead ms (syntax-of (classes-of ms) k))))
+    cond (names-another ms (type-name (syntax-of (classes-of ms) k))) unsettled
+    (syntax-class (syntax-of (classes-of ms) k) (built-in-class (lead-in ms (type-name (syntax-of (classes-of ms) k)))))
 
 -- the class of an object that names definition k: a convention's own, row for a SEQUENCE type; 0 for what is no type
 unfoldable pub type-definition-class : List Meaning → ℕ → ℕ
@@ -114,9 +118,13 @@ lead-class ms (Import k) = type-class (what-is k)
 lead-class ms (Definition r) = type-definition-class ms (r .0)
 lead-class ms Nothing = 0
 
+-- the class of object k
+unfoldable pub object-class : List Meaning → ℕ → ℕ
+object-class ms k =
+    syntax-class (syntax-of (classes-of ms) k) (lead-class ms (lead-in ms (type-name (syntax-of (classes-of ms) k))))
+
 -- the class of definition k: of objects and conventions, and 0 for other kinds
 unfoldable pub class-of : List Meaning → ℕ → ℕ
 class-of ms k =
-    cond (eqb (kind-of (classes-of ms) k) object)
-    (syntax-class (syntax-of (classes-of ms) k) (lead-class ms (syntax-lead ms (syntax-of (classes-of ms) k))))
+    cond (eqb (kind-of (classes-of ms) k) object) (object-class ms k)
     (cond (eqb (kind-of (classes-of ms) k) convention) (convention-class ms k) 0)

@@ -20,7 +20,7 @@ use Rattle.name.specs.declared.Lead.the-variants.{Iso, Import, Definition, Noth
 use Rattle.restriction.specs.Limits.{range-limits, size-limits, integer-limits, bit-limits}
 use Rattle.restriction.specs.declared.Limits.{Limits}
 use Rattle.restriction.specs.Refusal.{misplaced-range, range-outside, misfit-item}
-use Rattle.syntax_class.specs.Class.{kind-of, syntax-of, syntax-lead, is-indirect, class-of}
+use Rattle.syntax_class.specs.Class.{kind-of, syntax-of, type-name, lead-in, is-indirect, class-of}
 
 -- a rule that is tested nowhere
 unfoldable pub nothing-tested : ℕ → Rule
@@ -80,7 +80,7 @@ leads-to-indirect ms Nothing = false
 unfoldable pub is-untested : List Meaning → ℕ → Bool
 is-untested ms k =
     is-indirect ms k
-    || (eqb (kind-of (classes-of ms) k) object && leads-to-indirect ms (syntax-lead ms (syntax-of (classes-of ms) k)))
+    || (eqb (kind-of (classes-of ms) k) object && leads-to-indirect ms (lead-in ms (type-name (syntax-of (classes-of ms) k))))
 
 -- 16, of definition k
 unfoldable pub misplaced-in : List Meaning → ℕ → Rule

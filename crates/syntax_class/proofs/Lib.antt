@@ -1,0 +1,3 @@
+pub mod Syntaxes
+pub mod Tables
+pub mod Classes
