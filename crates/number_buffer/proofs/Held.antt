@@ -61,9 +61,9 @@ module _ (ms : List Meaning) (firsts numbers : List ℕ) (c : ℕ) (t : NumberTa
 
 -- so a test of what is held is one of the OIDs
 pub oids-held : (test : List ℕ → List ℕ → Bool) (ms : List Meaning) (firsts numbers : List ℕ) (c : ℕ) → NumberTable ms firsts numbers c
-    → (j k : ℕ) → j < c → k < c → test (held-at firsts numbers j) (held-at firsts numbers k) ≡ test (oid-of ms j) (oid-of ms k)
-oids-held test ms firsts numbers c t j k p q =
-    ap (λ (l : List ℕ). test l (held-at firsts numbers k)) (oid-held ms firsts numbers c t j p)
+    → (j k : ℕ) → j < c → k < c → {r : Bool} → r ≡ test (held-at firsts numbers j) (held-at firsts numbers k) → r ≡ test (oid-of ms j) (oid-of ms k)
+oids-held test ms firsts numbers c t j k p q is =
+    is ∙ ap (λ (l : List ℕ). test l (held-at firsts numbers k)) (oid-held ms firsts numbers c t j p)
     ∙ ap (test (oid-of ms j)) (oid-held ms firsts numbers c t k q)
 
 -- what the writer leaves, with the table of runs

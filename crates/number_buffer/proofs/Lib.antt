@@ -4,3 +4,4 @@ pub mod Steps
 pub mod Oids
 pub mod Sources
 pub mod Held
+pub mod Twins

@@ -14,11 +14,13 @@ use Rattle.terminal.specs.Terminal.{MODULE-IDENTITY, NOTIFICATION-TYPE, OBJECT,
 use Rattle.token.specs.Token.{Meaning}
 use Rattle.definition.specs.Landmark.{class-at, definitions, has-oid, identity, plain, object-identity, object, convention, sequence-type, notification, kind-at}
 use Rattle.definition.specs.Fields.{fields-of, fields-at}
+use Rattle.field_table.specs.Table.{word-in, FieldTable}
+use Rattle.field_table.proofs.Held.{kind-held}
 use Rattle.oid.specs.Oid.{head-of, parts-of, count-of, definition-numbers, kind-of, oid-of, numbers-before}
 
--- a kind is one of seven
+-- the last of the kinds is `notification`
 seven : (a b c d e f : Bool)
-    → cond a identity (cond b plain (cond c object-identity (cond d object (cond e notification (cond f convention sequence-type))))) ≤ 7
+    → cond a identity (cond b plain (cond c object-identity (cond d object (cond e notification (cond f convention sequence-type))))) ≤ notification
 seven true b c d e f = omega arith
 seven false true c d e f = omega arith
 seven false false true d e f = omega arith
@@ -27,15 +29,19 @@ seven false false false false true f = omega arith
 seven false false false false false true = omega arith
 seven false false false false false false = omega arith
 
-pub kind-small : (cs : List ℕ) (k : ℕ) → fields-at cs k .kind ≤ 7
+kind-last : (cs : List ℕ) (k : ℕ) → fields-at cs k .kind ≤ notification
 unfolding fields-at fields-of kind-at
-kind-small cs k =
+kind-last cs k =
     let d = getD (definitions cs) k 0 in
     seven (is (d + 1) MODULE-IDENTITY) (is (d + 1) OBJECT) (is (d + 1) OBJECT-IDENTITY) (is (d + 1) OBJECT-TYPE) (is (d + 1) NOTIFICATION-TYPE)
     (is (d + 2) TEXTUAL-CONVENTION)
   where
     is : ℕ → ℕ → Bool
     is i class = eqb (class-at cs i) class
+
+-- and so is the word that the table has for it
+pub kind-word : (cs table : List ℕ) (c : ℕ) → FieldTable cs table c → (k : ℕ) → k < c → word-in table k 0 ≤ notification
+kind-word cs table c t k h = omega (arith, kind-held cs table c t k h, kind-last cs k)
 
 module _ (ms : List Meaning) where
   -- the OID of a definition, by its kind

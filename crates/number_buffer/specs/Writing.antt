@@ -12,8 +12,15 @@ use Rattle.name.specs.Collect.{most-definitions}
 use Rattle.name.specs.declared.Lead.{Lead}
 use Rattle.name.specs.declared.Lead.the-variants.{Iso, Import, Definition, Nothing}
 use Rattle.field_table.specs.Table.{FieldTable}
-use Rattle.oid.specs.Oid.{count-of}
+use Rattle.oid.specs.Oid.{head-of, parts-of, count-of, name-numbers, definition-numbers}
 use Rattle.oid.specs.Heads.{HeadTable}
+
+-- the numbers of definition d, and of what a name leads to, with so many heads left to follow
+abbrev pub numbers-of-definition : List Meaning → ℕ → ℕ → List ℕ
+numbers-of-definition ms left d = definition-numbers (head-of ms) (parts-of ms) left d
+
+abbrev pub numbers-of-name : List Meaning → ℕ → Lead → List ℕ
+numbers-of-name ms left l = name-numbers (numbers-of-definition ms left) l
 
 -- these numbers are written to the start of a buffer, the rest of which is as it was, and how many they are is answered
 pub record Written (numbers : List ℕ) (count : ℕ) (before after : List ℕ) : Type 0 where

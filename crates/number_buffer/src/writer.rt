@@ -5,10 +5,11 @@ ghost use mathlib.Core.Path.{_≡_};
 ghost use Prim.Native.Nat.{_≤_, _<_};
 ghost use lib.ListN.{length};
 ghost use Rattle.token.specs.Cut.{meanings-in};
-ghost use Rattle.oid.specs.Oid.{head-of, parts-of, count-of, name-numbers, definition-numbers, oid-of, numbers-before};
-ghost use Rattle.number_buffer.specs.Writing.{Written, Sources, LeadsInside};
+ghost use Rattle.oid.specs.Oid.{count-of, oid-of, numbers-before};
+ghost use Rattle.number_buffer.specs.Writing.{numbers-of-definition, numbers-of-name, Written, Sources, LeadsInside};
 use crate::built_in::write_iso;
 use crate::built_in::write_symbol;
+use crate::kind::kind_of;
 use crate::part::write_parts;
 use definition::has_oid;
 use index::RecordIndex;
@@ -29,8 +30,8 @@ fn write_name(
 ) -> usize
     requires sources { ⌜ Sources (now text) (now classes) (now starts) (now ends) n (now fields) (now heads) ⌝ }
     requires inside { ⌜ LeadsInside (meanings-in (now text)) lead ⌝ }
-    requires room { ⌜ length (name-numbers (definition-numbers (head-of (meanings-in (now text))) (parts-of (meanings-in (now text))) left) lead) ≤ length (now numbers) ⌝ }
-    ensures { λ r. ⌜ Written (name-numbers (definition-numbers (head-of (meanings-in (now (text .entry)))) (parts-of (meanings-in (now (text .entry)))) left) lead) r (now (numbers .entry)) (now (numbers .exit)) ⌝ }
+    requires room { ⌜ length (numbers-of-name (meanings-in (now text)) left lead) ≤ length (now numbers) ⌝ }
+    ensures { λ r. ⌜ Written (numbers-of-name (meanings-in (now (text .entry))) left lead) r (now (numbers .entry)) (now (numbers .exit)) ⌝ }
 {
     match lead {
         Lead::Iso => write_iso(numbers),
@@ -66,8 +67,8 @@ fn write_definition(
 ) -> usize
     requires sources { ⌜ Sources (now text) (now classes) (now starts) (now ends) n (now fields) (now heads) ⌝ }
     requires inside { ⌜ d .0 < count-of (meanings-in (now text)) ⌝ }
-    requires room { ⌜ length (definition-numbers (head-of (meanings-in (now text))) (parts-of (meanings-in (now text))) left (d .0)) ≤ length (now numbers) ⌝ }
-    ensures { λ r. ⌜ Written (definition-numbers (head-of (meanings-in (now (text .entry)))) (parts-of (meanings-in (now (text .entry)))) left (d .0)) r (now (numbers .entry)) (now (numbers .exit)) ⌝ }
+    requires room { ⌜ length (numbers-of-definition (meanings-in (now text)) left (d .0)) ≤ length (now numbers) ⌝ }
+    ensures { λ r. ⌜ Written (numbers-of-definition (meanings-in (now (text .entry))) left (d .0)) r (now (numbers .entry)) (now (numbers .exit)) ⌝ }
 {
     if left == 0 {
         return 0;
@@ -86,7 +87,8 @@ fn write_definition(
         left - 1,
     );
     let span = field_table::oid(fields, d);
-    count + write_parts(text, classes, starts, ends, n, &mut numbers[count..], span)
+    let rest = &mut numbers[count..];
+    count + write_parts(text, classes, starts, ends, n, rest, span)
 }
 
 // Writes the OID of definition k, of c, and answers how many numbers it has: none where its kind has no OID. As many heads as there
@@ -109,7 +111,7 @@ fn write_oid(
     requires room { ⌜ length (oid-of (meanings-in (now text)) (k .0)) ≤ length (now numbers) ⌝ }
     ensures { λ r. ⌜ Written (oid-of (meanings-in (now (text .entry))) (k .0)) r (now (numbers .entry)) (now (numbers .exit)) ⌝ }
 {
-    if !has_oid(field_table::kind(fields, k) as u8) {
+    if !has_oid(kind_of(fields, k)) {
         return 0;
     }
     write_definition(text, classes, starts, ends, n, fields, heads, numbers, k, c)
@@ -135,18 +137,10 @@ pub fn write_oids(
     let mut at = 0;
     let mut k = 0;
     while k < c {
-        at += write_oid(
-            text,
-            classes,
-            starts,
-            ends,
-            n,
-            c,
-            fields,
-            heads,
-            &mut numbers[at..],
-            RecordIndex(k),
-        );
+        let rest = &mut numbers[at..];
+        let d = RecordIndex(k);
+        let count = write_oid(text, classes, starts, ends, n, c, fields, heads, rest, d);
+        at += count;
         k += 1;
     }
     at

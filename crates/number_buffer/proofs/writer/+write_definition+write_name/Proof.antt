@@ -185,19 +185,19 @@ module _ (t : ℕ) where
       let s = start (c .before .before .before .before) in
       omega (arith, s .pre .1 .1 .0, s .pre .1 .0 .few)
 
-  write-definition-mul-write-parts : write-definition-lts.Need-mul-write-parts (definition-claims t) (write-definition-at t) write-definition.Post
-  write-definition-mul-write-parts c =
+  write-definition-mul-rest : write-definition-lts.Need-mul-rest (definition-claims t) (write-definition-at t) write-definition.Post
+  write-definition-mul-rest c =
       let s = start (headed c) in
       omega (arith, c .before .before .before .write-name .ensures .counted, length-append (first-numbers (headed c)) (second-numbers (headed c) (c .oid .result)), both-room c, s .good .1 .1 .1 .1 .1 .1 .1 .0)
 
-  write-definition-sub-write-parts : write-definition-lts.Need-sub-write-parts (definition-claims t) (write-definition-at t) write-definition.Post
-  write-definition-sub-write-parts c = inside c
+  write-definition-sub-rest : write-definition-lts.Need-sub-rest (definition-claims t) (write-definition-at t) write-definition.Post
+  write-definition-sub-rest c = inside c
 
-  write-definition-part-write-parts-start : write-definition-lts.Need-part-write-parts-start (definition-claims t) (write-definition-at t) write-definition.Post
-  write-definition-part-write-parts-start c = inside c
+  write-definition-part-rest-start : write-definition-lts.Need-part-rest-start (definition-claims t) (write-definition-at t) write-definition.Post
+  write-definition-part-rest-start c = inside c
 
-  write-definition-part-write-parts-end : write-definition-lts.Need-part-write-parts-end (definition-claims t) (write-definition-at t) write-definition.Post
-  write-definition-part-write-parts-end c = search needs
+  write-definition-part-rest-end : write-definition-lts.Need-part-rest-end (definition-claims t) (write-definition-at t) write-definition.Post
+  write-definition-part-rest-end c = search needs
 
   write-definition-write-parts-requires : write-definition-lts.Need-write-parts-requires (definition-claims t) (write-definition-at t) write-definition.Post
   write-definition-write-parts-requires c κs =
@@ -311,10 +311,10 @@ pub +write-definition+write-name-spec : {M : Type 1} → statement M
     (write-definition-sub-write-name t)
     (write-definition-write-name-requires t)
     (write-definition-oid-requires t)
-    (write-definition-mul-write-parts t)
-    (write-definition-sub-write-parts t)
-    (write-definition-part-write-parts-start t)
-    (write-definition-part-write-parts-end t)
+    (write-definition-mul-rest t)
+    (write-definition-sub-rest t)
+    (write-definition-part-rest-start t)
+    (write-definition-part-rest-end t)
     (write-definition-write-parts-requires t)
     (write-definition-add-result t)
     (write-definition-same-length t)

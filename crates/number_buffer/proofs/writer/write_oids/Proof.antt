@@ -63,17 +63,17 @@ loop-holds c =
     let s = c .before .before in
     (omega arith, written-none _ _ (none-before (meanings-in (s .args .text .now))))
 
-mul-write-oid : tie.Need-mul-write-oid Inv-loop μ-loop
-mul-write-oid c = omega (arith, at-most c, start c .good .1 .1 .1 .1 .1 .1 .1 .1 .0)
+mul-rest : tie.Need-mul-rest Inv-loop μ-loop
+mul-rest c = omega (arith, at-most c, start c .good .1 .1 .1 .1 .1 .1 .1 .1 .0)
 
-sub-write-oid : tie.Need-sub-write-oid Inv-loop μ-loop
-sub-write-oid c = inside c
+sub-rest : tie.Need-sub-rest Inv-loop μ-loop
+sub-rest c = inside c
 
-part-write-oid-start : tie.Need-part-write-oid-start Inv-loop μ-loop
-part-write-oid-start c = inside c
+part-rest-start : tie.Need-part-rest-start Inv-loop μ-loop
+part-rest-start c = inside c
 
-part-write-oid-end : tie.Need-part-write-oid-end Inv-loop μ-loop
-part-write-oid-end c = search needs
+part-rest-end : tie.Need-part-rest-end Inv-loop μ-loop
+part-rest-end c = search needs
 
 write-oid-requires : tie.Need-write-oid-requires Inv-loop μ-loop
 write-oid-requires c κs =
@@ -119,10 +119,10 @@ write-oids-spec =
     Inv-loop
     μ-loop
     loop-holds
-    mul-write-oid
-    sub-write-oid
-    part-write-oid-start
-    part-write-oid-end
+    mul-rest
+    sub-rest
+    part-rest-start
+    part-rest-end
     write-oid-requires
     add-at
     add-k

@@ -1,0 +1,48 @@
+-- Refusal 15, test by test.
+-- Assumes nothing.
+use mathlib.Core.Path.{_≡_, sym, ap, _∙_}
+use mathlib.Core.Bool.{Bool, true, false}
+use mathlib.Core.List.{List}
+use Prim.Native.Nat.{ℕ, _≤_, _<_}
+use native.Mathlib.Omega.{arith}
+use borrow.Author.Tests.{le-ltb}
+use Rattle.index.specs.First.{first, any}
+use Rattle.index.proofs.Search.{Searched, searched-end}
+use Rattle.lexicon.specs.Word.{same}
+use Rattle.token.specs.Token.{Meaning}
+use Rattle.name.specs.Import.{classes-of}
+use Rattle.field_table.specs.Table.{word-in, FieldTable}
+use Rattle.field_table.proofs.Held.{kind-held}
+use Rattle.oid.specs.Oid.{count-of, kind-of, oid-of}
+use Rattle.number_buffer.specs.Refusal.{is-holder, holds-oid, held-twice}
+
+-- a search that has come to its end found none
+pub searched-none : (test : ℕ → Bool) (a b i : ℕ) → Searched test a b i → b ≤ i → false ≡ any test a b
+unfolding any
+searched-none test a b i s h = sym (le-ltb (first test a b) b (omega (arith, searched-end test a b i s h)))
+
+module _ (ms : List Meaning) where
+  -- what the code tested of a kind
+  pub holder-said : (fields : List ℕ) → FieldTable (classes-of ms) fields (count-of ms) → (k : ℕ) → k < count-of ms
+      → {kind : ℕ} → kind ≡ word-in fields k 0 → {b : Bool} → b ≡ is-holder kind → b ≡ is-holder (kind-of ms k)
+  holder-said fields t k h is tested = tested ∙ ap is-holder (is ∙ kind-held _ _ _ t k h)
+
+  -- definition j holds the OID of definition k
+  module _ (k j : ℕ) where
+    pub holds-not : is-holder (kind-of ms j) ≡ false → false ≡ holds-oid ms k j
+    unfolding holds-oid
+    holds-not e = rw e
+
+    pub holds-same : is-holder (kind-of ms j) ≡ true → same (oid-of ms j) (oid-of ms k) ≡ holds-oid ms k j
+    unfolding holds-oid
+    holds-same e = rw e
+
+  -- definition k breaks the rule
+  module _ (k : ℕ) where
+    pub twice-not : is-holder (kind-of ms k) ≡ false → false ≡ held-twice ms .breach k
+    unfolding held-twice
+    twice-not e = rw e
+
+    pub twice-before : is-holder (kind-of ms k) ≡ true → any (holds-oid ms k) 0 k ≡ held-twice ms .breach k
+    unfolding held-twice
+    twice-before e = rw e

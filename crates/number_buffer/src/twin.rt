@@ -1,0 +1,124 @@
+// Refusal 15: an OID that an earlier definition already holds.
+ghost use mathlib.Core.Path.{_≡_};
+ghost use Prim.Native.Nat.{_<_};
+ghost use Rattle.index.specs.First.{any, Listed};
+ghost use Rattle.index.specs.Rule.{judge-one};
+ghost use Rattle.token.specs.Cut.{meanings-in};
+ghost use Rattle.definition.specs.Landmark.{definitions};
+ghost use Rattle.name.specs.Import.{classes-of};
+ghost use Rattle.field_table.specs.Table.{FieldTable};
+ghost use Rattle.oid.specs.Oid.{count-of};
+ghost use Rattle.number_buffer.specs.Held.{NumberTable};
+ghost use Rattle.number_buffer.specs.Refusal.{is-holder, holds-oid, held-twice};
+use crate::kind::kind_of;
+use crate::run::same_oid;
+use definition::kind;
+use index::Judgement;
+use index::RecordIndex;
+use index::TokenIndex;
+
+// The number of the refusal.
+const HELD_TWICE: u8 = 15;
+
+// Whether a definition of this kind holds its OID.
+fn is_holder(kind: u8) -> bool
+    ensures { λ r. ⌜ r ≡ is-holder kind ⌝ }
+{
+    kind == kind::IDENTITY
+        || (kind == kind::OBJECT_IDENTITY || (kind == kind::OBJECT || kind == kind::NOTIFICATION))
+}
+
+// Whether definition j holds the OID of definition k.
+fn holds_oid(
+    text: &[u8],
+    fields: &[usize; 8192],
+    firsts: &[usize; 513],
+    numbers: &[u32],
+    k: RecordIndex,
+    j: RecordIndex,
+) -> bool
+    requires fields { ⌜ FieldTable (classes-of (meanings-in (now text))) (now fields) (count-of (meanings-in (now text))) ⌝ }
+    requires numbers { ⌜ NumberTable (meanings-in (now text)) (now firsts) (now numbers) (count-of (meanings-in (now text))) ⌝ }
+    requires later { ⌜ k .0 < count-of (meanings-in (now text)) ⌝ }
+    requires earlier { ⌜ j .0 < count-of (meanings-in (now text)) ⌝ }
+    ensures { λ r. ⌜ r ≡ holds-oid (meanings-in (now (text .entry))) (k .0) (j .0) ⌝ }
+{
+    if !is_holder(kind_of(fields, j)) {
+        return false;
+    }
+    same_oid(firsts, numbers, j, k)
+}
+
+// Whether some definition before definition k holds its OID.
+fn is_held_before(
+    text: &[u8],
+    fields: &[usize; 8192],
+    firsts: &[usize; 513],
+    numbers: &[u32],
+    k: RecordIndex,
+) -> bool
+    requires fields { ⌜ FieldTable (classes-of (meanings-in (now text))) (now fields) (count-of (meanings-in (now text))) ⌝ }
+    requires numbers { ⌜ NumberTable (meanings-in (now text)) (now firsts) (now numbers) (count-of (meanings-in (now text))) ⌝ }
+    requires index { ⌜ k .0 < count-of (meanings-in (now text)) ⌝ }
+    ensures { λ r. ⌜ r ≡ any (holds-oid (meanings-in (now (text .entry))) (k .0)) 0 (k .0) ⌝ }
+{
+    let end = k.0;
+    let mut j = 0;
+    while j < end {
+        if holds_oid(text, fields, firsts, numbers, k, RecordIndex(j)) {
+            return true;
+        }
+        j += 1;
+    }
+    false
+}
+
+// Whether definition k holds an OID that an earlier one holds already.
+fn is_held_twice(
+    text: &[u8],
+    fields: &[usize; 8192],
+    firsts: &[usize; 513],
+    numbers: &[u32],
+    k: RecordIndex,
+) -> bool
+    requires fields { ⌜ FieldTable (classes-of (meanings-in (now text))) (now fields) (count-of (meanings-in (now text))) ⌝ }
+    requires numbers { ⌜ NumberTable (meanings-in (now text)) (now firsts) (now numbers) (count-of (meanings-in (now text))) ⌝ }
+    requires index { ⌜ k .0 < count-of (meanings-in (now text)) ⌝ }
+    ensures { λ r. ⌜ r ≡ held-twice (meanings-in (now (text .entry))) .breach (k .0) ⌝ }
+{
+    if !is_holder(kind_of(fields, k)) {
+        return false;
+    }
+    is_held_before(text, fields, firsts, numbers, k)
+}
+
+// The token that an entry of the list of definitions stands for.
+fn token_of(entry: u32) -> TokenIndex
+    ensures { λ r. ⌜ r .0 ≡ entry ⌝ }
+{
+    TokenIndex(entry as usize)
+}
+
+// What the rule says of the c definitions.
+pub fn judge_twins(
+    text: &[u8],
+    defined: &[u32; 512],
+    c: usize,
+    fields: &[usize; 8192],
+    firsts: &[usize; 513],
+    numbers: &[u32],
+) -> Judgement
+    requires list { ⌜ Listed (definitions (classes-of (meanings-in (now text)))) (now defined) c ⌝ }
+    requires fields { ⌜ FieldTable (classes-of (meanings-in (now text))) (now fields) c ⌝ }
+    requires numbers { ⌜ NumberTable (meanings-in (now text)) (now firsts) (now numbers) c ⌝ }
+    ensures { λ r. ⌜ r ≡ judge-one (held-twice (meanings-in (now (text .entry)))) ⌝ }
+{
+    let mut k = 0;
+    while k < c {
+        if is_held_twice(text, fields, firsts, numbers, RecordIndex(k)) {
+            return Judgement::Broken(HELD_TWICE, token_of(defined[k]));
+        }
+        k += 1;
+    }
+    Judgement::Kept
+}
