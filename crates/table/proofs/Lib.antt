@@ -1,0 +1,4 @@
+pub mod Asking
+pub mod Chain
+pub mod Objects
+pub mod Filled

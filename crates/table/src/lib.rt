@@ -1,0 +1,9 @@
+// Tables, rows and columns: what belongs to what, and the arrays that hold it, a number for each definition.
+mod member;
+mod row;
+
+pub use member::is_column_of;
+pub use member::is_object;
+pub use member::is_row;
+pub use member::is_table;
+pub use row::collect_rows;
