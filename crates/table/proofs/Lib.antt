@@ -2,3 +2,4 @@ pub mod Asking
 pub mod Chain
 pub mod Objects
 pub mod Filled
+pub mod Types

@@ -39,19 +39,23 @@ definition-number (Import k) = 0
 definition-number (Definition d) = d .0 + 1
 definition-number Nothing = 0
 
--- what the type in the syntax of a table or a row leads to: a table's stands after OF. Nothing where the text ends before it
-unfoldable pub type-lead : List Meaning → Syntax → Lead
-type-lead ms (Integer r) = Nothing
-type-lead ms (Named t r) = lead-of ms (t .0)
-type-lead ms (Octets r) = Nothing
-type-lead ms ObjectIdentifier = Nothing
-type-lead ms (Bits r) = Nothing
-type-lead ms (SequenceOf t) = cond (ltb (t .0) (length ms)) (lead-of ms (t .0)) Nothing
+-- the token of the type in the syntax of a table or a row: a table's stands after OF. Any other syntax has none
+abbrev pub type-token : ℕ → Syntax → ℕ
+type-token none (Integer r) = none
+type-token none (Named t r) = t .0
+type-token none (Octets r) = none
+type-token none ObjectIdentifier = none
+type-token none (Bits r) = none
+type-token none (SequenceOf t) = t .0
+
+-- the number of the definition that the name at token i leads to; 0 where the text ends before it
+unfoldable pub number-at : List Meaning → ℕ → ℕ
+number-at ms i = cond (ltb i (length ms)) (definition-number (lead-of ms i)) 0
 
 -- the SEQUENCE type of a table or a row, by its number; 0 for what is neither
 unfoldable pub type-of : List Meaning → ℕ → ℕ
 type-of ms k =
-    cond (is-table ms k || is-row ms k) (definition-number (type-lead ms (syntax-of (classes-of ms) k))) 0
+    cond (is-table ms k || is-row ms k) (number-at ms (type-token (length ms) (syntax-of (classes-of ms) k))) 0
 
 -- the columns that the SEQUENCE type of a number names; none for 0
 abbrev pub columns-named : List Meaning → ℕ → Span

@@ -1,6 +1,6 @@
 // Which definitions are tables, rows and columns.
 ghost use mathlib.Core.Path.{_≡_};
-ghost use mathlib.Core.Bool.{_&&_};
+ghost use mathlib.Core.Bool.{_&&_, _||_};
 ghost use Prim.Native.Nat.{_<_};
 ghost use lib.Dec.{eqb};
 ghost use Rattle.token.specs.Cut.{meanings-in};
@@ -83,6 +83,26 @@ pub fn is_row(
     ensures { λ r. ⌜ r ≡ is-row (meanings-in (now (text .entry))) (k .0) ⌝ }
 {
     has_class(text, c, fields, classed, firsts, numbers, k, ROW)
+}
+
+// Whether it is a table or a row, which have a SEQUENCE type.
+pub fn has_type(
+    text: &[u8],
+    c: usize,
+    fields: &[usize; 8192],
+    classed: &[u8; 512],
+    firsts: &[usize; 513],
+    numbers: &[u32],
+    k: RecordIndex,
+) -> bool
+    requires objects { ⌜ ObjectTable (meanings-in (now text)) c (now fields) (now classed) (now firsts) (now numbers) ⌝ }
+    requires index { ⌜ k .0 < c ⌝ }
+    ensures { λ r. ⌜ r ≡ (is-table (meanings-in (now (text .entry))) (k .0) || is-row (meanings-in (now (text .entry))) (k .0)) ⌝ }
+{
+    if is_table(text, c, fields, classed, firsts, numbers, k) {
+        return true;
+    }
+    is_row(text, c, fields, classed, firsts, numbers, k)
 }
 
 // Whether definition k is a column of definition r: r is a row, k an object, and its OID the row's plus one number.
