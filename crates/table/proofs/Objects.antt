@@ -1,15 +1,18 @@
 -- What the arrays say of a definition: its kind, its class, its access, and where its OID stands.
 -- Assumes nothing.
-use mathlib.Core.Path.{_≡_, sym, ap, _∙_}
-use mathlib.Core.Bool.{Bool, true, false, _&&_}
+use mathlib.Core.Path.{_≡_, refl, ap, _∙_}
+use mathlib.Core.Bool.{Bool, true, false, cond}
 use mathlib.Core.List.{List}
 use Prim.Native.Nat.{ℕ, _<_}
 use native.Mathlib.Omega.{arith}
+use lib.Dec.{eqb}
 use lib.ListN.{getD}
 use Rattle.token.specs.Token.{Meaning}
+use Rattle.definition.specs.Fields.{fields-at}
+use Rattle.name.specs.Import.{classes-of}
 use Rattle.name.specs.Collect.{most-definitions}
 use Rattle.field_table.specs.Table.{word-in}
-use Rattle.field_table.proofs.Held.{kind-held, access-held}
+use Rattle.field_table.proofs.Held.{kind-held, access-held, default-held}
 use Rattle.oid.specs.Oid.{kind-of, oid-of}
 use Rattle.number_buffer.specs.Held.{held-at, RunInside}
 use Rattle.number_buffer.proofs.Held.{run-inside, oids-held}
@@ -30,6 +33,13 @@ module _ {ms : List Meaning} {c : ℕ} {fields classed firsts numbers : List ℕ
 
     pub access-said : word-in fields k 2 ≡ access-of ms k
     access-said = access-held _ _ _ (t .fields-held) k h
+
+    pub default-said : {r : ℕ} → r ≡ word-in fields k 3 → eqb r 1 ≡ fields-at (classes-of ms) k .«has_default»
+    default-said is = ap (λ (x : ℕ). eqb x 1) (is ∙ default-held _ _ _ (t .fields-held) k h) ∙ flag (fields-at (classes-of ms) k .«has_default»)
+      where
+        flag : (b : Bool) → eqb (cond b 1 0) 1 ≡ b
+        flag true = refl
+        flag false = refl
 
     pub inside : RunInside firsts numbers k
     inside = run-inside ms firsts numbers c (t .numbers-held) k h
