@@ -1,6 +1,6 @@
 -- Tests in a row: what the code has asked one after the other, r of each test, said of the tests joined by "and" or "or".
 -- Assumes nothing.
-use mathlib.Core.Path.{_≡_, refl, sym, _∙_}
+use mathlib.Core.Path.{_≡_, sym, _∙_}
 use mathlib.Core.Bool.{Bool, true, false, not, _&&_, _||_}
 use borrow.Author.Tests.{not-true, not-false}
 

@@ -2,7 +2,7 @@
 -- Assumes nothing.
 use mathlib.Core.Bool.{Bool, false, not, _&&_}
 use mathlib.Core.List.{List}
-use Prim.Native.Nat.{ℕ}
+use Prim.Native.Nat.{ℕ, _<_}
 use lib.Dec.{eqb}
 use Rattle.index.specs.First.{any}
 use Rattle.lexicon.specs.Word.{same}
@@ -30,10 +30,13 @@ leads-to-wanted ms wanted (Import k) = false
 leads-to-wanted ms wanted (Definition d) = is-wanted ms wanted (d .0)
 leads-to-wanted ms wanted Nothing = false
 
--- some name of a list leads to nothing that is wanted
+-- token i is a name that leads to nothing that is wanted
+unfoldable pub is-unwanted : List Meaning → Wanted → ℕ → Bool
+is-unwanted ms wanted i = is-name (classes-of ms) i && not (leads-to-wanted ms wanted (lead-of ms i))
+
+-- some name of a list does
 unfoldable pub some-unwanted : List Meaning → Wanted → Span → Bool
-some-unwanted ms wanted s =
-    any (λ (i : ℕ). is-name (classes-of ms) i && not (leads-to-wanted ms wanted (lead-of ms i))) (s .from) (s .to)
+some-unwanted ms wanted s = any (is-unwanted ms wanted) (s .from) (s .to)
 
 -- a name leads to definition k
 abbrev pub leads-there : ℕ → Lead → Bool
@@ -42,14 +45,32 @@ leads-there k (Import j) = false
 leads-there k (Definition d) = eqb (d .0) k
 leads-there k Nothing = false
 
--- definition k is listed: some name of a list leads to it
+-- token i is a name that does
+unfoldable pub is-name-of : List Meaning → ℕ → ℕ → Bool
+is-name-of ms k i = is-name (classes-of ms) i && leads-there k (lead-of ms i)
+
+-- a list lists definition k: some name of it leads there
 unfoldable pub lists : List Meaning → Span → ℕ → Bool
-lists ms s k = any (λ (i : ℕ). is-name (classes-of ms) i && leads-there k (lead-of ms i)) (s .from) (s .to)
+lists ms s k = any (is-name-of ms k) (s .from) (s .to)
 
--- token i is a name of the list that stands there before, too
-abbrev pub is-repeated : List Meaning → Span → ℕ → Bool
-is-repeated ms s i = any (λ (j : ℕ). is-name (classes-of ms) j && same (spelled ms j) (spelled ms i)) (s .from) i
+-- token j is a name, spelled as token i
+unfoldable pub is-same-name : List Meaning → ℕ → ℕ → Bool
+is-same-name ms i j = is-name (classes-of ms) j && same (spelled ms j) (spelled ms i)
 
--- the names of a list differ not
+-- one of the tokens from `from` on, before token i, is
+unfoldable pub stands-before : List Meaning → ℕ → ℕ → Bool
+stands-before ms from i = any (is-same-name ms i) from i
+
+-- token i is a name that stands there before, too
+unfoldable pub is-repeated : List Meaning → ℕ → ℕ → Bool
+is-repeated ms from i = is-name (classes-of ms) i && stands-before ms from i
+
+-- a list names something twice
 unfoldable pub repeats : List Meaning → Span → Bool
-repeats ms s = any (λ (i : ℕ). is-name (classes-of ms) i && is-repeated ms s i) (s .from) (s .to)
+repeats ms s = any (is-repeated ms (s .from)) (s .from) (s .to)
+
+-- a row that columns are wanted of is one of the first c definitions
+abbrev pub WantedInside : ℕ → Wanted → Type 0
+WantedInside c (ColumnOf r) = r .0 < c
+WantedInside c IndexedRow = Unit {0}
+WantedInside c Visible = Unit {0}

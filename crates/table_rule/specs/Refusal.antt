@@ -7,7 +7,6 @@ use Prim.Native.Nat.{ℕ, suc}
 use lib.Dec.{ltb, eqb}
 use Rattle.index.specs.First.{first, any}
 use Rattle.index.specs.Rule.{Rule}
-use Rattle.index.specs.declared.RecordIndex.{RecordIndex}
 use Rattle.token.specs.Token.{Meaning}
 use Rattle.definition.specs.Fields.{fields-at}
 use Rattle.name.specs.Import.{classes-of}

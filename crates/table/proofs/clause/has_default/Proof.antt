@@ -1,6 +1,5 @@
 -- `has_default` is right because the field table has 1 for a definition with DEFVAL, and else 0.
 -- Assumes nothing.
-use mathlib.Core.Path.{_∙_}
 use Rattle.table.proofs.Objects.{default-said}
 use borrow.Author.Needs.{needs}
 use Rattle.table.proofs.clause.has_default.Statement.{statement}

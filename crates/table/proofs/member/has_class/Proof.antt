@@ -6,7 +6,7 @@ use lib.Dec.{eqb}
 use Rattle.token.specs.Cut.{meanings-in}
 use Rattle.table.specs.Member.{is-object}
 use Rattle.table.proofs.Chain.{and-refused, and-passed}
-use Rattle.table.proofs.Objects.{small, class-said}
+use Rattle.table.proofs.Objects.{class-said}
 use borrow.Author.Needs.{needs}
 use Rattle.table.proofs.member.has_class.Statement.{statement}
 use Rattle.table.proofs.member.has_class.Tie as tie

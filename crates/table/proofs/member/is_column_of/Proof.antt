@@ -6,7 +6,6 @@ use Rattle.number_list.specs.Run.{is-below}
 use Rattle.table.specs.Member.{is-object, is-row, is-column-of}
 use Rattle.table.proofs.Chain.{and-refused, and-passed}
 use Rattle.table.proofs.Objects.{inside, oids-said}
-use borrow.Author.Needs.{needs}
 use Rattle.table.proofs.member.is_column_of.Statement.{statement}
 use Rattle.table.proofs.member.is_column_of.Tie as tie
 

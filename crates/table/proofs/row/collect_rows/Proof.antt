@@ -3,7 +3,7 @@
 use Prim.Native.Nat.{_-_}
 use native.Mathlib.Omega.{arith}
 use Rattle.token.specs.Cut.{meanings-in}
-use Rattle.table.specs.Held.{row-of, RowTable}
+use Rattle.table.specs.Held.{row-of}
 use Rattle.table.proofs.Filled.{Filled, filled-start, filled-next}
 use Rattle.table.proofs.row.collect_rows.Statement.{statement}
 use Rattle.table.proofs.row.collect_rows.Tie as tie
