@@ -6,7 +6,7 @@ use Prim.Native.Nat.{ℕ, suc, _+_, _-_, _≤_, _<_}
 use native.Mathlib.Numerals.{add-one}
 use native.Mathlib.Omega.{arith}
 use lib.ListN.{length, getD, List·getD-eq-default}
-use Rattle.index.specs.First.{first, Listed}
+use Rattle.index.specs.First.{Listed}
 use Rattle.index.proofs.Hits.{hit-inside, next-hit, inside-same}
 use Rattle.definition.specs.Landmark.{begins, last, definitions, definition-end}
 use Rattle.definition.specs.Fields.{fields-of, fields-at}

@@ -5,10 +5,9 @@ use mathlib.Core.Bool.{cond}
 use mathlib.Core.List.{List}
 use Prim.Native.Nat.{ℕ, _+_, _<_}
 use lib.Dec.{lit<}
-use lib.ListN.{getD}
 use Rattle.definition.specs.Fields.{fields-at}
 use Rattle.definition.specs.declared.Span.{Span}
-use Rattle.field_table.specs.Table.{words, width, word-in, span-in, FieldTable}
+use Rattle.field_table.specs.Table.{words, word-in, span-in, FieldTable}
 
 module _ (cs table : List ℕ) (c : ℕ) (t : FieldTable cs table c) (k : ℕ) (h : k < c) where
   pub kind-held : word-in table k 0 ≡ fields-at cs k .kind

@@ -1,9 +1,8 @@
 -- What the tables of a module hold, said of what its tokens say.
 -- Assumes nothing.
-use mathlib.Core.Path.{_≡_, sym, ap, subst, _∙_}
+use mathlib.Core.Path.{_≡_, subst, _∙_}
 use mathlib.Core.List.{List}
 use Prim.Native.Nat.{ℕ, _+_, _-_, _≤_, _<_}
-use native.Mathlib.Numerals.{add-one}
 use native.Mathlib.Omega.{arith}
 use lib.ListN.{length, getD, take, length-map}
 use Rattle.index.proofs.Search.{first-inside}
@@ -12,8 +11,7 @@ use Rattle.token.specs.Token.{Tok, Meaning}
 use Rattle.token.specs.Cut.{cut, meanings-in}
 use Rattle.definition.specs.Landmark.{begins, last, definitions, definition-end}
 use Rattle.definition.specs.Fields.{fields-of, fields-at}
-use Rattle.definition.specs.declared.Span.{Span}
-use Rattle.definition.proofs.Inside.{Inside, syntax-inside, braced-inside, columns-inside, oid-inside}
+use Rattle.definition.proofs.Inside.{syntax-inside, oid-inside}
 use Rattle.name.specs.Import.{classes-of}
 use Rattle.name.specs.Collect.{NameTable}
 use Rattle.name.proofs.Names as name-laws

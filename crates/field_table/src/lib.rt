@@ -2,7 +2,7 @@
 ghost use mathlib.Core.Path.{_≡_};
 ghost use mathlib.Core.Bool.{cond};
 ghost use Prim.Native.Nat.{_+_, _≤_, _<_};
-ghost use lib.ListN.{length, getD, take};
+ghost use lib.ListN.{length, take};
 ghost use Rattle.index.specs.First.{Listed};
 ghost use Rattle.token.specs.Table.{longest-text};
 ghost use Rattle.definition.specs.Landmark.{definitions};

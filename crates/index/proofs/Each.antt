@@ -1,11 +1,11 @@
 -- A rule for each index in a row: the loop that asks them one after the other; and rows of rules one after the other.
 -- Assumes nothing.
-use mathlib.Core.Path.{_≡_, refl, sym, _∙_}
+use mathlib.Core.Path.{_≡_, sym, _∙_}
 use mathlib.Core.List.{List, [], _∷_, _++_}
-use Prim.Native.Nat.{ℕ, zero, suc, _+_, _-_, _≤_, _<_}
+use Prim.Native.Nat.{ℕ, suc, _+_, _-_, _≤_, _<_}
 use native.Mathlib.Numerals.{add-one}
 use native.Mathlib.Omega.{arith}
-use Rattle.index.specs.Rule.{Rule, and-then, judge-one, judge, each-of, each}
+use Rattle.index.specs.Rule.{Rule, judge-one, judge, each-of, each}
 use Rattle.index.specs.declared.TokenIndex.{TokenIndex}
 use Rattle.index.specs.declared.Judgement.{Judgement}
 use Rattle.index.specs.declared.Judgement.the-variants.{Kept, Broken}

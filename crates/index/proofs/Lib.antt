@@ -3,7 +3,7 @@ pub mod Search
 pub mod Hits
 pub mod Collected
 pub mod Judged
-pub mod Pigeonhole
-pub mod Walk
 pub mod Step
 pub mod Each
+pub mod Pigeonhole
+pub mod Walk

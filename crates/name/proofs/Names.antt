@@ -1,13 +1,13 @@
 -- What the arrays of names hold, said of what the tokens say; and the look-up in them.
 -- Assumes nothing.
-use mathlib.Core.Path.{_≡_, sym, ap, subst, _∙_}
+use mathlib.Core.Path.{_≡_, refl, sym, ap, subst, _∙_}
 use mathlib.Core.Bool.{Bool, true, false, cond}
 use mathlib.Core.List.{List}
 use Prim.Native.Nat.{ℕ, _-_, _≤_, _<_}
 use native.Mathlib.Decide.{decLt}
 use native.Mathlib.Omega.{arith}
 use lib.Dec.{eqb, ltb}
-use borrow.Author.Tests.{lt-ltb, le-ltb}
+use borrow.Author.Tests.{ltb-true, lt-ltb, le-ltb}
 use lib.ListN.{length, getD, take, length-map, List·getD-map}
 use lib.Seq.{length-take-le, getD-take, ext-getD}
 use Rattle.terminal.specs.Terminal.{semicolon, IMPORTS}
@@ -24,8 +24,8 @@ use Rattle.definition.specs.Fields.{find}
 use Rattle.name.specs.Import.{classes-of, spelled, imports-start, imports-end, is-symbol, imports}
 use Rattle.name.specs.Collect.{NameTable, TokensIn}
 use Rattle.symbol.specs.Symbol.{iso-name, symbol-of}
-use Rattle.name.specs.Lead.{named, leads-to}
-use Rattle.name.specs.declared.Lead.the-variants.{Import, Definition, Nothing}
+use Rattle.name.specs.Lead.{named, leads-to, Inside}
+use Rattle.name.specs.declared.Lead.the-variants.{Iso, Import, Definition, Nothing}
 
 -- the classes in a table are those of what its tokens say
 module _ (text : List ℕ) (ts : List Tok) (classes starts ends : List ℕ) (n : ℕ) (t : TokenTable text ts classes starts ends n) where
@@ -141,3 +141,17 @@ module _
       unfolding leads-to
       lead-nothing h =
           simp (other, no-import, le-ltb (named ms (definitions (classes-of ms)) s) (length (definitions (classes-of ms))) (omega (arith, in-definitions, names .definition-list .counted)))
+
+-- a name that leads to a definition leads to one of the module's
+pub leads-inside : (ms : List Meaning) (s : List ℕ) → Inside (length (definitions (classes-of ms))) (leads-to ms s)
+unfolding leads-to
+leads-inside ms s =
+    go (same s iso-name) (ltb (named ms (imports (classes-of ms)) s) (length (imports (classes-of ms))))
+    (ltb (named ms (definitions (classes-of ms)) s) (length (definitions (classes-of ms)))) refl
+  where
+    go : (a b c : Bool) → ltb (named ms (definitions (classes-of ms)) s) (length (definitions (classes-of ms))) ≡ c
+        → Inside (length (definitions (classes-of ms))) (cond a Iso (cond b (Import (symbol-of s)) (cond c (Definition (record { 0 = named ms (definitions (classes-of ms)) s })) Nothing)))
+    go true b c t = tt
+    go false true c t = tt
+    go false false true t = ltb-true (named ms (definitions (classes-of ms)) s) (length (definitions (classes-of ms))) t
+    go false false false t = tt

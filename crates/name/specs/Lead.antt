@@ -2,7 +2,7 @@
 -- Assumes nothing.
 use mathlib.Core.Bool.{cond}
 use mathlib.Core.List.{List}
-use Prim.Native.Nat.{ℕ}
+use Prim.Native.Nat.{ℕ, _<_}
 use lib.Dec.{ltb}
 use lib.ListN.{length, getD}
 use Rattle.index.specs.First.{first}
@@ -26,3 +26,10 @@ leads-to ms s =
     (cond (ltb (named ms (imports (classes-of ms)) s) (length (imports (classes-of ms)))) (Import (symbol-of s))
     (cond (ltb (named ms (definitions (classes-of ms)) s) (length (definitions (classes-of ms))))
     (Definition (record { 0 = named ms (definitions (classes-of ms)) s })) Nothing))
+
+-- a lead to a definition leads to one of the first c
+abbrev pub Inside : ℕ → Lead → Type 0
+Inside c Iso = Unit {0}
+Inside c (Import k) = Unit {0}
+Inside c (Definition d) = d .0 < c
+Inside c Nothing = Unit {0}

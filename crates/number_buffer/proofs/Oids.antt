@@ -1,47 +1,18 @@
 -- The OIDs of definitions, one after the other.
 -- Assumes nothing.
 use mathlib.Core.Path.{_≡_, refl, _∙_}
-use mathlib.Core.Bool.{Bool, true, false, cond}
+use mathlib.Core.Bool.{true, false}
 use mathlib.Core.List.{List, [], _++_}
 use Prim.Native.Nat.{ℕ, zero, suc, _+_, _≤_, _<_}
 use native.Mathlib.Decide.{decLt}
 use native.Mathlib.Numerals.{add-one}
 use native.Mathlib.Omega.{arith}
-use lib.Dec.{eqb}
-use lib.ListN.{length, getD, take, length-append}
+use lib.ListN.{length, take, length-append}
 use lib.Seq.{take-append-le, take-length}
-use Rattle.terminal.specs.Terminal.{MODULE-IDENTITY, NOTIFICATION-TYPE, OBJECT, OBJECT-IDENTITY, OBJECT-TYPE, TEXTUAL-CONVENTION}
 use Rattle.token.specs.Token.{Meaning}
-use Rattle.definition.specs.Landmark.{class-at, definitions, has-oid, identity, plain, object-identity, object, convention, sequence-type, notification, kind-at}
-use Rattle.definition.specs.Fields.{fields-of, fields-at}
-use Rattle.field_table.specs.Table.{word-in, FieldTable}
-use Rattle.field_table.proofs.Held.{kind-held}
-use Rattle.oid.specs.Oid.{head-of, parts-of, count-of, definition-numbers, kind-of, oid-of, numbers-before}
-
--- the last of the kinds is `notification`
-seven : (a b c d e f : Bool)
-    → cond a identity (cond b plain (cond c object-identity (cond d object (cond e notification (cond f convention sequence-type))))) ≤ notification
-seven true b c d e f = omega arith
-seven false true c d e f = omega arith
-seven false false true d e f = omega arith
-seven false false false true e f = omega arith
-seven false false false false true f = omega arith
-seven false false false false false true = omega arith
-seven false false false false false false = omega arith
-
-kind-last : (cs : List ℕ) (k : ℕ) → fields-at cs k .kind ≤ notification
-unfolding fields-at fields-of kind-at
-kind-last cs k =
-    let d = getD (definitions cs) k 0 in
-    seven (is (d + 1) MODULE-IDENTITY) (is (d + 1) OBJECT) (is (d + 1) OBJECT-IDENTITY) (is (d + 1) OBJECT-TYPE) (is (d + 1) NOTIFICATION-TYPE)
-    (is (d + 2) TEXTUAL-CONVENTION)
-  where
-    is : ℕ → ℕ → Bool
-    is i class = eqb (class-at cs i) class
-
--- and so is the word that the table has for it
-pub kind-word : (cs table : List ℕ) (c : ℕ) → FieldTable cs table c → (k : ℕ) → k < c → word-in table k 0 ≤ notification
-kind-word cs table c t k h = omega (arith, kind-held cs table c t k h, kind-last cs k)
+use Rattle.definition.specs.Landmark.{has-oid}
+use Rattle.oid.specs.Oid.{count-of, kind-of, oid-of, numbers-before}
+use Rattle.number_buffer.specs.Writing.{numbers-of-definition}
 
 module _ (ms : List Meaning) where
   -- the OID of a definition, by its kind
@@ -49,7 +20,7 @@ module _ (ms : List Meaning) where
   unfolding oid-of
   no-oid k e = simp e
 
-  pub its-oid : (k c : ℕ) → has-oid (kind-of ms k) ≡ true → c ≡ count-of ms → oid-of ms k ≡ definition-numbers (head-of ms) (parts-of ms) c k
+  pub its-oid : (k c : ℕ) → has-oid (kind-of ms k) ≡ true → c ≡ count-of ms → oid-of ms k ≡ numbers-of-definition ms c k
   unfolding oid-of
   its-oid k c e all = simp (e, all)
 

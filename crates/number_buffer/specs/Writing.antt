@@ -2,7 +2,7 @@
 -- Assumes nothing.
 use mathlib.Core.Path.{_≡_}
 use mathlib.Core.List.{List}
-use Prim.Native.Nat.{ℕ, _≤_, _<_}
+use Prim.Native.Nat.{ℕ, _≤_}
 use lib.ListN.{length}
 use Rattle.token.specs.Token.{Meaning}
 use Rattle.token.specs.Cut.{cut, meanings-in}
@@ -10,7 +10,6 @@ use Rattle.token.specs.Table.{TokenTable, overlaid}
 use Rattle.name.specs.Import.{classes-of}
 use Rattle.name.specs.Collect.{most-definitions}
 use Rattle.name.specs.declared.Lead.{Lead}
-use Rattle.name.specs.declared.Lead.the-variants.{Iso, Import, Definition, Nothing}
 use Rattle.field_table.specs.Table.{FieldTable}
 use Rattle.oid.specs.Oid.{head-of, parts-of, count-of, name-numbers, definition-numbers}
 use Rattle.oid.specs.Heads.{HeadTable}
@@ -33,10 +32,3 @@ pub record Sources (text classes starts ends : List ℕ) (n : ℕ) (fields heads
   pub few : count-of (meanings-in text) ≤ most-definitions
   pub fields-held : FieldTable (classes-of (meanings-in text)) fields (count-of (meanings-in text))
   pub heads-held : HeadTable (meanings-in text) heads (count-of (meanings-in text))
-
--- a name that leads to a definition leads to one of the module's
-abbrev pub LeadsInside : List Meaning → Lead → Type 0
-LeadsInside ms Iso = Unit {0}
-LeadsInside ms (Import k) = Unit {0}
-LeadsInside ms (Definition d) = d .0 < count-of ms
-LeadsInside ms Nothing = Unit {0}

@@ -1,5 +1,4 @@
 // The numbers of built-in names, written to the start of what is left of the number buffer.
-ghost use mathlib.Core.Path.{_≡_};
 ghost use Prim.Native.Nat.{_≤_};
 ghost use lib.ListN.{length};
 ghost use Rattle.symbol.specs.Symbol.{iso-oid, numbers-of};

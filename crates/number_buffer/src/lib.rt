@@ -1,7 +1,6 @@
 // The number buffer, which holds the sub-identifiers of all definitions: each definition's fill the next free words. And the OIDs
 // that it holds, compared.
 mod built_in;
-mod kind;
 mod part;
 mod run;
 mod twin;

@@ -10,7 +10,6 @@ ghost use Rattle.field_table.specs.Table.{FieldTable};
 ghost use Rattle.oid.specs.Oid.{count-of};
 ghost use Rattle.number_buffer.specs.Held.{NumberTable};
 ghost use Rattle.number_buffer.specs.Refusal.{is-holder, holds-oid, held-twice};
-use crate::kind::kind_of;
 use crate::run::same_oid;
 use definition::kind;
 use index::Judgement;
@@ -21,11 +20,12 @@ use index::TokenIndex;
 const HELD_TWICE: u8 = 15;
 
 // Whether a definition of this kind holds its OID.
-fn is_holder(kind: u8) -> bool
+fn is_holder(kind: usize) -> bool
     ensures { λ r. ⌜ r ≡ is-holder kind ⌝ }
 {
-    kind == kind::IDENTITY
-        || (kind == kind::OBJECT_IDENTITY || (kind == kind::OBJECT || kind == kind::NOTIFICATION))
+    kind == kind::IDENTITY as usize
+        || (kind == kind::OBJECT_IDENTITY as usize
+            || (kind == kind::OBJECT as usize || kind == kind::NOTIFICATION as usize))
 }
 
 // Whether definition j holds the OID of definition k.
@@ -43,7 +43,7 @@ fn holds_oid(
     requires earlier { ⌜ j .0 < count-of (meanings-in (now text)) ⌝ }
     ensures { λ r. ⌜ r ≡ holds-oid (meanings-in (now (text .entry))) (k .0) (j .0) ⌝ }
 {
-    if !is_holder(kind_of(fields, j)) {
+    if !is_holder(field_table::kind(fields, j)) {
         return false;
     }
     same_oid(firsts, numbers, j, k)
@@ -86,7 +86,7 @@ fn is_held_twice(
     requires index { ⌜ k .0 < count-of (meanings-in (now text)) ⌝ }
     ensures { λ r. ⌜ r ≡ held-twice (meanings-in (now (text .entry))) .breach (k .0) ⌝ }
 {
-    if !is_holder(kind_of(fields, k)) {
+    if !is_holder(field_table::kind(fields, k)) {
         return false;
     }
     is_held_before(text, fields, firsts, numbers, k)

@@ -5,11 +5,11 @@ ghost use mathlib.Core.Path.{_≡_};
 ghost use Prim.Native.Nat.{_≤_, _<_};
 ghost use lib.ListN.{length};
 ghost use Rattle.token.specs.Cut.{meanings-in};
+ghost use Rattle.name.specs.Lead.{Inside};
 ghost use Rattle.oid.specs.Oid.{count-of, oid-of, numbers-before};
-ghost use Rattle.number_buffer.specs.Writing.{numbers-of-definition, numbers-of-name, Written, Sources, LeadsInside};
+ghost use Rattle.number_buffer.specs.Writing.{numbers-of-definition, numbers-of-name, Written, Sources};
 use crate::built_in::write_iso;
 use crate::built_in::write_symbol;
-use crate::kind::kind_of;
 use crate::part::write_parts;
 use definition::has_oid;
 use index::RecordIndex;
@@ -29,7 +29,7 @@ fn write_name(
     left: usize,
 ) -> usize
     requires sources { ⌜ Sources (now text) (now classes) (now starts) (now ends) n (now fields) (now heads) ⌝ }
-    requires inside { ⌜ LeadsInside (meanings-in (now text)) lead ⌝ }
+    requires inside { ⌜ Inside (count-of (meanings-in (now text))) lead ⌝ }
     requires room { ⌜ length (numbers-of-name (meanings-in (now text)) left lead) ≤ length (now numbers) ⌝ }
     ensures { λ r. ⌜ Written (numbers-of-name (meanings-in (now (text .entry))) left lead) r (now (numbers .entry)) (now (numbers .exit)) ⌝ }
 {
@@ -111,7 +111,7 @@ fn write_oid(
     requires room { ⌜ length (oid-of (meanings-in (now text)) (k .0)) ≤ length (now numbers) ⌝ }
     ensures { λ r. ⌜ Written (oid-of (meanings-in (now (text .entry))) (k .0)) r (now (numbers .entry)) (now (numbers .exit)) ⌝ }
 {
-    if !has_oid(kind_of(fields, k)) {
+    if !has_oid(field_table::kind(fields, k)) {
         return 0;
     }
     write_definition(text, classes, starts, ends, n, fields, heads, numbers, k, c)

@@ -1,16 +1,14 @@
 -- The tables of heads and of parts: their words, and how they are filled.
 -- Assumes nothing.
-use mathlib.Core.Path.{_≡_, refl, sym, ap, subst, _∙_}
+use mathlib.Core.Path.{_≡_, refl, sym, ap, _∙_}
 use mathlib.Core.Bool.{Bool, true, false, cond}
 use mathlib.Core.List.{List, []}
 use Prim.Native.Nat.{ℕ, _+_, _-_, _≤_, _<_}
-use native.Mathlib.Decide.{decLt}
 use native.Mathlib.Omega.{arith}
 use borrow.Author.Tests.{ltb-true, lt-ltb, le-ltb, ne-eqb}
 use lib.Dec.{ltb, eqb}
 use lib.IntN.{natAbs}
-use lib.ListN.{length, getD, set, take, length-set, length-map}
-use lib.Seq.{getD-set-same, getD-set-other}
+use lib.ListN.{length, getD, set, length-set, length-map}
 use Rattle.index.specs.declared.RecordIndex.{RecordIndex}
 use Rattle.index.proofs.Search.{first-inside}
 use Rattle.index.proofs.Hits.{hits-few}
@@ -30,10 +28,10 @@ use Rattle.name.specs.Lead.{named, leads-to}
 use Rattle.name.specs.Collect.{most-definitions}
 use Rattle.name.specs.declared.Lead.{Lead}
 use Rattle.name.specs.declared.Lead.the-variants.{Iso, Import, Definition, Nothing}
-use Rattle.oid.specs.Oid.{head-token, head-of, parts-of, values, count-of}
-use Rattle.oid.specs.Heads.{lead-in, head-in, Small, Inside, Closed, HeadTable, PartTable}
+use Rattle.oid.specs.Oid.{head-token, head-of, parts-of, count-of}
+use Rattle.oid.specs.Heads.{lead-in, Small, Closed, HeadTable, PartTable}
 use Rattle.field_table.proofs.Said.{oid-span-inside}
-use Rattle.oid.proofs.Meaning.{head-in-module}
+use Rattle.oid.proofs.Meaning.{head-inside}
 
 -- ---- the words
 
@@ -134,10 +132,7 @@ parts-few ms d h short =
 -- ---- the heads of a module's definitions lead to no others
 
 pub heads-closed : (ms : List Meaning) (heads : List ℕ) (c : ℕ) → HeadTable ms heads c → count-of ms ≡ c → Closed heads c
-heads-closed ms heads c t count = record { room = t .long; inside = λ d h. go d (head-in heads d) (t .entry d h) }
-  where
-    go : (d : ℕ) (l : Lead) → l ≡ head-of ms d → Inside c l
-    go d Iso is = tt
-    go d (Import k) is = tt
-    go d (Definition r) is = omega (arith, head-in-module ms d r (sym is))
-    go d Nothing is = tt
+heads-closed ms heads c t count = record {
+  room = t .long;
+  inside = λ d h. rw (t .entry d h, ← count) (head-inside ms d);
+}

@@ -1,28 +1,28 @@
 -- How many numbers OIDs have: as many as the tables say, and never too many to count.
 -- Assumes nothing.
-use mathlib.Core.Path.{_≡_, refl, sym, ap, subst, _∙_}
+use mathlib.Core.Path.{_≡_, refl, sym, ap, _∙_}
 use mathlib.Core.Bool.{Bool, true, false, cond}
-use mathlib.Core.List.{List, [], _++_}
+use mathlib.Core.List.{List, []}
 use Prim.Native.Nat.{ℕ, zero, suc, _+_, _-_, _*_, _≤_, _<_}
 use native.Mathlib.Decide.{decLt}
 use native.Mathlib.Numerals.{add-one}
 use native.Mathlib.Omega.{arith}
-use lib.Dec.{T, leb, ltb}
+use lib.Dec.{T, leb}
 use borrow.Author.Tests.{leb-true}
 use lib.Seq.{getD-set-same, getD-set-other}
 use lib.ListN.{length, getD, set, length-set, length-append, List·getD-eq-default}
-use Rattle.index.specs.declared.RecordIndex.{RecordIndex}
 use Rattle.index.proofs.Tested.{passes, tested}
 use Rattle.token.specs.Token.{Meaning}
 use Rattle.token.specs.Table.{longest-text}
-use Rattle.symbol.specs.Symbol.{What, Symbol, symbols, symbol, of-smi, of-tc, below-internet, internet, no-symbol, what-is, numbers, numbers-of, iso-oid, symbol-count}
+use Rattle.symbol.specs.Symbol.{Symbol, symbols, symbol, of-smi, of-tc, below-internet, internet, no-symbol, what-is, numbers, numbers-of, iso-oid, symbol-count}
 use Rattle.definition.specs.Landmark.{has-oid}
 use Rattle.name.specs.Collect.{most-definitions}
+use Rattle.name.specs.Lead.{Inside}
 use Rattle.name.specs.declared.Lead.{Lead}
 use Rattle.name.specs.declared.Lead.the-variants.{Iso, Import, Definition, Nothing}
 use Rattle.oid.specs.Oid.{head-of, parts-of, count-of, kind-of, name-numbers, definition-numbers, oid-of, numbers-before, first-number}
 use Rattle.oid.specs.Length.{name-length, definition-length}
-use Rattle.oid.specs.Heads.{head-in, parts-in, Inside, Closed, FewParts, HeadTable, PartTable}
+use Rattle.oid.specs.Heads.{head-in, parts-in, Closed, FewParts, HeadTable, PartTable}
 use Rattle.oid.specs.Runs.{RunTable}
 use Rattle.oid.proofs.HeadLaws.{heads-closed}
 

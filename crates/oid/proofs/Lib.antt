@@ -1,5 +1,7 @@
 pub mod Meaning
 pub mod HeadLaws
 pub mod Reaching
+pub mod Unreached
 pub mod Placed
 pub mod Lengths
+pub mod Runs

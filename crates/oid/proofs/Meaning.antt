@@ -6,19 +6,17 @@ use mathlib.Core.Bool.{Bool, true, false, cond}
 use mathlib.Core.List.{List, _++_}
 use Prim.Native.Nat.{ℕ, zero, suc, _+_, _≤_, _<_}
 use native.Mathlib.Omega.{arith}
-use borrow.Author.Tests.{ltb-true}
 use lib.Dec.{ltb}
 use lib.ListN.{length}
 use Rattle.index.specs.Walk.{after}
 use Rattle.index.specs.declared.RecordIndex.{RecordIndex}
-use Rattle.index.proofs.Search.{true-false, answers}
+use Rattle.index.proofs.Search.{true-false}
 use Rattle.index.proofs.Walk.{after-first, ends-in-time, one-rest}
-use Rattle.lexicon.specs.Word.{same}
 use Rattle.token.specs.Token.{Meaning}
-use Rattle.symbol.specs.Symbol.{iso-name, symbol-of}
-use Rattle.definition.specs.Landmark.{definitions, has-oid}
-use Rattle.name.specs.Import.{classes-of, spelled, imports}
-use Rattle.name.specs.Lead.{named, leads-to}
+use Rattle.definition.specs.Landmark.{has-oid}
+use Rattle.name.specs.Import.{spelled}
+use Rattle.name.specs.Lead.{leads-to, Inside}
+use Rattle.name.proofs.Names.{leads-inside}
 use Rattle.name.specs.declared.Lead.{Lead}
 use Rattle.name.specs.declared.Lead.the-variants.{Iso, Import, Definition, Nothing}
 use Rattle.oid.specs.Oid.{HasOid, of-iso, of-symbol, of-definition, head-token, head-of, parts-of, is-built-in, next-head, Reaches, count-of, reaches, name-numbers, definition-numbers, kind-of, oid-of}
@@ -108,19 +106,6 @@ module _ (ms : List Meaning) where
   index-of (Definition d) = d .0
   index-of Nothing = 0
 
-  -- a name that leads to a definition leads to one of the module's
-  pub lead-inside : (s : List ℕ) (d : RecordIndex) → leads-to ms s ≡ Definition d → d .0 < count-of ms
-  unfolding leads-to
-  lead-inside s d e =
-      go (same s iso-name) (ltb (named ms (imports (classes-of ms)) s) (length (imports (classes-of ms)))) (ltb (named ms (definitions (classes-of ms)) s) (count-of ms)) refl e
-    where
-      go : (a b c : Bool) → ltb (named ms (definitions (classes-of ms)) s) (count-of ms) ≡ c
-          → cond a Iso (cond b (Import (symbol-of s)) (cond c (Definition (record { 0 = named ms (definitions (classes-of ms)) s })) Nothing)) ≡ Definition d → d .0 < count-of ms
-      go true b c t q = let z : _≡_ {A = ℕ} 0 1 = cc in absurd (omega arith)
-      go false true c t q = let z : _≡_ {A = ℕ} 0 1 = cc in absurd (omega arith)
-      go false false true t q = omega (arith, ltb-true (named ms (definitions (classes-of ms)) s) (count-of ms) t, ap index-of q)
-      go false false false t q = let z : _≡_ {A = ℕ} 0 1 = cc in absurd (omega arith)
-
   sticky : (l : Lead) → stops l ≡ true → step l ≡ l
   sticky Iso e = refl
   sticky (Import k) e = refl
@@ -136,25 +121,25 @@ module _ (ms : List Meaning) where
   distinct (Definition d) (Import k) p q equal = absurd (true-false refl q)
   distinct (Definition d) Nothing p q equal = absurd (true-false refl q)
 
-  -- and so is what a head leads to
-  pub head-in-module : (d : ℕ) (r : RecordIndex) → head-of ms d ≡ Definition r → r .0 < count-of ms
+  -- what a head leads to is one of the module's definitions, where it is one
+  pub head-inside : (d : ℕ) → Inside (count-of ms) (head-of ms d)
   unfolding head-of
-  head-in-module d r is = go (ltb (head-token ms d) (length ms)) is
+  head-inside d = go (ltb (head-token ms d) (length ms))
     where
-      go : (b : Bool) → cond b (leads-to ms (spelled ms (head-token ms d))) Nothing ≡ Definition r → r .0 < count-of ms
-      go true e = lead-inside (spelled ms (head-token ms d)) r e
-      go false e = let z : _≡_ {A = ℕ} 0 1 = cc in absurd (omega arith)
+      go : (b : Bool) → Inside (count-of ms) (cond b (leads-to ms (spelled ms (head-token ms d))) Nothing)
+      go true = leads-inside ms (spelled ms (head-token ms d))
+      go false = tt
 
   step-inside : (l : Lead) → stops (step l) ≡ false → index-of (step l) < count-of ms
   step-inside Iso e = absurd (true-false refl e)
   step-inside (Import k) e = absurd (true-false refl e)
-  step-inside (Definition d) e = of-lead (head-of ms (d .0)) refl e
+  step-inside (Definition d) e = of-lead (head-of ms (d .0)) (head-inside (d .0)) e
     where
-      of-lead : (l : Lead) → head-of ms (d .0) ≡ l → stops l ≡ false → index-of l < count-of ms
-      of-lead (Definition r) is e = head-in-module (d .0) r is
-      of-lead Iso is e = absurd (true-false refl e)
-      of-lead (Import k) is e = absurd (true-false refl e)
-      of-lead Nothing is e = absurd (true-false refl e)
+      of-lead : (l : Lead) → Inside (count-of ms) l → stops l ≡ false → index-of l < count-of ms
+      of-lead (Definition r) inside e = inside
+      of-lead Iso inside e = absurd (true-false refl e)
+      of-lead (Import k) inside e = absurd (true-false refl e)
+      of-lead Nothing inside e = absurd (true-false refl e)
   step-inside Nothing e = absurd (true-false refl e)
 
   module _ (d : ℕ) (inside : d < count-of ms) where

@@ -1,21 +1,21 @@
 -- The walk along heads, step by step; and that the table of heads walks as the module's heads do.
 -- Assumes nothing.
-use mathlib.Core.Path.{_≡_, refl, sym, ap, subst, _∙_}
-use mathlib.Core.Bool.{Bool, true, false, not, _&&_}
+use mathlib.Core.Path.{_≡_, refl, sym, ap, _∙_}
+use mathlib.Core.Bool.{Bool, false, not, _&&_}
 use mathlib.Core.List.{List}
 use Prim.Native.Nat.{ℕ, zero, suc, _-_, _<_}
 use native.Mathlib.Omega.{arith}
-use lib.ListN.{length}
 use Rattle.index.specs.Walk.{after}
 use Rattle.index.specs.declared.RecordIndex.{RecordIndex}
 use Rattle.index.proofs.Walk.{after-first}
 use Rattle.token.specs.Token.{Meaning}
 use Rattle.definition.specs.Landmark.{has-oid}
+use Rattle.name.specs.Lead.{Inside}
 use Rattle.name.specs.declared.Lead.{Lead}
 use Rattle.name.specs.declared.Lead.the-variants.{Iso, Import, Definition, Nothing}
 use Rattle.oid.specs.Oid.{head-of, is-built-in, next-head, count-of, kind-of, reaches}
 use Rattle.oid.specs.Refusal.{unreached}
-use Rattle.oid.specs.Heads.{head-in, Inside, Closed, HeadTable}
+use Rattle.oid.specs.Heads.{head-in, HeadTable}
 use Rattle.oid.proofs.HeadLaws.{heads-closed}
 
 module _ (head : ℕ → Lead) where

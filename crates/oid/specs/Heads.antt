@@ -10,6 +10,7 @@ use Rattle.token.specs.Token.{Meaning}
 use Rattle.token.specs.Table.{longest-text}
 use Rattle.symbol.specs.Symbol.{symbol-count}
 use Rattle.name.specs.Collect.{most-definitions}
+use Rattle.name.specs.Lead.{Inside}
 use Rattle.name.specs.declared.Lead.{Lead}
 use Rattle.name.specs.declared.Lead.the-variants.{Iso, Import, Definition, Nothing}
 use Rattle.oid.specs.Oid.{head-of, parts-of}
@@ -31,13 +32,6 @@ Small Iso = Unit {0}
 Small (Import k) = k ≤ symbol-count
 Small (Definition d) = d .0 < most-definitions
 Small Nothing = Unit {0}
-
--- a lead to a definition leads to one of the first c
-abbrev pub Inside : ℕ → Lead → Type 0
-Inside c Iso = Unit {0}
-Inside c (Import k) = Unit {0}
-Inside c (Definition d) = d .0 < c
-Inside c Nothing = Unit {0}
 
 -- the heads of the first c definitions lead to no others
 pub record Closed (heads : List ℕ) (c : ℕ) : Type 0 where

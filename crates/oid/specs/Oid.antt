@@ -7,7 +7,7 @@ use mathlib.Core.List.{List, [], _++_, map}
 use Prim.Native.Nat.{ℕ, zero, suc}
 use lib.Dec.{ltb}
 use lib.IntN.{natAbs}
-use lib.ListN.{length, getD}
+use lib.ListN.{length}
 use Rattle.index.specs.Walk.{after}
 use Rattle.index.specs.declared.RecordIndex.{RecordIndex}
 use Rattle.token.specs.Token.{Meaning}
@@ -16,7 +16,6 @@ use Rattle.symbol.specs.Symbol.{iso-oid, numbers-of}
 use Rattle.definition.specs.Landmark.{definitions, has-oid}
 use Rattle.definition.specs.Fields.{fields-at}
 use Rattle.definition.specs.Members.{oid-head, oid-numbers}
-use Rattle.definition.specs.declared.Span.{Span}
 use Rattle.name.specs.Import.{classes-of, spelled}
 use Rattle.name.specs.Lead.{leads-to}
 use Rattle.name.specs.declared.Lead.{Lead}

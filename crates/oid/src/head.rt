@@ -3,11 +3,10 @@ ghost use mathlib.Core.Path.{_≡_};
 ghost use Prim.Native.Nat.{_≤_, _<_};
 ghost use lib.ListN.{length, take};
 ghost use Rattle.token.specs.Cut.{meanings-in};
-ghost use Rattle.symbol.specs.Symbol.{symbol-count};
 ghost use Rattle.definition.specs.Members.{oid-numbers};
 ghost use Rattle.name.specs.Collect.{most-definitions};
 ghost use Rattle.field_table.specs.Table.{ModuleTable};
-ghost use Rattle.oid.specs.Oid.{head-of, parts-of};
+ghost use Rattle.oid.specs.Oid.{head-of};
 ghost use Rattle.oid.specs.Heads.{lead-in, head-in, Small, HeadTable, PartTable};
 use definition::Span;
 use definition::class_at;
@@ -87,20 +86,9 @@ fn find_head(
     ensures { λ r. ⌜ r ≡ head-of (meanings-in (now (text .entry))) d ⌝ }
 {
     let oid = field_table::oid(fields, RecordIndex(d));
-    let token = oid.from;
-    if token < n {
-        return leads_to(
-            text,
-            classes,
-            starts,
-            ends,
-            n,
-            imported,
-            m,
-            defined,
-            c,
-            TokenIndex(token),
-        );
+    let i = TokenIndex(oid.from);
+    if i.0 < n {
+        return leads_to(text, classes, starts, ends, n, imported, m, defined, c, i);
     }
     Lead::Nothing
 }

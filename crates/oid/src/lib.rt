@@ -2,8 +2,11 @@
 mod head;
 mod length;
 mod reach;
+mod room;
 
 pub use head::collect_heads;
 pub use head::head_at;
 pub use length::measure;
 pub use reach::judge_reached;
+pub use room::judge_long;
+pub use room::judge_room;

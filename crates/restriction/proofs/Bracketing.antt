@@ -8,7 +8,6 @@ use lib.Dec.{eqb}
 use Rattle.terminal.specs.Terminal.{left-brace, right-brace, left-paren, right-paren, SIZE}
 use Rattle.definition.specs.Landmark.{class-at}
 use Rattle.definition.specs.Fields.{find, span, restriction-at}
-use Rattle.definition.specs.declared.Restriction.{Restriction}
 use Rattle.definition.specs.declared.Restriction.the-variants.{Free, Ranges, Sizes, Enumeration}
 use Rattle.definition.proofs.Inside.{first-from, first-to}
 use Rattle.restriction.specs.Within.{Bracketed, BracketedIn}

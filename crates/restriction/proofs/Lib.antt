@@ -3,3 +3,4 @@ pub mod Walking
 pub mod RangeLaws
 pub mod ItemLaws
 pub mod Bracketing
+pub mod Rising

@@ -1,6 +1,6 @@
 -- The items of an enumeration: what stands between its braces, `s`. `ms` is what the tokens of a module say.
 -- Assumes nothing.
-use mathlib.Core.Bool.{Bool, false, true, _||_}
+use mathlib.Core.Bool.{Bool, false, _||_}
 use mathlib.Core.List.{List, map}
 use Prim.Native.Nat.{ℕ, _+_}
 use lib.Dec.{eqb}

@@ -1,11 +1,12 @@
 -- What a walk asks of its cursor.
 -- Assumes nothing.
-use Prim.Native.Nat.{ℕ, _≤_, _<_}
+use Prim.Native.Nat.{_≤_, _<_}
 use Rattle.definition.specs.declared.Span.{Span}
 use Rattle.definition.specs.declared.Restriction.{Restriction}
 use Rattle.definition.specs.declared.Restriction.the-variants.{Free, Ranges, Sizes, Enumeration}
 
--- what stands between brackets stands behind a token, and ends where tokens do: each is at most 65536, and a bracket a few behind
+-- A span between brackets: it starts behind a token and ends no earlier. A text has at most 65536 tokens, and a span that starts
+-- past the last of them is empty and starts a few tokens on.
 pub record Bracketed (s : Span) : Type 0 where
   pub behind : 0 < s .from
   pub ordered : s .from ≤ s .to

@@ -1,6 +1,6 @@
 -- Where the syntax of a definition stands and what its name leads to: tokens and definitions that there are.
 -- Assumes nothing.
-use mathlib.Core.Path.{_≡_, refl, sym, ap, _∙_}
+use mathlib.Core.Path.{_≡_, refl, ap}
 use mathlib.Core.Bool.{Bool, true, false, cond}
 use mathlib.Core.List.{List}
 use Prim.Native.Nat.{ℕ, _+_, _-_, _≤_, _<_}
@@ -9,8 +9,7 @@ use native.Mathlib.Omega.{arith}
 use borrow.Author.Tests.{eqb-true, ltb-true}
 use lib.Dec.{eqb, ltb}
 use lib.ListN.{length, getD, List·getD-eq-default}
-use Rattle.index.specs.First.{first}
-use Rattle.index.proofs.Search.{answers, true-false, first-inside}
+use Rattle.index.proofs.Search.{first-inside}
 use Rattle.index.proofs.Hits.{hit-inside}
 use Rattle.index.specs.declared.TokenIndex.{TokenIndex}
 use Rattle.terminal.specs.Terminal.{Upper, INTEGER, OCTET, OBJECT, BITS}
@@ -21,10 +20,9 @@ use Rattle.definition.specs.Landmark.{class-at, begins, last, definitions, defi
 use Rattle.definition.specs.Fields.{fields-of, fields-at, restriction-at, syntax-at}
 use Rattle.definition.specs.declared.Restriction.{Restriction}
 use Rattle.definition.specs.declared.Syntax.the-variants.{Integer, Named, Octets, ObjectIdentifier, Bits, SequenceOf}
-use Rattle.definition.proofs.Inside.{Inside, syntax-inside}
+use Rattle.definition.proofs.Inside.{syntax-inside}
 use Rattle.name.specs.Import.{classes-of, imports}
 use Rattle.name.specs.Lead.{named, leads-to}
-use Rattle.name.specs.declared.Lead.{Lead}
 use Rattle.name.specs.declared.Lead.the-variants.{Iso, Import, Definition, Nothing}
 use Rattle.syntax_class.specs.Class.{type-name}
 use Rattle.syntax_class.specs.Table.{LeadInside}

@@ -22,7 +22,7 @@ use Rattle.field_table.proofs.Held.{kind-held, syntax-held}
 use Rattle.syntax_class.specs.Class.{kind-of, syntax-of, type-name}
 use Rattle.syntax_class.specs.Table.{LeadInside}
 use Rattle.syntax_class.specs.declared.TypeName.the-variants.{Name}
-use Rattle.syntax_class.proofs.Syntaxes.{syntax-early, name-inside, lead-inside}
+use Rattle.syntax_class.proofs.Syntaxes.{name-inside, lead-inside}
 
 -- the syntax that is read where the field table says
 pub syntax-read : (cs table : List ℕ) (c : ℕ) → FieldTable cs table c → (k : ℕ) → k < c → (s : Span) → s ≡ span-in table k 4

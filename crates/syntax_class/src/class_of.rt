@@ -4,7 +4,6 @@ ghost use Prim.Native.Nat.{_<_};
 ghost use lib.ListN.{length};
 ghost use Rattle.token.specs.Cut.{meanings-in};
 ghost use Rattle.name.specs.Collect.{most-definitions};
-ghost use Rattle.name.specs.Lead.{leads-to};
 ghost use Rattle.field_table.specs.Table.{ModuleTable};
 ghost use Rattle.syntax_class.specs.Class.{convention-class, type-definition-class, lead-class, object-class, class-of};
 ghost use Rattle.syntax_class.specs.Table.{ClassTable, LeadInside};

@@ -112,6 +112,5 @@ indirect-convention ms = record {
 unfoldable pub syntax-rules : List Meaning → List Rule
 syntax-rules ms =
     each (misplaced-in ms) 0 (length (definitions (classes-of ms)))
-    ++ each (outside-in ms) 0 (length (definitions (classes-of ms)))
-    ++ each (misfit-in ms) 0 (length (definitions (classes-of ms)))
-    ++ indirect-convention ms ∷ []
+    ++ (each (outside-in ms) 0 (length (definitions (classes-of ms)))
+    ++ (each (misfit-in ms) 0 (length (definitions (classes-of ms))) ++ indirect-convention ms ∷ []))

@@ -9,7 +9,6 @@ use Rattle.token.specs.Token.{Meaning}
 use Rattle.token.specs.Cut.{meanings-in}
 use Rattle.oid.specs.Oid.{kind-of, oid-of}
 use Rattle.number_buffer.specs.Refusal.{is-holder}
-use Rattle.number_buffer.proofs.Oids.{kind-word}
 use Rattle.number_buffer.proofs.Held.{run-inside, oids-held}
 use Rattle.number_buffer.proofs.Twins.{holder-said, holds-not, holds-same}
 use borrow.Author.Needs.{needs}
@@ -26,12 +25,12 @@ said s = meanings-in (s .args .text .now)
 holder-is : (h : tie.After-is-holder) → h .is-holder .result ≡ is-holder (kind-of (said (start h)) (start h .args .j .0))
 holder-is h =
     let s = start h in
-    holder-said (said s) _ (s .pre .0) _ (s .pre .1 .1 .1) (h .before .kind-of .ensures) (h .is-holder .ensures)
+    holder-said (said s) _ (s .pre .0) _ (s .pre .1 .1 .1) (h .before .kind .ensures) (h .is-holder .ensures)
 
-kind-of-requires : tie.Need-kind-of-requires
-kind-of-requires c κs =
+kind-requires : tie.Need-kind-requires
+kind-requires c κs =
     let s = c .before .before in
-    (omega (arith, s .pre .1 .1 .1, s .pre .1 .0 .few), kind-word _ _ _ (s .pre .0) _ (s .pre .1 .1 .1))
+    omega (arith, s .pre .1 .1 .1, s .pre .1 .0 .few)
 
 is-holder-requires : tie.Need-is-holder-requires
 is-holder-requires c κs = search needs
@@ -59,4 +58,4 @@ returns-2 c =
 
 pub holds-oid-spec : {M : Type 1} → statement M
 holds-oid-spec =
-    tie.close (tie.spec kind-of-requires is-holder-requires returns same-oid-requires returns-2)
+    tie.close (tie.spec kind-requires is-holder-requires returns same-oid-requires returns-2)

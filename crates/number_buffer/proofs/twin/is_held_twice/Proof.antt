@@ -9,7 +9,6 @@ use Rattle.token.specs.Token.{Meaning}
 use Rattle.token.specs.Cut.{meanings-in}
 use Rattle.oid.specs.Oid.{kind-of}
 use Rattle.number_buffer.specs.Refusal.{is-holder, holds-oid}
-use Rattle.number_buffer.proofs.Oids.{kind-word}
 use Rattle.number_buffer.proofs.Twins.{holder-said, twice-not, twice-before}
 use borrow.Author.Needs.{needs}
 use Rattle.number_buffer.proofs.twin.is_held_twice.Statement.{statement}
@@ -25,12 +24,12 @@ said s = meanings-in (s .args .text .now)
 holder-is : (h : tie.After-is-holder) → h .is-holder .result ≡ is-holder (kind-of (said (start h)) (start h .args .k .0))
 holder-is h =
     let s = start h in
-    holder-said (said s) _ (s .pre .0) _ (s .pre .1 .1) (h .before .kind-of .ensures) (h .is-holder .ensures)
+    holder-said (said s) _ (s .pre .0) _ (s .pre .1 .1) (h .before .kind .ensures) (h .is-holder .ensures)
 
-kind-of-requires : tie.Need-kind-of-requires
-kind-of-requires c κs =
+kind-requires : tie.Need-kind-requires
+kind-requires c κs =
     let s = c .before .before in
-    (omega (arith, s .pre .1 .1, s .pre .1 .0 .few), kind-word _ _ _ (s .pre .0) _ (s .pre .1 .1))
+    omega (arith, s .pre .1 .1, s .pre .1 .0 .few)
 
 is-holder-requires : tie.Need-is-holder-requires
 is-holder-requires c κs = search needs
@@ -54,4 +53,4 @@ returns-2 c =
 pub is-held-twice-spec : {M : Type 1} → statement M
 is-held-twice-spec =
     tie.close
-    (tie.spec kind-of-requires is-holder-requires returns is-held-before-requires returns-2)
+    (tie.spec kind-requires is-holder-requires returns is-held-before-requires returns-2)

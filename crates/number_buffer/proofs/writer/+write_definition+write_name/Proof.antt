@@ -18,11 +18,14 @@ use Rattle.definition.specs.declared.Span.{Span}
 use Rattle.name.specs.Import.{classes-of}
 use Rattle.name.specs.declared.Lead.{Lead}
 use Rattle.field_table.proofs.Held.{oid-held}
-use Rattle.oid.specs.Oid.{values, head-of, parts-of, name-numbers, definition-numbers}
-use Rattle.number_buffer.specs.Writing.{LeadsInside}
+use Rattle.oid.specs.Oid.{values, count-of, head-of, parts-of}
+use Rattle.number_buffer.specs.Writing.{numbers-of-definition, numbers-of-name}
 use Rattle.number_buffer.proofs.Writing.{first-inside, second-room, returned-length, written-both, written-none}
 use Rattle.number_buffer.proofs.Parts.{classes-counted}
-use Rattle.number_buffer.proofs.Steps.{numbers-step, head-leads-inside, oid-ends}
+use Rattle.number_buffer.proofs.Steps.{numbers-step, numbers-none}
+use Rattle.name.specs.Lead.{Inside}
+use Rattle.field_table.proofs.Said.{oid-span-inside}
+use Rattle.oid.proofs.Meaning.{head-inside}
 use Rattle.number_buffer.proofs.writer.write_definition.Reads as write-definition
 use Rattle.number_buffer.proofs.writer.write_definition.Kinds as write-definition-kinds
 use Rattle.number_buffer.proofs.writer.+write_definition+write_name.Lts-write_definition as write-definition-lts
@@ -127,23 +130,22 @@ module _ (t : ℕ) where
   abbrev first-numbers : After-head-at → List ℕ
   first-numbers h =
       let s = start h in
-      name-numbers (definition-numbers (head-of (said s)) (parts-of (said s)) (s .args .left - 1)) (h .head-at .result)
+      numbers-of-name (said s) (s .args .left - 1) (h .head-at .result)
 
   abbrev second-numbers : After-head-at → Span → List ℕ
   second-numbers h span = values (said (start h)) (oid-numbers (classes-of (said (start h))) span)
 
   -- the two are the definition's
   step : (h : After-head-at)
-      → definition-numbers (head-of (said (start h))) (parts-of (said (start h))) (start h .args .left) (start h .args .d .0)
+      → numbers-of-definition (said (start h)) (start h .args .left) (start h .args .d .0)
       ≡ first-numbers h ++ parts-of (said (start h)) (start h .args .d .0)
   step h =
       let s = start h in
-      numbers-step (head-of (said s)) (parts-of (said s)) (s .args .left) (s .args .d .0) (h .before .if1 .left)
-      ∙ ap (λ (l : Lead). name-numbers (definition-numbers (head-of (said s)) (parts-of (said s)) (s .args .left - 1)) l ++ parts-of (said s) (s .args .d .0))
-      (sym (head-is h))
+      numbers-step (said s) (s .args .left) (s .args .d .0) (h .before .if1 .left)
+      ∙ ap (λ (l : Lead). numbers-of-name (said s) (s .args .left - 1) l ++ parts-of (said s) (s .args .d .0)) (sym (head-is h))
 
   both : (c : After-oid)
-      → definition-numbers (head-of (said (start (headed c)))) (parts-of (said (start (headed c)))) (start (headed c) .args .left) (start (headed c) .args .d .0)
+      → numbers-of-definition (said (start (headed c))) (start (headed c) .args .left) (start (headed c) .args .d .0)
       ≡ first-numbers (headed c) ++ second-numbers (headed c) (c .oid .result)
   unfolding parts-of
   both c = step (headed c) ∙ ap (λ (x : Span). first-numbers (headed c) ++ second-numbers (headed c) x) (sym (span-is c))
@@ -155,10 +157,9 @@ module _ (t : ℕ) where
   inside c = first-inside (first-numbers (headed c)) (second-numbers (headed c) (c .oid .result)) _ _ _ (both-room c) (c .before .before .before .write-name .ensures)
 
   write-definition-returns : write-definition-lts.Need-returns (definition-claims t) (write-definition-at t) write-definition.Post
-  unfolding definition-numbers
   write-definition-returns c =
       let s = c .before .before .before in
-      written-none _ _ (ap (λ (n : ℕ). definition-numbers (head-of (said s)) (parts-of (said s)) n (s .args .d .0)) (c .if1 .taken))
+      written-none _ _ (numbers-none (said s) (s .args .left) (s .args .d .0) (c .if1 .taken))
 
   write-definition-head-at-requires : write-definition-lts.Need-head-at-requires (definition-claims t) (write-definition-at t) write-definition.Post
   write-definition-head-at-requires c κs = c .before .before .before .pre .1 .0 .heads-held .long
@@ -174,7 +175,7 @@ module _ (t : ℕ) where
         (
           s .pre .1 .0,
           (
-            subst (LeadsInside (said s)) (sym (head-is h)) (head-leads-inside (said s) (s .args .d .0)),
+            subst (Inside (count-of (said s))) (sym (head-is h)) (head-inside (said s) (s .args .d .0)),
             omega (arith, ap length (step h), length-append (first-numbers h) (parts-of (said s) (s .args .d .0)), s .pre .1 .1 .1),
           ),
         ),
@@ -206,7 +207,7 @@ module _ (t : ℕ) where
       let source = s .pre .1 .0 in (
         source .tokens,
         (
-          omega (arith, ap (λ (x : Span). x .to) (span-is o), oid-ends (classes-of (said s)) (s .args .d .0) (s .pre .1 .1 .0), classes-counted _ _ _ _ _ (source .tokens)),
+          omega (arith, ap (λ (x : Span). x .to) (span-is o), oid-span-inside (classes-of (said s)) (s .args .d .0) (s .pre .1 .1 .0) .1, classes-counted _ _ _ _ _ (source .tokens)),
           second-room (first-numbers (headed o)) (second-numbers (headed o) (o .oid .result)) _ _ _ (both-room o) (o .before .before .before .write-name .ensures),
         ),
       )
@@ -238,8 +239,7 @@ module _ (t : ℕ) where
 
   -- the numbers of what a name leads to
   abbrev numbers-at : Entered → Lead → List ℕ
-  numbers-at s l =
-      name-numbers (definition-numbers (head-of (meanings-in (s .args .text .now))) (parts-of (meanings-in (s .args .text .now))) (s .args .left)) l
+  numbers-at s l = numbers-of-name (meanings-in (s .args .text .now)) (s .args .left) l
 
   -- there is room for them
   room : (s : Entered) (l : Lead) → s .args .lead ≡ l → length (numbers-at s l) ≤ length (s .args .numbers .now)
@@ -266,7 +266,7 @@ module _ (t : ℕ) where
       let s = c .before .before .before .before .before .before in
       let e = c .before .before .lead2 .given .1 in (
         omega (arith, s .pre .0),
-        (s .pre .1 .0, (subst (LeadsInside (meanings-in (s .args .text .now))) e (s .pre .1 .1 .0), room s _ e)),
+        (s .pre .1 .0, (subst (Inside (count-of (meanings-in (s .args .text .now)))) e (s .pre .1 .1 .0), room s _ e)),
       )
 
   write-name-enum-told-2 : write-name-lts.Need-enum-told-2 (name-claims t) (write-name-at t) write-name.Post

@@ -12,28 +12,28 @@ use Rattle.definition.specs.Landmark.{has-oid}
 use Rattle.field_table.proofs.Held.{kind-held}
 use Rattle.oid.specs.Oid.{count-of, kind-of}
 use Rattle.number_buffer.proofs.Writing.{written-none}
-use Rattle.number_buffer.proofs.Oids.{kind-word, no-oid, its-oid}
+use Rattle.number_buffer.proofs.Oids.{no-oid, its-oid}
 use borrow.Author.Needs.{needs}
 use Rattle.number_buffer.proofs.writer.write_oid.Statement.{statement}
 use Rattle.number_buffer.proofs.writer.write_oid.Tie as tie
 
-kind-of-requires : tie.Need-kind-of-requires
-kind-of-requires c κs =
+kind-requires : tie.Need-kind-requires
+kind-requires c κs =
     let s = c .before .before in
     let below : s .args .k .0 < count-of (meanings-in (s .args .text .now)) = omega (arith, s .pre .1 .1 .0, s .pre .1 .0) in
-    (omega (arith, s .pre .0 .few), kind-word _ _ _ (s .pre .0 .fields-held) _ below)
+    omega (arith, s .pre .0 .few)
 
-abbrev start : tie.After-kind-of → tie.Start
+abbrev start : tie.After-kind → tie.Start
 start k = k .before .before .before
 
 abbrev said : tie.Start → List Meaning
 said s = meanings-in (s .args .text .now)
 
 -- the table holds the kind
-kind-is : (c : tie.After-kind-of) → c .kind-of .result ≡ kind-of (said (start c)) (start c .args .k .0)
+kind-is : (c : tie.After-kind) → c .kind .result ≡ kind-of (said (start c)) (start c .args .k .0)
 kind-is c =
     let s = start c in
-    c .kind-of .ensures ∙ kind-held _ _ _ (s .pre .0 .fields-held) (s .args .k .0) (omega (arith, s .pre .1 .0, s .pre .1 .1 .0))
+    c .kind .ensures ∙ kind-held _ _ _ (s .pre .0 .fields-held) (s .args .k .0) (omega (arith, s .pre .1 .0, s .pre .1 .1 .0))
 
 kind-tested : (h : tie.After-has-oid) → h .has-oid .result ≡ has-oid (kind-of (said (start (h .before))) (start (h .before) .args .k .0))
 kind-tested h = h .has-oid .ensures ∙ ap has-oid (kind-is (h .before))
@@ -68,7 +68,7 @@ pub write-oid-spec : {M : Type 1} → statement M
 write-oid-spec =
     tie.close
     (tie.spec
-    kind-of-requires
+    kind-requires
     has-oid-requires
     returns
     write-definition-requires

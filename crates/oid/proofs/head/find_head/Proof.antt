@@ -3,12 +3,10 @@
 use Rattle.definition.specs.declared.Span.{Span}
 use Rattle.field_table.proofs.Held.{oid-held}
 use Rattle.field_table.proofs.Said.{said-counted, fields-said}
-use mathlib.Core.Path.{_≡_, ap, subst, _∙_}
+use mathlib.Core.Path.{_≡_, ap, _∙_}
 use mathlib.Core.List.{List}
-use Prim.Native.Nat.{ℕ}
-use lib.ListN.{length, length-map}
-use Rattle.token.specs.Token.{Tok, Meaning}
-use Rattle.token.specs.Cut.{cut, meanings-in}
+use Rattle.token.specs.Token.{Meaning}
+use Rattle.token.specs.Cut.{meanings-in}
 use Rattle.oid.specs.Oid.{head-token}
 use Rattle.oid.proofs.HeadLaws.{head-there, head-missing}
 use borrow.Author.Needs.{needs}
@@ -32,13 +30,13 @@ leads-to-requires c κs = search needs
 
 returns : tie.Need-returns
 returns c =
-    let s = c .before .before .before .before in
-    head-there (said-by s) (s .args .d) (s .args .n) (said-counted (s .pre .0)) _ (token-is (c .before .before)) (c .before .if1 .taken) _ (c .leads-to .ensures)
+    let s = c .before .before .before .before .before in
+    head-there (said-by s) (s .args .d) (s .args .n) (said-counted (s .pre .0)) _ (token-is (c .before .before .before)) (c .before .if1 .taken) _ (c .leads-to .ensures)
 
 returns-2 : tie.Need-returns-2
 returns-2 c =
-    let s = c .before .before .before in
-    head-missing (said-by s) (s .args .d) (s .args .n) (said-counted (s .pre .0)) _ (token-is (c .before)) (c .if1 .left)
+    let s = c .before .before .before .before in
+    head-missing (said-by s) (s .args .d) (s .args .n) (said-counted (s .pre .0)) _ (token-is (c .before .before)) (c .if1 .left)
 
 pub find-head-spec : {M : Type 1} → statement M
 find-head-spec = tie.close (tie.spec oid-requires leads-to-requires returns returns-2)

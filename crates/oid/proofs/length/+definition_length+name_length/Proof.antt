@@ -1,13 +1,14 @@
 -- The pair is right: a definition has the numbers of its head and its own parts. A definition's measure is twice the heads left, and a
 -- name's one more.
 -- Assumes nothing.
-use Prim.Native.Nat.{ℕ, _+_, _-_, _*_, _≤_, _<_}
+use Prim.Native.Nat.{ℕ, _+_, _-_, _*_, _<_}
 use native.Mathlib.Omega.{arith}
 use mathlib.Core.Path.{sym, ap, subst, _∙_}
 use borrow.Author.Needs.{needs}
 use Rattle.symbol.specs.Symbol.{iso-oid}
+use Rattle.name.specs.Lead.{Inside}
 use Rattle.name.specs.declared.Lead.{Lead}
-use Rattle.oid.specs.Heads.{head-in, parts-in, Inside}
+use Rattle.oid.specs.Heads.{head-in, parts-in}
 use Rattle.oid.specs.Length.{name-length, definition-length}
 use Rattle.oid.proofs.Lengths.{none-counted, one-counted, name-few}
 use borrow.Fn.Kinds.{In}

@@ -7,8 +7,8 @@ use Rattle.field_table.proofs.Held.{kind-held}
 use Rattle.field_table.proofs.Said.{definitions-counted, fields-said}
 use Rattle.oid.specs.Heads.{Closed, FewParts}
 use Rattle.oid.proofs.HeadLaws.{heads-closed}
-use mathlib.Core.Path.{_≡_, _∙_}
-use Prim.Native.Nat.{ℕ, _-_, _≤_, _<_}
+use mathlib.Core.Path.{_≡_}
+use Prim.Native.Nat.{_-_, _≤_, _<_}
 use native.Mathlib.Omega.{arith}
 use Rattle.token.specs.Cut.{meanings-in}
 use Rattle.oid.proofs.Lengths.{Measuring, longest, measuring-start, measuring-more, oid-length-is, oid-length-few}

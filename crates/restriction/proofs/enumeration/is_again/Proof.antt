@@ -3,10 +3,8 @@
 use mathlib.Core.Path.{_≡_, sym, ap, _∙_}
 use mathlib.Core.Bool.{Bool}
 use mathlib.Core.List.{List}
-use Prim.Native.Nat.{ℕ, _+_, _-_, _<_}
+use Prim.Native.Nat.{ℕ, _-_, _<_}
 use native.Mathlib.Omega.{arith}
-use lib.ListN.{length}
-use borrow.Author.Needs.{needs}
 use Rattle.index.proofs.Search.{Searched, searched-start, searched-miss}
 use Rattle.index.proofs.Step.{Stepping, stepping-start, stepping-next}
 use Rattle.token.specs.Token.{Meaning}
@@ -16,7 +14,7 @@ use Rattle.definition.specs.declared.Span.{Span}
 use Rattle.name.specs.Import.{classes-of}
 use Rattle.restriction.specs.Enumeration.{item-at, items-in, entry, alike, is-again}
 use Rattle.restriction.specs.declared.Item.{Item}
-use Rattle.restriction.proofs.ItemLaws.{next-said, item-here, label-token, item-left, label-inside, earlier-found, earlier-none, classes-counted}
+use Rattle.restriction.proofs.ItemLaws.{next-said, item-here, item-left, label-inside, earlier-found, earlier-none, classes-counted}
 use Rattle.restriction.proofs.enumeration.is_again.Statement.{statement}
 use Rattle.restriction.proofs.enumeration.is_again.Tie as tie
 

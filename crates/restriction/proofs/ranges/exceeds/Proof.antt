@@ -1,13 +1,10 @@
 -- `exceeds` is right: it is the definition, test by test.
 -- Assumes nothing.
 use mathlib.Core.Path.{_≡_, sym, ap, _∙_}
-use lib.IntN.{ℤ}
 use mir.Syntax.{w64}
-use mir.Val.{toZ, ofZ}
 use mir.Facts.{toZ-ofZ}
 use borrow.Author.Needs.{needs}
 use Rattle.restriction.specs.Limits.{is-outside}
-use Rattle.restriction.specs.declared.Range.{Range}
 use Rattle.restriction.proofs.ranges.exceeds.Statement.{statement}
 use Rattle.restriction.proofs.ranges.exceeds.Tie as tie
 

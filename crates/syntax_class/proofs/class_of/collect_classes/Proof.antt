@@ -1,9 +1,8 @@
 -- `collect_classes` is right because each turn holds the class of one more definition.
 -- Assumes nothing.
 use mathlib.Core.Path.{_≡_, subst}
-use Prim.Native.Nat.{ℕ, _-_, _≤_}
+use Prim.Native.Nat.{_-_, _≤_}
 use native.Mathlib.Omega.{arith}
-use borrow.Author.Needs.{needs}
 use Rattle.token.specs.Cut.{meanings-in}
 use Rattle.syntax_class.specs.Table.{ClassTable}
 use Rattle.syntax_class.proofs.Classes.{classes-start, classes-more}

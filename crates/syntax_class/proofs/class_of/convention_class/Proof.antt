@@ -2,15 +2,11 @@
 -- Assumes nothing.
 use mathlib.Core.Path.{_≡_, sym, ap, _∙_}
 use mathlib.Core.List.{List}
-use lib.ListN.{take}
-use native.Mathlib.Omega.{arith}
 use borrow.Author.Needs.{needs}
 use Rattle.token.specs.Token.{Meaning}
 use Rattle.token.specs.Cut.{meanings-in}
-use Rattle.definition.specs.declared.Syntax.{Syntax}
 use Rattle.name.specs.Import.{classes-of}
 use Rattle.syntax_class.specs.Class.{syntax-of, type-name, syntax-class}
-use Rattle.syntax_class.specs.declared.TypeName.{TypeName}
 use Rattle.syntax_class.proofs.Tables.{enough, counted, syntax-said, word-token}
 use Rattle.syntax_class.proofs.Classes.{convention-unnamed, convention-smi, convention-other}
 use Rattle.syntax_class.proofs.class_of.convention_class.Statement.{statement}

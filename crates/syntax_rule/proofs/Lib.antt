@@ -1,0 +1,4 @@
+pub mod RuleLaws
+pub mod Unsettled
+pub mod OfDefinition
+pub mod Settled
