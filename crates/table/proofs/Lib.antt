@@ -3,3 +3,4 @@ pub mod Chain
 pub mod Objects
 pub mod Filled
 pub mod Types
+pub mod Rows
