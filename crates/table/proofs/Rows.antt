@@ -1,18 +1,17 @@
 -- The rows of columns: two columns of one row have the same row in the array, since rows that share a column have one OID.
 -- Assumes nothing.
 use mathlib.Core.Path.{_≡_, sym, ap, _∙_}
-use mathlib.Core.Bool.{Bool, true, _&&_}
+use mathlib.Core.Bool.{true}
 use mathlib.Core.List.{List, [], _∷_, _++_}
 use Prim.Native.Nat.{ℕ, _<_}
 use native.Mathlib.Omega.{arith}
 use lib.ListN.{length, take, length-append}
 use lib.Seq.{take-append-seam}
-use Rattle.index.specs.First.{first}
 use Rattle.index.proofs.Search.{first-same, first-holds}
 use Rattle.token.specs.Token.{Meaning}
 use Rattle.oid.specs.Oid.{count-of, oid-of}
 use Rattle.number_list.specs.Run.{is-below}
-use Rattle.number_list.proofs.Runs.{below-equal, equal-below}
+use Rattle.number_list.proofs.Runs.{below-equal}
 use Rattle.table.specs.Member.{is-object, is-row, is-column-of}
 use Rattle.table.specs.Held.{row-of}
 use Rattle.table.proofs.Chain.{both, same-tests}

@@ -5,7 +5,6 @@ use Prim.Native.Nat.{ℕ}
 use borrow.Author.Tests.{ne-eqb, eq-eqb}
 use lib.Dec.{eqb, ltb}
 use Rattle.token.specs.Cut.{meanings-in}
-use Rattle.oid.specs.Oid.{count-of}
 use Rattle.table.specs.Member.{access-of, read-write}
 use Rattle.table.specs.Held.{row-of}
 use Rattle.table.proofs.Chain.{and-failed, and-held}

@@ -1,35 +1,40 @@
+-- `is_wrong` is right because what it asks in turn are the parts of its statement.
+-- Assumes nothing.
+use mathlib.Core.Path.{_≡_}
+use Rattle.token.specs.Cut.{meanings-in}
+use Rattle.table.proofs.Chain.{or-held, or-failed}
+use Rattle.access_rule.specs.Access.{open-table, created-alone}
 use borrow.Author.Needs.{needs}
 use Rattle.access_rule.proofs.object.is_wrong.Statement.{statement}
 use Rattle.access_rule.proofs.object.is_wrong.Tie as tie
-use Rattle.access_rule.proofs.object.is_wrong.Reads as reads
-use Rattle.access_rule.proofs.object.is_wrong.Lts as lts
-use Rattle.access_rule.proofs.object.is_created_alone.Reads as is-created-alone-reads
-use Rattle.access_rule.proofs.object.is_open_table.Reads as is-open-table-reads
-use Rattle.access_rule.proofs.object.is_unfit_counter.Reads as is-unfit-counter-reads
 
--- src/object.rt:123:8
+open-asked : (c : tie.After-is-open-table) → (let s = c .before .before .before in c .is-open-table .result ≡ open-table (meanings-in (s .args .text .now)) (s .args .k .0))
+open-asked c = c .is-open-table .ensures
+
+alone-asked : (c : tie.After-is-created-alone) → (let s = c .before .before .before .before .before in c .is-created-alone .result ≡ created-alone (meanings-in (s .args .text .now)) (s .args .k .0))
+alone-asked c = c .is-created-alone .ensures
+
 is-open-table-requires : tie.Need-is-open-table-requires
 is-open-table-requires c κs = search needs
 
--- src/object.rt:124:9
 returns : tie.Need-returns
-returns c = ?
+returns c = or-held (open-asked (c .before)) _ (c .if1 .taken)
 
--- src/object.rt:126:8
 is-created-alone-requires : tie.Need-is-created-alone-requires
 is-created-alone-requires c κs = search needs
 
--- src/object.rt:127:9
 returns-2 : tie.Need-returns-2
-returns-2 c = ?
+returns-2 c =
+    let left = c .before .before in
+    or-failed (open-asked (left .before)) (left .if1 .left) (or-held (alone-asked (c .before)) _ (c .if2 .taken))
 
--- src/object.rt:129:5
 is-unfit-counter-requires : tie.Need-is-unfit-counter-requires
 is-unfit-counter-requires c κs = search needs
 
--- src/object.rt:108:1
 returns-3 : tie.Need-returns-3
-returns-3 c = ?
+returns-3 c =
+    let left = c .before .before .before in
+    or-failed (open-asked (left .before)) (left .if1 .left) (or-failed (alone-asked (c .before .before)) (c .before .if2 .left) (c .is-unfit-counter .ensures))
 
 pub is-wrong-spec : {M : Type 1} → statement M
 is-wrong-spec =
