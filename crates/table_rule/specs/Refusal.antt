@@ -11,18 +11,19 @@ use Rattle.table_clause.specs.Clause.{rowless-table, stray-row, unindexed-row, 
 use Rattle.access_rule.specs.Access.{access-broken}
 use Rattle.access_rule.specs.Notification.{notification-broken}
 
--- at fault by one of the clauses
-unfoldable pub is-misplaced : List Meaning → ℕ → Bool
-is-misplaced ms k =
-    rowless-table ms k
-    || (stray-row ms k
-    || (unindexed-row ms k
-    || (indexed-object ms k
-    || (repeating-row ms k || (misnaming-row ms k || (unlisted-column ms k || unfounded-augments ms k))))))
+-- at fault by a clause on tables, rows and their INDEX
+unfoldable pub has-wrong-row : List Meaning → ℕ → Bool
+has-wrong-row ms k = rowless-table ms k || (stray-row ms k || (unindexed-row ms k || indexed-object ms k))
 
--- 20: table rules
+-- at fault by a clause on the names of a SEQUENCE type or of AUGMENTS
+unfoldable pub has-wrong-names : List Meaning → ℕ → Bool
+has-wrong-names ms k =
+    repeating-row ms k || (misnaming-row ms k || (unlisted-column ms k || unfounded-augments ms k))
+
+-- 20: table rules; an object at fault by one of the clauses
 unfoldable pub table-broken : List Meaning → Rule
-table-broken ms = rule-of-definitions 20 (λ k. is-object ms k && is-misplaced ms k) ms
+table-broken ms =
+    rule-of-definitions 20 (λ k. is-object ms k && (has-wrong-row ms k || has-wrong-names ms k)) ms
 
 -- the rules on tables, access and notifications, in the order of their numbers
 unfoldable pub table-rules : List Meaning → List Rule
