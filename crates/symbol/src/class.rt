@@ -10,6 +10,10 @@ pub const OBJECT_IDENTIFIER: u8 = 4;
 
 pub const BITS: u8 = 5;
 
+pub const COUNTER32: u8 = 7;
+
 pub const GAUGE32: u8 = 8;
 
 pub const UNSIGNED32: u8 = 9;
+
+pub const COUNTER64: u8 = 12;

@@ -1,0 +1,36 @@
+-- The loop that asks whether a test holds at some index from a on, below b, and is at i: nothing passed has a hit. It needs no order of
+-- a and b, as `Searched` of the crate `index` does.
+-- Assumes nothing.
+use mathlib.Core.Path.{_≡_, sym, _∙_}
+use mathlib.Core.Bool.{Bool, true, false}
+use Prim.Native.Nat.{ℕ, _+_, _≤_, _<_}
+use native.Mathlib.Numerals.{add-one}
+use native.Mathlib.Omega.{arith}
+use borrow.Author.Tests.{lt-ltb, le-ltb}
+use Rattle.index.specs.First.{first, any}
+use Rattle.index.proofs.Search.{first-hit, first-miss, first-none}
+
+module _ (test : ℕ → Bool) (a b i : ℕ) where
+  abbrev pub Asking : Type 0
+  Asking = first test i b ≡ first test a b
+
+  module _ (s : Asking) where
+    -- a miss: the loop goes on
+    pub asking-miss : i < b → test i ≡ false → first test (i + 1) b ≡ first test a b
+    asking-miss h e = rw (add-one i) (sym (first-miss test i b h e) ∙ s)
+
+    -- a hit is the first
+    pub first-asked : i < b → test i ≡ true → i ≡ first test a b
+    first-asked h e = sym (first-hit test i b h e) ∙ s
+
+    pub asking-hit : i < b → test i ≡ true → true ≡ any test a b
+    unfolding any
+    asking-hit h e = sym (lt-ltb (first test a b) b (omega (arith, first-asked h e)))
+
+    -- the end: there is none
+    pub none-asked : b ≤ i → i ≡ first test a b
+    none-asked h = sym (first-none test i b h) ∙ s
+
+    pub asking-end : b ≤ i → false ≡ any test a b
+    unfolding any
+    asking-end h = sym (le-ltb (first test a b) b (omega (arith, none-asked h)))

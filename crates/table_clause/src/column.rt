@@ -1,0 +1,200 @@
+// Clauses on the columns that the SEQUENCE type of a row names.
+ghost use mathlib.Core.Path.{_≡_};
+ghost use Prim.Native.Nat.{_<_};
+ghost use Rattle.token.specs.Cut.{meanings-in};
+ghost use Rattle.field_table.specs.Table.{ModuleTable};
+ghost use Rattle.table.specs.Held.{ObjectTable, TypeTable};
+ghost use Rattle.table_clause.specs.Clause.{repeating-row, misnaming-row, leaves-out, unlisted-column};
+use index::RecordIndex;
+use table::columns_of;
+use table::is_column_of;
+use table::is_row;
+use table_list::Wanted;
+use table_list::lists;
+use table_list::repeats;
+use table_list::some_unwanted;
+
+// Whether definition k is a row whose SEQUENCE names don't all differ.
+pub fn is_repeating_row(
+    text: &[u8],
+    classes: &[u8; 65536],
+    starts: &[u32; 65536],
+    ends: &[u32; 65536],
+    n: usize,
+    imported: &[u32; 65536],
+    m: usize,
+    defined: &[u32; 512],
+    c: usize,
+    fields: &[usize; 8192],
+    classed: &[u8; 512],
+    firsts: &[usize; 513],
+    numbers: &[u32],
+    types: &[usize; 512],
+    k: RecordIndex,
+) -> bool
+    requires module { ⌜ ModuleTable (now text) (now classes) (now starts) (now ends) n (now imported) m (now defined) c (now fields) ⌝ }
+    requires objects { ⌜ ObjectTable (meanings-in (now text)) c (now fields) (now classed) (now firsts) (now numbers) ⌝ }
+    requires types { ⌜ TypeTable (meanings-in (now text)) (now types) c ⌝ }
+    requires index { ⌜ k .0 < c ⌝ }
+    ensures { λ r. ⌜ r ≡ repeating-row (meanings-in (now (text .entry))) (k .0) ⌝ }
+{
+    if !is_row(text, c, fields, classed, firsts, numbers, k) {
+        return false;
+    }
+    repeats(
+        text,
+        classes,
+        starts,
+        ends,
+        n,
+        imported,
+        m,
+        defined,
+        c,
+        fields,
+        columns_of(text, c, fields, classed, firsts, numbers, types, k),
+    )
+}
+
+// Whether it is a row with a SEQUENCE name that is no object at its OID plus one number.
+pub fn is_misnaming_row(
+    text: &[u8],
+    classes: &[u8; 65536],
+    starts: &[u32; 65536],
+    ends: &[u32; 65536],
+    n: usize,
+    imported: &[u32; 65536],
+    m: usize,
+    defined: &[u32; 512],
+    c: usize,
+    fields: &[usize; 8192],
+    classed: &[u8; 512],
+    firsts: &[usize; 513],
+    numbers: &[u32],
+    types: &[usize; 512],
+    k: RecordIndex,
+) -> bool
+    requires module { ⌜ ModuleTable (now text) (now classes) (now starts) (now ends) n (now imported) m (now defined) c (now fields) ⌝ }
+    requires objects { ⌜ ObjectTable (meanings-in (now text)) c (now fields) (now classed) (now firsts) (now numbers) ⌝ }
+    requires types { ⌜ TypeTable (meanings-in (now text)) (now types) c ⌝ }
+    requires index { ⌜ k .0 < c ⌝ }
+    ensures { λ r. ⌜ r ≡ misnaming-row (meanings-in (now (text .entry))) (k .0) ⌝ }
+{
+    if !is_row(text, c, fields, classed, firsts, numbers, k) {
+        return false;
+    }
+    let list = columns_of(text, c, fields, classed, firsts, numbers, types, k);
+    some_unwanted(
+        text,
+        classes,
+        starts,
+        ends,
+        n,
+        imported,
+        m,
+        defined,
+        c,
+        fields,
+        classed,
+        firsts,
+        numbers,
+        Wanted::ColumnOf(k),
+        list,
+    )
+}
+
+// Whether row r has definition k as a column that its SEQUENCE type doesn't list.
+fn leaves_out(
+    text: &[u8],
+    classes: &[u8; 65536],
+    starts: &[u32; 65536],
+    ends: &[u32; 65536],
+    n: usize,
+    imported: &[u32; 65536],
+    m: usize,
+    defined: &[u32; 512],
+    c: usize,
+    fields: &[usize; 8192],
+    classed: &[u8; 512],
+    firsts: &[usize; 513],
+    numbers: &[u32],
+    types: &[usize; 512],
+    k: RecordIndex,
+    r: RecordIndex,
+) -> bool
+    requires module { ⌜ ModuleTable (now text) (now classes) (now starts) (now ends) n (now imported) m (now defined) c (now fields) ⌝ }
+    requires objects { ⌜ ObjectTable (meanings-in (now text)) c (now fields) (now classed) (now firsts) (now numbers) ⌝ }
+    requires types { ⌜ TypeTable (meanings-in (now text)) (now types) c ⌝ }
+    requires column { ⌜ k .0 < c ⌝ }
+    requires row { ⌜ r .0 < c ⌝ }
+    ensures { λ a. ⌜ a ≡ leaves-out (meanings-in (now (text .entry))) (k .0) (r .0) ⌝ }
+{
+    if !is_column_of(text, c, fields, classed, firsts, numbers, k, r) {
+        return false;
+    }
+    !lists(
+        text,
+        classes,
+        starts,
+        ends,
+        n,
+        imported,
+        m,
+        defined,
+        c,
+        fields,
+        columns_of(text, c, fields, classed, firsts, numbers, types, r),
+        k,
+    )
+}
+
+// Whether it is a column that its row's SEQUENCE type doesn't list.
+pub fn is_unlisted_column(
+    text: &[u8],
+    classes: &[u8; 65536],
+    starts: &[u32; 65536],
+    ends: &[u32; 65536],
+    n: usize,
+    imported: &[u32; 65536],
+    m: usize,
+    defined: &[u32; 512],
+    c: usize,
+    fields: &[usize; 8192],
+    classed: &[u8; 512],
+    firsts: &[usize; 513],
+    numbers: &[u32],
+    types: &[usize; 512],
+    k: RecordIndex,
+) -> bool
+    requires module { ⌜ ModuleTable (now text) (now classes) (now starts) (now ends) n (now imported) m (now defined) c (now fields) ⌝ }
+    requires objects { ⌜ ObjectTable (meanings-in (now text)) c (now fields) (now classed) (now firsts) (now numbers) ⌝ }
+    requires types { ⌜ TypeTable (meanings-in (now text)) (now types) c ⌝ }
+    requires index { ⌜ k .0 < c ⌝ }
+    ensures { λ a. ⌜ a ≡ unlisted-column (meanings-in (now (text .entry))) (k .0) ⌝ }
+{
+    let mut r = 0;
+    while r < c {
+        if leaves_out(
+            text,
+            classes,
+            starts,
+            ends,
+            n,
+            imported,
+            m,
+            defined,
+            c,
+            fields,
+            classed,
+            firsts,
+            numbers,
+            types,
+            k,
+            RecordIndex(r),
+        ) {
+            return true;
+        }
+        r += 1;
+    }
+    false
+}

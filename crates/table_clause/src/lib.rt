@@ -1,0 +1,13 @@
+// The clauses of refusal 20: whether a definition is at fault by one of them.
+mod column;
+mod indexed;
+mod row;
+
+pub use column::is_misnaming_row;
+pub use column::is_repeating_row;
+pub use column::is_unlisted_column;
+pub use indexed::has_unfounded_augments;
+pub use indexed::is_indexed_object;
+pub use indexed::is_unindexed_row;
+pub use row::is_rowless_table;
+pub use row::is_stray_row;

@@ -1,0 +1,27 @@
+-- `is_indexed_row` is right because what it asks in turn are the parts of its statement.
+-- Assumes nothing.
+use mathlib.Core.Path.{_≡_}
+use Rattle.token.specs.Cut.{meanings-in}
+use Rattle.table.specs.Member.{is-row}
+use Rattle.table.proofs.Chain.{and-refused, and-passed}
+use borrow.Author.Needs.{needs}
+use Rattle.table_list.proofs.unwanted.is_indexed_row.Statement.{statement}
+use Rattle.table_list.proofs.unwanted.is_indexed_row.Tie as tie
+
+row-asked : (c : tie.After-is-row) → (let s = c .before .before .before in c .is-row .result ≡ is-row (meanings-in (s .args .text .now)) (s .args .k .0))
+row-asked c = c .is-row .ensures
+
+is-row-requires : tie.Need-is-row-requires
+is-row-requires c κs = search needs
+
+returns : tie.Need-returns
+returns c = and-refused (row-asked (c .before)) _ (c .if1 .taken)
+
+has-index-requires : tie.Need-has-index-requires
+has-index-requires c κs = search needs
+
+returns-2 : tie.Need-returns-2
+returns-2 c = and-passed (row-asked (c .before .before)) (c .before .if1 .left) (c .has-index .ensures)
+
+pub is-indexed-row-spec : {M : Type 1} → statement M
+is-indexed-row-spec = tie.close (tie.spec is-row-requires returns has-index-requires returns-2)
