@@ -10,12 +10,12 @@ use Rattle.index.specs.Rule.{and-then, judge-one, judge}
 use Rattle.index.specs.declared.TokenIndex.{TokenIndex}
 use Rattle.index.specs.declared.Judgement.{Judgement}
 use Rattle.index.specs.declared.Judgement.the-variants.{Kept, Broken}
-use Rattle.index.proofs.Judged.{judge-row, judge-alone, kept-next, broken-first, judged-kept}
+use Rattle.index.proofs.Judged.{NeverBroken, judge-row, judge-alone, kept-next, broken-first, judged-kept}
 use Rattle.token.specs.Token.{Meaning}
 use Rattle.token.specs.Table.{overlaid}
 use Rattle.oid.specs.Oid.{count-of, numbers-before, first-number}
 use Rattle.oid.specs.Runs.{RunTable}
-use Rattle.oid.specs.Refusal.{most-numbers, unreached, past-room}
+use Rattle.oid.specs.Refusal.{most-numbers, unreached, too-long, past-room}
 use Rattle.number_buffer.specs.Refusal.{held-twice}
 use Rattle.oid_rule.specs.Rules.{length-rules, oid-rules, OidsHeld, Left}
 
@@ -43,13 +43,18 @@ module _ (ms : List Meaning) (reached : Judgement) (first : reached ≡ judge-on
         is ∙ judge-alone (held-twice ms) ∙ sym (after-reached ∙ ap (λ (j : Judgement). and-then j (judge (held-twice ms ∷ []))) e)
 
 -- where refusal 14 is kept, the numbers have room
-pub room-kept : (ms : List Meaning) → judge (length-rules ms) ≡ Kept → first-number ms (count-of ms) ≤ most-numbers
+pub room-kept : (ms : List Meaning) → NeverBroken (past-room ms) → first-number ms (count-of ms) ≤ most-numbers
 unfolding past-room numbers-before
-room-kept ms e = go (count-of ms) refl
+room-kept ms never = go (count-of ms) refl
   where
     go : (c : ℕ) → count-of ms ≡ c → first-number ms c ≤ most-numbers
     go zero is = omega arith
-    go (suc k) is = ltb-false most-numbers (first-number ms (suc k)) (judged-kept (length-rules ms) e .1 .0 k (omega arith) (omega arith))
+    go (suc k) is = ltb-false most-numbers (first-number ms (suc k)) (never k (omega arith) (omega arith))
+
+-- so they have where all rules on OIDs are
+pub oids-room : (ms : List Meaning) → judge (oid-rules ms) ≡ Kept → first-number ms (count-of ms) ≤ most-numbers
+unfolding oid-rules
+oids-room ms kept = room-kept ms (judged-kept (unreached ms ∷ too-long ms ∷ past-room ms ∷ held-twice ms ∷ []) kept .1 .1 .0)
 
 -- ---- what is left in the arrays
 

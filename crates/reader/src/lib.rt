@@ -1,10 +1,4 @@
 // The reader: one call that reads a module's text into records and sub-identifiers, or says which rule it breaks first, and where.
-ghost use mathlib.Core.Path.{_≡_};
-ghost use Prim.Native.Nat.{_≤_};
-ghost use lib.ListN.{length, replicate};
-ghost use Rattle.reader.specs.Buffers.{Reads};
-
-mod module;
 mod shape;
 
 use index::Place;

@@ -42,11 +42,41 @@ fn judge_shapes(
     requires numbers { ⌜ NumberTable (meanings-in (now text)) (now firsts) (now numbers) c ⌝ }
     ensures { λ r. ⌜ r ≡ judge (syntax-rules (meanings-in (now (text .entry))) ++ table-rules (meanings-in (now (text .entry)))) ⌝ }
 {
-    let syntax = judge_syntax(text, classes, starts, ends, n, imported, m, defined, c, fields, classed);
+    let syntax = judge_syntax(
+        text,
+        classes,
+        starts,
+        ends,
+        n,
+        imported,
+        m,
+        defined,
+        c,
+        fields,
+        classed,
+    );
     let Judgement::Kept = syntax else {
         return syntax;
     };
-    judge_tables(text, classes, starts, ends, n, imported, m, defined, c, fields, classed, firsts, numbers)
+    let mut types = [0usize; 512];
+    let mut rows = [0usize; 512];
+    judge_tables(
+        text,
+        classes,
+        starts,
+        ends,
+        n,
+        imported,
+        m,
+        defined,
+        c,
+        fields,
+        classed,
+        firsts,
+        numbers,
+        &mut types,
+        &mut rows,
+    )
 }
 
 // Refusals 16 to 22, of a module whose OIDs are written, and its records where all are kept.
@@ -73,12 +103,52 @@ fn read_shapes(
     ensures held { λ r. ⌜ RecordsLaid (cut (now (text .entry)) .tokens) r (now (records .entry)) (now (records .exit)) ⌝ }
 {
     let mut classed = [0u8; 512];
-    collect_classes(text, classes, starts, ends, n, imported, m, defined, c, fields, &mut classed);
-    let shapes = judge_shapes(text, classes, starts, ends, n, imported, m, defined, c, fields, &classed, firsts, numbers);
+    collect_classes(
+        text,
+        classes,
+        starts,
+        ends,
+        n,
+        imported,
+        m,
+        defined,
+        c,
+        fields,
+        &mut classed,
+    );
+    let shapes = judge_shapes(
+        text,
+        classes,
+        starts,
+        ends,
+        n,
+        imported,
+        m,
+        defined,
+        c,
+        fields,
+        &classed,
+        firsts,
+        numbers,
+    );
     let Judgement::Kept = shapes else {
         return shapes;
     };
-    write_records(text, classes, starts, ends, n, imported, m, defined, c, fields, firsts, &classed, records);
+    write_records(
+        text,
+        classes,
+        starts,
+        ends,
+        n,
+        imported,
+        m,
+        defined,
+        c,
+        fields,
+        firsts,
+        &classed,
+        records,
+    );
     shapes
 }
 
@@ -104,9 +174,36 @@ pub fn read_fields(
     ensures held { λ r. ⌜ Laid (judged (cut (now (text .entry)) .tokens) r) (now (records .entry)) (now (records .exit)) (now (numbers .entry)) (now (numbers .exit)) ⌝ }
 {
     let mut firsts = [0usize; 513];
-    let oids = judge_oids(text, classes, starts, ends, n, imported, m, defined, c, fields, &mut firsts, numbers);
+    let oids = judge_oids(
+        text,
+        classes,
+        starts,
+        ends,
+        n,
+        imported,
+        m,
+        defined,
+        c,
+        fields,
+        &mut firsts,
+        numbers,
+    );
     let Judgement::Kept = oids else {
         return oids;
     };
-    read_shapes(text, classes, starts, ends, n, imported, m, defined, c, fields, &firsts, numbers, records)
+    read_shapes(
+        text,
+        classes,
+        starts,
+        ends,
+        n,
+        imported,
+        m,
+        defined,
+        c,
+        fields,
+        &firsts,
+        numbers,
+        records,
+    )
 }

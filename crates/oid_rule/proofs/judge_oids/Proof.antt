@@ -10,6 +10,8 @@ use Rattle.field_table.proofs.Said.{definitions-counted}
 use Rattle.oid.specs.Oid.{first-number}
 use Rattle.token.specs.Token.{Meaning}
 use Rattle.token.specs.Cut.{meanings-in}
+use Rattle.index.proofs.Judged.{judged-kept}
+use Rattle.oid_rule.specs.Rules.{length-rules}
 use Rattle.oid_rule.proofs.Judging.{reached-broken, lengths-broken, lengths-kept, room-kept, left-broken, left-written}
 use borrow.Author.Needs.{needs}
 use Rattle.oid_rule.proofs.judge_oids.Statement.{statement}
@@ -39,7 +41,7 @@ room : (l : tie.After-judge-lengths) → l .judge-lengths .result ≡ Kept → f
 room l kept =
     let s = start (reached l) in
     let ms = said-by (reached l) in
-    let fits = room-kept ms (sym (l .judge-lengths .ensures) ∙ kept) in
+    let fits = room-kept ms (judged-kept (length-rules ms) (sym (l .judge-lengths .ensures) ∙ kept) .1 .0) in
     omega (arith, ap (first-number ms) (definitions-counted (s .pre .0)), fits, s .pre .1 .1)
 
 collect-heads-requires : tie.Need-collect-heads-requires
