@@ -5,7 +5,9 @@ use mathlib.Core.List.{List}
 use Prim.Native.Nat.{ℕ, _≤_}
 use native.Mathlib.Omega.{arith}
 use lib.ListN.{length}
+use Rattle.index.specs.Rule.{judge}
 use Rattle.index.specs.declared.TokenIndex.{TokenIndex}
+use Rattle.index.proofs.Each.{row-kept, row-broken}
 use Rattle.index.specs.declared.Judgement.{Judgement}
 use Rattle.index.specs.declared.Judgement.the-variants.{Kept, Broken}
 use Rattle.token.specs.Token.{Tok, Meaning, meanings}
@@ -21,8 +23,11 @@ use Rattle.number_buffer.proofs.Held.{written-held}
 use Rattle.number_buffer.proofs.Writing.{overlaid-length}
 use Rattle.record.specs.Record.{records-before}
 use Rattle.record.proofs.Words.{before-long}
-use Rattle.reader.specs.Reading.{judged}
-use Rattle.reader.specs.Buffers.{record-words, Laid, RecordsLaid}
+use Rattle.name_rule.specs.Refusal.{name-rules, names-judged}
+use Rattle.reader.specs.Reading.{judged, later-rules, rules}
+use Rattle.reader.specs.Buffers.{record-words, answer-to, refusal-of, Laid, RecordsLaid}
+use Rattle.reader.specs.declared.Answer.{Answer}
+use Rattle.reader.specs.declared.Answer.the-variants.{Accepted}
 
 module _ (ts : List Tok) where
   -- a refusal before any record is written
@@ -65,3 +70,31 @@ pub numbers-table : (ms : List Meaning) (firsts before after : List ℕ) (c : �
 numbers-table ms firsts before after c held counted few =
     written-held ms firsts before after c (first-number ms c) few (subst (RunTable ms firsts) counted (held .runs))
     (record { counted = refl; held = held .numbers ∙ ap (λ (k : ℕ). overlaid (numbers-before ms k) before) counted })
+
+-- ---- the answer to what the rules say
+
+module _ (ts : List Tok) (r j : Judgement) (is : r ≡ j) where
+  pub answer-broken : (number : ℕ) (place : TokenIndex) → r ≡ Broken number place → (a : Answer) → a ≡ refusal-of ts r → a ≡ answer-to (judged ts j)
+  answer-broken number place e a answered =
+      answered ∙ ap (refusal-of ts) e ∙ sym (ap (λ (x : Judgement). answer-to (judged ts x)) (sym is ∙ e))
+
+  pub answer-kept : r ≡ Kept → (c : ℕ) → count-of (meanings ts) ≡ c → Accepted c ≡ answer-to (judged ts j)
+  answer-kept e c counted = ap Accepted (sym counted) ∙ sym (ap (λ (x : Judgement). answer-to (judged ts x)) (sym is ∙ e))
+
+  pub laid-as : (records records′ numbers numbers′ : List ℕ) → Laid (judged ts r) records records′ numbers numbers′ → Laid (judged ts j) records records′ numbers numbers′
+  laid-as records records′ numbers numbers′ laid = subst (λ (x : Judgement). Laid (judged ts x) records records′ numbers numbers′) is laid
+
+-- a refusal by the rules on names leaves both buffers
+pub laid-refused : (ts : List Tok) (j : Judgement) (records numbers : List ℕ) (number : ℕ) (place : TokenIndex) → j ≡ Broken number place → Laid (judged ts j) records records numbers numbers
+laid-refused ts j records numbers number place e = subst (λ (x : Judgement). Laid (judged ts x) records records numbers numbers) (sym e) (refl, refl)
+
+-- ---- the rules on names come first
+
+module _ (ms : List Meaning) (v : Judgement) (is : v ≡ names-judged ms) where
+  pub names-broken : (number : ℕ) (place : TokenIndex) → v ≡ Broken number place → v ≡ judge (rules ms)
+  unfolding rules names-judged
+  names-broken number place e = row-broken (name-rules ms) (later-rules ms) v is number place e
+
+  pub names-kept : v ≡ Kept → judge (rules ms) ≡ judge (later-rules ms)
+  unfolding rules names-judged
+  names-kept e = row-kept (name-rules ms) (later-rules ms) v is e

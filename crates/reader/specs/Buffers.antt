@@ -10,7 +10,7 @@ use Rattle.index.specs.declared.Judgement.{Judgement}
 use Rattle.index.specs.declared.Judgement.the-variants as judgement
 use Rattle.token.specs.Token.{Tok, meanings}
 use Rattle.oid.specs.Oid.{count-of as definitions-in}
-use Rattle.record.specs.Record.{records-before}
+use Rattle.record.specs.Record.{start-of, records-before}
 use Rattle.syntax.specs.Parsing.{Parses}
 use Rattle.syntax.specs.declared.Answer.{Answer as Parsing}
 use Rattle.reader.specs.Reading.{Outcome, accepted, refused, outcome}
@@ -45,6 +45,11 @@ filled size words before = words ++ (replicate (size - length words) 0 ++ drop s
 abbrev pub answer-to : Outcome → Answer
 answer-to (accepted count records numbers) = Accepted count
 answer-to (refused number place) = Refused number (record { 0 = place })
+
+-- the answer where a rule is broken
+abbrev pub refusal-of : List Tok → Judgement → Answer
+refusal-of ts judgement.Kept = Accepted 0
+refusal-of ts (judgement.Broken number token) = Refused number (record { 0 = start-of ts (token .0) })
 
 abbrev pub records-in : Outcome → List ℕ
 records-in (accepted count records numbers) = records

@@ -1,4 +1,5 @@
 // The reader: one call that reads a module's text into records and sub-identifiers, or says which rule it breaks first, and where.
+mod module;
 mod shape;
 
 use index::Place;

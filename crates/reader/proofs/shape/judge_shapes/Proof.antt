@@ -29,8 +29,7 @@ returns c = row-broken _ _ _ (c .before .before .judge-syntax .ensures) _ _ (c .
 -- src/shape.rt:63:5
 judge-tables-requires : tie.Need-judge-tables-requires
 judge-tables-requires c κs =
-    let s = c .before .before .before .before .before .before .before in
-    (
+    let s = c .before .before .before .before .before .before .before in (
       s .pre .0,
       (
         record {

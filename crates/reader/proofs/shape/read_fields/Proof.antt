@@ -75,8 +75,7 @@ same-length c = search needs
 returns : tie.Need-returns
 returns c =
     let o = c .before .before .before .before in
-    let told = c .enum-told2 .given .1 in
-    (
+    let told = c .enum-told2 .given .1 in (
       rule-broken o _ _ told,
       laid-broken (tokens (start o)) (o .judge-oids .result) _ _ _ _ _ told (oids-broken _ _ _ _ _ (o .judge-oids .ensures .1) _ _ told),
     )
@@ -86,8 +85,7 @@ read-shapes-requires : tie.Need-read-shapes-requires
 read-shapes-requires c κs =
     let o = c .before .before .before .before .before .before .before in
     let s = start o in
-    let kept = c .before .before .before .enum-told .given .1 in
-    (
+    let kept = c .before .before .before .enum-told .given .1 in (
       s .pre .0,
       (
         numbers-table _ _ _ _ (s .args .c) (held o kept) (definitions-counted (s .pre .0)) (s .pre .0 .names .few-definitions),
@@ -109,8 +107,7 @@ returns-2 c =
     let o = c .before .before .before .before .before .before .before .before .before .before in
     let s = start o in
     let r = c .before .before in
-    let kept = c .before .before .before .before .before .before .enum-told .given .1 in
-    (
+    let kept = c .before .before .before .before .before .before .enum-told .given .1 in (
       rules-kept o kept _ (r .read-shapes .ensures .0),
       laid-both (tokens s) (r .read-shapes .result) _ _ _ _ (r .read-shapes .ensures .1) (held o kept .numbers) (omega (arith, few o kept, s .pre .1 .1)),
     )
