@@ -1,6 +1,7 @@
 -- What the steps of reading leave in the two buffers.
 -- Assumes nothing.
 use mathlib.Core.Path.{_≡_, refl, sym, ap, subst, _∙_}
+use mathlib.Core.Logic.{_⊎_, ⊎-elim}
 use mathlib.Core.List.{List}
 use Prim.Native.Nat.{ℕ, _≤_}
 use native.Mathlib.Omega.{arith}
@@ -11,7 +12,11 @@ use Rattle.index.proofs.Each.{row-kept, row-broken}
 use Rattle.index.specs.declared.Judgement.{Judgement}
 use Rattle.index.specs.declared.Judgement.the-variants.{Kept, Broken}
 use Rattle.token.specs.Token.{Tok, Meaning, meanings}
-use Rattle.token.specs.Table.{overlaid}
+use Rattle.token.specs.Cut.{cut, meanings-in}
+use Rattle.token.specs.Table.{TokenTable, overlaid}
+use Rattle.syntax.specs.Parsing.{Tabled}
+use Rattle.syntax.specs.declared.Answer.{Answer as Parsing}
+use Rattle.syntax.specs.declared.Answer.the-variants.{Derived, Underived, Uncut}
 use Rattle.name.specs.Collect.{most-definitions}
 use Rattle.oid.specs.Oid.{count-of, numbers-before, first-number}
 use Rattle.oid.specs.Runs.{RunTable}
@@ -24,8 +29,8 @@ use Rattle.number_buffer.proofs.Writing.{overlaid-length}
 use Rattle.record.specs.Record.{records-before}
 use Rattle.record.proofs.Words.{before-long}
 use Rattle.name_rule.specs.Refusal.{name-rules, names-judged}
-use Rattle.reader.specs.Reading.{judged, later-rules, rules}
-use Rattle.reader.specs.Buffers.{record-words, answer-to, refusal-of, Laid, RecordsLaid}
+use Rattle.reader.specs.Reading.{judged, later-rules, rules, outcome}
+use Rattle.reader.specs.Buffers.{record-words, answer-to, refusal-of, unparsed, Laid, RecordsLaid}
 use Rattle.reader.specs.declared.Answer.{Answer}
 use Rattle.reader.specs.declared.Answer.the-variants.{Accepted}
 
@@ -98,3 +103,39 @@ module _ (ms : List Meaning) (v : Judgement) (is : v ≡ names-judged ms) where
   pub names-kept : v ≡ Kept → judge (rules ms) ≡ judge (later-rules ms)
   unfolding rules names-judged
   names-kept e = row-kept (name-rules ms) (later-rules ms) v is e
+
+-- ---- how the text is parsed
+
+module _ (text : List ℕ) (p : Parsing) where
+  -- a text that is not derived is refused, and leaves both buffers. `x` numbers the cases of the parsing's answer
+  module _ (x : ℕ) (first : (n : ℕ) → p ≡ Derived n → x ≡ 0) (other : (x ≡ 1) ⊎ (x ≡ 2)) where
+    not-derived : (n : ℕ) → p ≡ Derived n → ⊥
+    not-derived n e = ⊎-elim (λ one. omega (arith, first n e)) (λ two. omega (arith, first n e)) other
+
+    pub unparsed-answer : unparsed p ≡ answer-to (outcome text p)
+    unparsed-answer = go p refl
+      where
+        go : (q : Parsing) → p ≡ q → unparsed q ≡ answer-to (outcome text q)
+        go (Derived n) e = absurd (not-derived n e)
+        go (Underived n at) e = refl
+        go (Uncut number at) e = refl
+
+    pub unparsed-laid : (records numbers : List ℕ) → Laid (outcome text p) records records numbers numbers
+    unparsed-laid records numbers = go p refl
+      where
+        go : (q : Parsing) → p ≡ q → Laid (outcome text q) records records numbers numbers
+        go (Derived n) e = absurd (not-derived n e)
+        go (Underived n at) e = (refl, refl)
+        go (Uncut number at) e = (refl, refl)
+
+  -- one that is derived is judged
+  module _ (n : ℕ) (e : p ≡ Derived n) where
+    pub derived-answer : (a : Answer) → a ≡ answer-to (judged (cut text .tokens) (judge (rules (meanings-in text)))) → a ≡ answer-to (outcome text p)
+    derived-answer a is = is ∙ sym (ap (λ (q : Parsing). answer-to (outcome text q)) e)
+
+    pub derived-laid : (records records′ numbers numbers′ : List ℕ) → Laid (judged (cut text .tokens) (judge (rules (meanings-in text)))) records records′ numbers numbers′
+        → Laid (outcome text p) records records′ numbers numbers′
+    derived-laid records records′ numbers numbers′ laid = subst (λ (q : Parsing). Laid (outcome text q) records records′ numbers numbers′) (sym e) laid
+
+    pub derived-tokens : (classes starts ends : List ℕ) → Tabled text p classes starts ends → TokenTable text (cut text .tokens) classes starts ends n
+    derived-tokens classes starts ends tabled = subst (λ (q : Parsing). Tabled text q classes starts ends) e tabled

@@ -1,1 +1,3 @@
 pub mod Laying
+pub mod Clearing
+pub mod Parts

@@ -13,6 +13,7 @@ use Rattle.oid.specs.Oid.{count-of as definitions-in}
 use Rattle.record.specs.Record.{start-of, records-before}
 use Rattle.syntax.specs.Parsing.{Parses}
 use Rattle.syntax.specs.declared.Answer.{Answer as Parsing}
+use Rattle.syntax.specs.declared.Answer.the-variants.{Derived, Underived, Uncut}
 use Rattle.reader.specs.Reading.{Outcome, accepted, refused, outcome}
 use Rattle.reader.specs.declared.Answer.{Answer}
 use Rattle.reader.specs.declared.Answer.the-variants.{Accepted, Refused}
@@ -39,7 +40,7 @@ number-words = 8192
 
 -- a buffer whose working part holds these words and then zeros; the words beyond it are as they were
 abbrev pub filled : ℕ → List ℕ → List ℕ → List ℕ
-filled size words before = words ++ (replicate (size - length words) 0 ++ drop size before)
+filled size words before = (words ++ replicate (size - length words) 0) ++ drop size before
 
 -- the answer to an outcome, and the words that each buffer's working part holds: after a refusal all are zero
 abbrev pub answer-to : Outcome → Answer
@@ -70,6 +71,31 @@ Laid (refused number place) records records′ numbers numbers′ = (length reco
 abbrev pub RecordsLaid : List Tok → Judgement → List ℕ → List ℕ → Type 0
 RecordsLaid ts judgement.Kept records records′ = records′ ≡ overlaid (records-before ts (definitions-in (meanings ts))) records
 RecordsLaid ts (judgement.Broken number place) records records′ = length records′ ≡ length records
+
+-- What reading a text within the limit into two buffers answers and leaves, by the right answer to its parsing.
+pub record ReadInto (text : List ℕ) (answer : Answer) (records records′ numbers numbers′ : List ℕ) : Type 0 where
+  pub parsing : Parsing
+  pub right : Parses text parsing
+  pub answered : answer ≡ answer-to (outcome text parsing)
+  pub laid : Laid (outcome text parsing) records records′ numbers numbers′
+
+-- the answer to a text that is not derived
+abbrev pub unparsed : Parsing → Answer
+unparsed (Derived n) = Accepted 0
+unparsed (Underived n at) = Refused 7 at
+unparsed (Uncut number at) = Refused number at
+
+-- so many zeros
+abbrev pub zeros : ℕ → List ℕ
+zeros n = replicate n 0
+
+-- What reading into the working parts leaves: the words that were read, and then zeros.
+pub record ReadParts (text : List ℕ) (answer : Answer) (records numbers : List ℕ) : Type 0 where
+  pub parsing : Parsing
+  pub right : Parses text parsing
+  pub answered : answer ≡ answer-to (outcome text parsing)
+  pub records-left : records ≡ records-in (outcome text parsing) ++ zeros (record-words - length (records-in (outcome text parsing)))
+  pub numbers-left : numbers ≡ numbers-in (outcome text parsing) ++ zeros (number-words - length (numbers-in (outcome text parsing)))
 
 -- the answer is right, and the two buffers hold these words
 pub record Left (answer right : Answer) (records words numbers sub-identifiers : List ℕ) : Type 0 where

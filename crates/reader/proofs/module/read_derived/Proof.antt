@@ -88,8 +88,7 @@ returns-2 c =
     let j = c .before .before .before .before .before .before .before .before .before .before .before .before in
     let s = start j in
     let w = c .before .before .before .before in
-    let same = names-kept (said-by s) (judgement (j .judge-names .result)) (j .judge-names .ensures .0) (ap judgement (c .before .before .before .before .before .before .before .before .before .before .names .given .1)) in
-    (
+    let same = names-kept (said-by s) (judgement (j .judge-names .result)) (j .judge-names .ensures .0) (ap judgement (c .before .before .before .before .before .before .before .before .before .before .names .given .1)) in (
       w .read-named .ensures .0 ∙ ap (λ (x : Judgement). answer-to (judged (tokens s) x)) (sym same),
       laid-as (tokens s) _ _ (sym same) _ _ _ _ (w .read-named .ensures .1),
     )

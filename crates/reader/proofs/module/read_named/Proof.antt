@@ -57,8 +57,7 @@ returns : tie.Need-returns
 returns c =
     let r = c .before .before .before .before .before .before .before in
     let ts = tokens (start r) in
-    let told = c .before .enum-told2 .given .1 in
-    (
+    let told = c .before .enum-told2 .given .1 in (
       answer-broken ts _ _ (r .read-fields .ensures .0) _ _ told _ (c .refusal .ensures),
       laid-as ts (r .read-fields .result) _ (r .read-fields .ensures .0) _ _ _ _ (r .read-fields .ensures .1),
     )
@@ -76,8 +75,7 @@ returns-2 : tie.Need-returns-2
 returns-2 c =
     let r = c .before .before .before .before .before .before in
     let s = start r in
-    let ts = tokens s in
-    (
+    let ts = tokens s in (
       answer-kept ts _ _ (r .read-fields .ensures .0) (c .enum-told .given .1) (s .args .c) (counted s),
       laid-as ts (r .read-fields .result) _ (r .read-fields .ensures .0) _ _ _ _ (r .read-fields .ensures .1),
     )
