@@ -1,3 +1,4 @@
 pub mod Laying
 pub mod Clearing
 pub mod Parts
+pub mod Ends
