@@ -95,11 +95,11 @@ fn has_its_row(
 {
     let at = k.0;
     let number = types[at];
-    let r = next_row(text, c, fields, classed, firsts, numbers, types, number, 0);
-    if c <= r {
+    let first = next_row(text, c, fields, classed, firsts, numbers, types, number, 0);
+    if c <= first {
         return false;
     }
-    if next_row(
+    let second = next_row(
         text,
         c,
         fields,
@@ -108,13 +108,12 @@ fn has_its_row(
         numbers,
         types,
         number,
-        r + 1,
-    )
-        < c
-    {
+        first + 1,
+    );
+    if second < c {
         return false;
     }
-    is_below_by(firsts, numbers, k, RecordIndex(r), ROW_NUMBER)
+    is_below_by(firsts, numbers, k, RecordIndex(first), ROW_NUMBER)
 }
 
 // Whether it is a table whose SEQUENCE type has not exactly one row, at the table's OID followed by 1.
