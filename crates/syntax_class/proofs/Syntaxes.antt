@@ -6,26 +6,19 @@ use mathlib.Core.List.{List}
 use Prim.Native.Nat.{ℕ, _+_, _-_, _≤_, _<_}
 use native.Mathlib.Decide.{decLt}
 use native.Mathlib.Omega.{arith}
-use borrow.Author.Tests.{eqb-true, ltb-true}
-use lib.Dec.{eqb, ltb}
+use borrow.Author.Tests.{eqb-true}
+use lib.Dec.{eqb}
 use lib.ListN.{length, getD, List·getD-eq-default}
 use Rattle.index.proofs.Search.{first-inside}
 use Rattle.index.proofs.Hits.{hit-inside}
 use Rattle.index.specs.declared.TokenIndex.{TokenIndex}
 use Rattle.terminal.specs.Terminal.{Upper, INTEGER, OCTET, OBJECT, BITS}
-use Rattle.lexicon.specs.Word.{same}
-use Rattle.token.specs.Token.{Meaning}
-use Rattle.symbol.specs.Symbol.{iso-name, symbol-of}
 use Rattle.definition.specs.Landmark.{class-at, begins, last, definitions, definition-end}
 use Rattle.definition.specs.Fields.{fields-of, fields-at, restriction-at, syntax-at}
 use Rattle.definition.specs.declared.Restriction.{Restriction}
 use Rattle.definition.specs.declared.Syntax.the-variants.{Integer, Named, Octets, ObjectIdentifier, Bits, SequenceOf}
 use Rattle.definition.proofs.Inside.{syntax-inside}
-use Rattle.name.specs.Import.{classes-of, imports}
-use Rattle.name.specs.Lead.{named, leads-to}
-use Rattle.name.specs.declared.Lead.the-variants.{Iso, Import, Definition, Nothing}
 use Rattle.syntax_class.specs.Class.{type-name}
-use Rattle.syntax_class.specs.Table.{LeadInside}
 use Rattle.syntax_class.specs.declared.TypeName.{TypeName}
 use Rattle.syntax_class.specs.declared.TypeName.the-variants.{Name, Unnamed}
 
@@ -79,17 +72,3 @@ module _ (cs : List ℕ) where
       named-by s t (eqb (class-at cs s) INTEGER) (eqb (class-at cs s) Upper) (eqb (class-at cs s) OCTET) (eqb (class-at cs s) OBJECT) (eqb (class-at cs s) BITS)
       (restriction-at cs (s + 1) e) (restriction-at cs (s + 1) e) (restriction-at cs (s + 2) e) (restriction-at cs (s + 1) e) (record { 0 = s + 2 }) is in
       omega (arith, by .1, upper-inside s (eqb-true (class-at cs s) Upper (by .0)))
-
--- a definition that a name leads to is one of the module's
-pub lead-inside : (ms : List Meaning) (s : List ℕ) → LeadInside (length (definitions (classes-of ms))) (leads-to ms s)
-unfolding leads-to
-lead-inside ms s =
-    go (same s iso-name) (ltb (named ms (imports (classes-of ms)) s) (length (imports (classes-of ms))))
-    (ltb (named ms (definitions (classes-of ms)) s) (length (definitions (classes-of ms)))) refl
-  where
-    go : (a b c : Bool) → ltb (named ms (definitions (classes-of ms)) s) (length (definitions (classes-of ms))) ≡ c
-        → LeadInside (length (definitions (classes-of ms))) (cond a Iso (cond b (Import (symbol-of s)) (cond c (Definition (record { 0 = named ms (definitions (classes-of ms)) s })) Nothing)))
-    go true b c e = tt
-    go false true c e = tt
-    go false false true e = ltb-true _ _ e
-    go false false false e = tt

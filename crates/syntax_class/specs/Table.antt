@@ -6,18 +6,9 @@ use Prim.Native.Nat.{ℕ, _<_}
 use lib.ListN.{length, getD}
 use Rattle.token.specs.Token.{Meaning}
 use Rattle.name.specs.Collect.{most-definitions}
-use Rattle.name.specs.declared.Lead.{Lead}
-use Rattle.name.specs.declared.Lead.the-variants.{Iso, Import, Definition, Nothing}
 use Rattle.syntax_class.specs.Class.{class-of}
 
 -- the first c entries are the classes of the definitions
 pub record ClassTable (ms : List Meaning) (array : List ℕ) (c : ℕ) : Type 0 where
   pub long : length array ≡ most-definitions
   pub entry : (k : ℕ) → k < c → getD array k 0 ≡ class-of ms k
-
--- a definition that a name leads to is one of the first c
-abbrev pub LeadInside : ℕ → Lead → Type 0
-LeadInside c Iso = Unit {0}
-LeadInside c (Import k) = Unit {0}
-LeadInside c (Definition r) = r .0 < c
-LeadInside c Nothing = Unit {0}

@@ -6,7 +6,8 @@ ghost use Rattle.token.specs.Cut.{meanings-in};
 ghost use Rattle.name.specs.Collect.{most-definitions};
 ghost use Rattle.field_table.specs.Table.{ModuleTable};
 ghost use Rattle.syntax_class.specs.Class.{convention-class, type-definition-class, lead-class, object-class, class-of};
-ghost use Rattle.syntax_class.specs.Table.{ClassTable, LeadInside};
+ghost use Rattle.syntax_class.specs.Table.{ClassTable};
+ghost use Rattle.name.specs.Lead.{Inside};
 use crate::ROW;
 use crate::TypeName;
 use crate::UNSETTLED;
@@ -116,7 +117,7 @@ fn lead_class(
     lead: Lead,
 ) -> u8
     requires table { ⌜ ModuleTable (now text) (now classes) (now starts) (now ends) n (now imported) m (now defined) c (now fields) ⌝ }
-    requires lead { ⌜ LeadInside c lead ⌝ }
+    requires lead { ⌜ Inside c lead ⌝ }
     ensures { λ r. ⌜ r ≡ lead-class (meanings-in (now (text .entry))) lead ⌝ }
 {
     match lead {

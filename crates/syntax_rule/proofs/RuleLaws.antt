@@ -25,7 +25,8 @@ use Rattle.restriction.specs.Within.{BracketedIn}
 use Rattle.restriction.proofs.Bracketing.{restriction-bracketed}
 use Rattle.syntax_class.specs.Class.{syntax-of}
 use Rattle.syntax_class.proofs.Syntaxes.{syntax-early}
-use Rattle.syntax_class.proofs.Tables.{taken, enough, counted-said}
+use Rattle.syntax_class.proofs.Tables.{enough}
+use Rattle.field_table.proofs.Said.{classes-said, definitions-counted}
 use Rattle.syntax_rule.specs.Refusal.{nothing-tested, restriction-of}
 
 pub nothing-kept : (number : ℕ) → Kept ≡ judge-one (nothing-tested number)
@@ -65,14 +66,14 @@ pub table-bracketed : {text classes starts ends imported defined fields : List �
     → (k : ℕ) → k < c → (syntax : Syntax) → syntax ≡ syntax-of (classes-of (meanings-in text)) k → BracketedIn (restriction-of syntax)
 table-bracketed {text} {classes} {n = n} {c = c} t k h syntax is =
     let cs = classes-of (meanings-in text) in
-    let long : length cs ≡ n = sym (ap length (taken t)) ∙ length-take-le n classes (enough t .0) in
+    let long : length cs ≡ n = sym (ap length (classes-said t)) ∙ length-take-le n classes (enough t .0) in
     subst (λ (x : Syntax). BracketedIn (restriction-of x)) (sym is)
-    (definition-bracketed cs (omega (arith, enough t .1)) k (omega (arith, counted-said t)))
+    (definition-bracketed cs (omega (arith, enough t .1)) k (omega (arith, definitions-counted t)))
 
 -- where the table says that the syntax of a definition stands
 pub syntax-placed : {text classes starts ends imported defined fields : List ℕ} {n m c : ℕ} (t : ModuleTable text classes starts ends n imported m defined c fields)
     → (k : ℕ) → k < c → span-in fields k 4 ≡ fields-at (classes-of (meanings-in text)) k .syntax
-syntax-placed t k h = syntax-held _ _ _ (t .fields-held) k h ∙ ap (λ (cs : List ℕ). fields-at cs k .syntax) (taken t)
+syntax-placed t k h = syntax-held _ _ _ (t .fields-held) k h ∙ ap (λ (cs : List ℕ). fields-at cs k .syntax) (classes-said t)
 
 -- the last rule of a list
 pub last-rule : (r : Rule) → judge-one r ≡ judge (r ∷ [])

@@ -19,10 +19,10 @@ use Rattle.name.specs.Import.{classes-of}
 use Rattle.name.specs.declared.Lead.{Lead}
 use Rattle.name.specs.declared.Lead.the-variants.{Iso, Import, Definition, Nothing}
 use Rattle.syntax_class.specs.Class.{unsettled, kind-of, syntax-of, type-name, lead-in, is-indirect, class-of}
-use Rattle.syntax_class.specs.Table.{LeadInside}
+use Rattle.name.specs.Lead.{Inside}
 use Rattle.syntax_class.specs.declared.TypeName.{TypeName}
 use Rattle.syntax_class.specs.declared.TypeName.the-variants.{Name, Unnamed}
-use Rattle.syntax_class.proofs.Syntaxes.{lead-inside}
+use Rattle.name.proofs.Names.{leads-inside}
 use Rattle.syntax_rule.specs.Refusal.{leads-to-indirect, is-untested, misplaced-in, outside-in, misfit-in, indirect-convention, syntax-rules}
 use Rattle.syntax_rule.proofs.Unsettled.{untested-unsettled}
 
@@ -47,14 +47,14 @@ module _ (ms : List Meaning) (kept : judge (syntax-rules ms) ≡ Kept) where
       (later-kept (each (misfit-in ms) 0 all) conventions
       (later-kept (each (outside-in ms) 0 all) items (later-kept (each (misplaced-in ms) 0 all) limits kept))) .0 k (omega arith) h
 
-  leads-direct : (lead : Lead) → LeadInside (length (definitions (classes-of ms))) lead → leads-to-indirect ms lead ≡ false
+  leads-direct : (lead : Lead) → Inside (length (definitions (classes-of ms))) lead → leads-to-indirect ms lead ≡ false
   leads-direct Iso h = refl
   leads-direct (Import k) h = refl
   leads-direct (Definition r) h = direct (r .0) h
   leads-direct Nothing h = refl
 
-  name-inside : (name : TypeName) → LeadInside (length (definitions (classes-of ms))) (lead-in ms name)
-  name-inside (Name t) = lead-inside ms _
+  name-inside : (name : TypeName) → Inside (length (definitions (classes-of ms))) (lead-in ms name)
+  name-inside (Name t) = leads-inside ms _
   name-inside Unnamed = tt
 
   -- so 17 is tested in each definition

@@ -17,12 +17,12 @@ use Rattle.name.specs.declared.Lead.{Lead}
 use Rattle.name.specs.declared.Lead.the-variants.{Iso, Import, Definition, Nothing}
 use Rattle.oid.specs.Oid.{count-of}
 use Rattle.syntax_class.specs.Class.{syntax-of, lead-of}
-use Rattle.syntax_class.specs.Table.{LeadInside}
-use Rattle.syntax_class.proofs.Syntaxes.{lead-inside}
+use Rattle.name.specs.Lead.{Inside}
+use Rattle.name.proofs.Names.{leads-inside}
 use Rattle.table.specs.Member.{is-table, is-row, definition-number, type-token, number-at, type-of, columns-of}
 
 -- a lead to one of the first c leads to one of more
-pub lead-wider : (l : Lead) (c d : ℕ) → c ≤ d → LeadInside c l → LeadInside d l
+pub lead-wider : (l : Lead) (c d : ℕ) → c ≤ d → Inside c l → Inside d l
 lead-wider Iso c d h inside = tt
 lead-wider (Import k) c d h inside = tt
 lead-wider (Definition r) c d h inside = omega arith
@@ -50,7 +50,7 @@ module _ (ms : List Meaning) (k : ℕ) {r : Bool} (is : r ≡ (is-table ms k || 
 
 -- the number of a type is that of a definition, or 0
 module _ (ms : List Meaning) where
-  number-few : (l : Lead) → LeadInside (count-of ms) l → definition-number l ≤ count-of ms
+  number-few : (l : Lead) → Inside (count-of ms) l → definition-number l ≤ count-of ms
   number-few Iso inside = omega arith
   number-few (Import k) inside = omega arith
   number-few (Definition r) inside = omega arith
@@ -61,7 +61,7 @@ module _ (ms : List Meaning) where
   at-few i = go (ltb i (length ms))
     where
       go : (b : Bool) → cond b (definition-number (lead-of ms i)) 0 ≤ count-of ms
-      go true = number-few (lead-of ms i) (lead-inside ms (spelled ms i))
+      go true = number-few (lead-of ms i) (leads-inside ms (spelled ms i))
       go false = omega arith
 
   pub type-few : (k : ℕ) → type-of ms k ≤ count-of ms

@@ -5,7 +5,7 @@ ghost use lib.ListN.{length};
 ghost use Rattle.token.specs.Cut.{meanings-in};
 ghost use Rattle.name.specs.Collect.{most-definitions};
 ghost use Rattle.field_table.specs.Table.{ModuleTable};
-ghost use Rattle.syntax_class.specs.Table.{LeadInside};
+ghost use Rattle.name.specs.Lead.{Inside};
 ghost use Rattle.table.specs.Member.{definition-number, type-token, number-at, type-of};
 ghost use Rattle.table.specs.Held.{ObjectTable, TypeTable};
 use crate::member::has_type;
@@ -18,7 +18,7 @@ use syntax_class::syntax_of;
 
 // The number of the definition that a name leads to, counted from 1; 0 where it leads to none.
 fn definition_number(lead: Lead) -> usize
-    requires { ⌜ LeadInside most-definitions lead ⌝ }
+    requires { ⌜ Inside most-definitions lead ⌝ }
     ensures { λ r. ⌜ r ≡ definition-number lead ⌝ }
 {
     match lead {

@@ -4,7 +4,7 @@ ghost use mathlib.Core.Bool.{_&&_};
 ghost use Prim.Native.Nat.{_<_};
 ghost use Rattle.token.specs.Cut.{meanings-in};
 ghost use Rattle.field_table.specs.Table.{ModuleTable};
-ghost use Rattle.syntax_class.specs.Table.{LeadInside};
+ghost use Rattle.name.specs.Lead.{Inside};
 ghost use Rattle.table.specs.Member.{is-row, has-index};
 ghost use Rattle.table.specs.Held.{ObjectTable};
 ghost use Rattle.table_list.specs.Listed.{WantedInside, is-wanted, leads-to-wanted, is-unwanted, some-unwanted};
@@ -80,7 +80,7 @@ fn leads_to_wanted(
 ) -> bool
     requires objects { ⌜ ObjectTable (meanings-in (now text)) c (now fields) (now classed) (now firsts) (now numbers) ⌝ }
     requires wanted { ⌜ WantedInside c wanted ⌝ }
-    requires lead { ⌜ LeadInside c lead ⌝ }
+    requires lead { ⌜ Inside c lead ⌝ }
     ensures { λ r. ⌜ r ≡ leads-to-wanted (meanings-in (now (text .entry))) wanted lead ⌝ }
 {
     match lead {

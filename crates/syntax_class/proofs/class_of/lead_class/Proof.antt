@@ -4,7 +4,7 @@ use mathlib.Core.Path.{sym, ap, subst}
 use borrow.Author.Needs.{needs}
 use Rattle.token.specs.Cut.{meanings-in}
 use Rattle.syntax_class.specs.Class.{lead-class}
-use Rattle.syntax_class.specs.Table.{LeadInside}
+use Rattle.name.specs.Lead.{Inside}
 use Rattle.syntax_class.proofs.class_of.lead_class.Statement.{statement}
 use Rattle.syntax_class.proofs.class_of.lead_class.Tie as tie
 
@@ -23,7 +23,7 @@ enum-known-lead-2 c = search needs
 type-definition-class-requires : tie.Need-type-definition-class-requires
 type-definition-class-requires c κs =
     let s = c .before .before .before .before in
-    (s .pre .0, subst (LeadInside (s .args .c)) (c .before .lead2 .given .1) (s .pre .1))
+    (s .pre .0, subst (Inside (s .args .c)) (c .before .lead2 .given .1) (s .pre .1))
 
 enum-told-2 : tie.Need-enum-told-2
 enum-told-2 c = search needs

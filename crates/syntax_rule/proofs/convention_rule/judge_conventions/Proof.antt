@@ -8,7 +8,7 @@ use Rattle.index.proofs.Judged.{breach-found, no-breach}
 use Rattle.token.specs.Cut.{meanings-in}
 use Rattle.definition.specs.declared.Span.{Span}
 use Rattle.syntax_class.specs.Class.{is-indirect}
-use Rattle.syntax_class.proofs.Tables.{counted-said}
+use Rattle.field_table.proofs.Said.{definitions-counted}
 use Rattle.syntax_rule.specs.Refusal.{indirect-convention}
 use Rattle.syntax_rule.proofs.RuleLaws.{syntax-placed}
 use Rattle.syntax_rule.proofs.convention_rule.judge_conventions.Statement.{statement}
@@ -42,7 +42,7 @@ returns c =
     let s = l .before .before in
     let t = s .pre .0 in
     let below = inside .loop-test .taken in
-    breach-found (indirect-convention (meanings-in (s .args .text .now))) (s .args .c) (l .loop .k) (counted-said t) (l .loop .inv) below
+    breach-found (indirect-convention (meanings-in (s .args .text .now))) (s .args .c) (l .loop .k) (definitions-counted t) (l .loop .inv) below
     (sym (found .before .is-indirect .ensures) ∙ found .if1 .taken) _
     (ap (λ (x : Span). x .from) (c .syntax .ensures ∙ syntax-placed t (l .loop .k) below))
 
@@ -63,7 +63,7 @@ unfolding indirect-convention
 returns-2 c =
     let l = c .before in
     let s = l .before .before in
-    no-breach (indirect-convention (meanings-in (s .args .text .now))) (s .args .c) (l .loop .k) (counted-said (s .pre .0)) (l .loop .inv) (c .loop-test .left)
+    no-breach (indirect-convention (meanings-in (s .args .text .now))) (s .args .c) (l .loop .k) (definitions-counted (s .pre .0)) (l .loop .inv) (c .loop-test .left)
 
 pub judge-conventions-spec : {M : Type 1} → statement M
 judge-conventions-spec =

@@ -3,7 +3,7 @@
 use mathlib.Core.Path.{sym, ap, subst}
 use native.Mathlib.Omega.{arith}
 use Rattle.name.specs.Collect.{most-definitions}
-use Rattle.syntax_class.specs.Table.{LeadInside}
+use Rattle.name.specs.Lead.{Inside}
 use Rattle.table.specs.Member.{definition-number}
 use borrow.Author.Needs.{needs}
 use Rattle.table.proofs.sequence.definition_number.Statement.{statement}
@@ -21,7 +21,7 @@ enum-known-lead c = search needs
 add-result : tie.Need-add-result
 add-result c =
     let s = c .before .before .before .before in
-    omega (arith, subst (LeadInside most-definitions) (c .before .before .lead .given .1) (s .pre))
+    omega (arith, subst (Inside most-definitions) (c .before .before .lead .given .1) (s .pre))
 
 enum-told-3 : tie.Need-enum-told-3
 enum-told-3 c = search needs

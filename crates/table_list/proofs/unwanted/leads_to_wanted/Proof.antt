@@ -1,7 +1,7 @@
 -- `leads_to_wanted` is right: it is the definition, case by case.
 -- Assumes nothing.
 use mathlib.Core.Path.{subst}
-use Rattle.syntax_class.specs.Table.{LeadInside}
+use Rattle.name.specs.Lead.{Inside}
 use borrow.Author.Needs.{needs}
 use Rattle.table_list.proofs.unwanted.leads_to_wanted.Statement.{statement}
 use Rattle.table_list.proofs.unwanted.leads_to_wanted.Tie as tie
@@ -18,7 +18,7 @@ enum-known-lead c = search needs
 is-wanted-requires : tie.Need-is-wanted-requires
 is-wanted-requires c κs =
     let s = c .before .before .before .before .before in
-    (s .pre .0, (s .pre .1 .0, subst (LeadInside (s .args .c)) (c .before .lead .given .1) (s .pre .1 .1)))
+    (s .pre .0, (s .pre .1 .0, subst (Inside (s .args .c)) (c .before .lead .given .1) (s .pre .1 .1)))
 
 enum-told-3 : tie.Need-enum-told-3
 enum-told-3 c = search needs
