@@ -1,17 +1,24 @@
--- The rows of columns: two columns of one row have the same row in the array, since rows that share a column have one OID.
+-- The rows of columns: two columns of one row have the same row in the array, since rows that share a column have one OID; and where
+-- refusal 15 is kept, no two rows do.
 -- Assumes nothing.
 use mathlib.Core.Path.{_≡_, sym, ap, _∙_}
 use mathlib.Core.Bool.{true}
 use mathlib.Core.List.{List, [], _∷_, _++_}
 use Prim.Native.Nat.{ℕ, _<_}
 use native.Mathlib.Omega.{arith}
+use borrow.Author.Tests.{eqb-true}
 use lib.ListN.{length, take, length-append}
 use lib.Seq.{take-append-seam}
-use Rattle.index.proofs.Search.{first-same, first-holds}
+use Rattle.index.specs.First.{any}
+use Rattle.index.proofs.Search.{true-false, first-same, first-holds, any-at}
+use Rattle.index.proofs.Judged.{NeverBroken}
+use Rattle.lexicon.proofs.Words.{same-refl}
 use Rattle.token.specs.Token.{Meaning}
-use Rattle.oid.specs.Oid.{count-of, oid-of}
+use Rattle.definition.specs.Landmark.{object}
+use Rattle.oid.specs.Oid.{count-of, kind-of, oid-of}
 use Rattle.number_list.specs.Run.{is-below}
 use Rattle.number_list.proofs.Runs.{below-equal}
+use Rattle.number_buffer.specs.Refusal.{is-holder, holds-oid, held-twice}
 use Rattle.table.specs.Member.{is-object, is-row, is-column-of}
 use Rattle.table.specs.Held.{row-of}
 use Rattle.table.proofs.Chain.{both, same-tests}
@@ -62,3 +69,19 @@ module _ (ms : List Meaning) where
   -- it is a column of that row
   pub column-of-row : (k : ℕ) → row-of ms k < count-of ms → is-column-of ms k (row-of ms k) ≡ true
   column-of-row k h = first-holds (is-column-of ms k) 0 (count-of ms) h (omega arith)
+
+  -- where refusal 15 is kept, no object is a column of two rows
+  row-kind : (r : ℕ) → is-row ms r ≡ true → kind-of ms r ≡ object
+  unfolding is-row
+  row-kind r e = eqb-true _ _ (both (is-object ms r) _ e .0)
+
+  pub one-row : NeverBroken (held-twice ms) → (k r s : ℕ) → r < s → s < count-of ms → is-column-of ms k r ≡ true → is-column-of ms k s ≡ true → ⊥
+  unfolding held-twice holds-oid is-holder
+  one-row kept k r s h l p q =
+      let one = column-parts k r p in
+      let other = column-parts k s q in
+      let oid : oid-of ms r ≡ oid-of ms s = below-one (oid-of ms r) (oid-of ms s) (oid-of ms k) (one .2) (other .2) in
+      let holds : holds-oid ms s r ≡ true = rw (row-kind r (one .0), oid) (same-refl (oid-of ms s)) in
+      let earlier : any (holds-oid ms s) 0 s ≡ true = any-at (holds-oid ms s) 0 s r (omega arith) h holds in
+      let breach : held-twice ms .breach s ≡ true = rw (row-kind s (other .0), earlier) in
+      true-false breach (kept s (omega arith) l)
