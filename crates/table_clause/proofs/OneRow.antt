@@ -1,6 +1,6 @@
 -- The one row of a SEQUENCE type, by what two searches answer: the first row, and the next one after it.
 -- Assumes nothing.
-use mathlib.Core.Path.{_≡_, refl, sym, ap, _∙_}
+use mathlib.Core.Path.{_≡_, ap, _∙_}
 use mathlib.Core.Bool.{Bool, true, false, _&&_}
 use mathlib.Core.List.{List}
 use Prim.Native.Nat.{ℕ, suc, _+_, _≤_, _<_}
@@ -14,7 +14,7 @@ use Rattle.index.proofs.Search.{true-false, first-holds, first-passed, any-none
 use Rattle.token.specs.Token.{Meaning}
 use Rattle.oid.specs.Oid.{count-of, oid-of}
 use Rattle.number_list.specs.Run.{is-below-by}
-use Rattle.table.proofs.Chain.{both}
+use Rattle.conceptual_table.proofs.Chain.{both}
 use Rattle.table_clause.specs.Clause.{is-row-of, first-row, has-one-row}
 
 module _ (ms : List Meaning) (k : ℕ) {c : ℕ} (counted : count-of ms ≡ c) (type : ℕ) {sequence : ℕ} (held : sequence ≡ type) {r : ℕ} (found : r ≡ first (is-row-of ms sequence) 0 (count-of ms)) where

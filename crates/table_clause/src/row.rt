@@ -6,13 +6,13 @@ ghost use Rattle.index.specs.First.{first, any};
 ghost use Rattle.token.specs.Cut.{meanings-in};
 ghost use Rattle.oid.specs.Oid.{count-of, oid-of};
 ghost use Rattle.number_list.specs.Run.{is-below-by};
-ghost use Rattle.table.specs.Member.{type-of};
-ghost use Rattle.table.specs.Held.{ObjectTable, TypeTable};
+ghost use Rattle.conceptual_table.specs.Member.{type-of};
+ghost use Rattle.conceptual_table.specs.Held.{ObjectTable, TypeTable};
 ghost use Rattle.table_clause.specs.Clause.{is-row-of, first-row, has-one-row, rowless-table, is-row-in, stray-row};
+use conceptual_table::is_row;
+use conceptual_table::is_table;
 use index::RecordIndex;
 use number_buffer::is_below_by;
-use table::is_row;
-use table::is_table;
 
 // The number that follows a table's OID in that of its row.
 const ROW_NUMBER: u32 = 1;
