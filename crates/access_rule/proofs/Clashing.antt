@@ -12,10 +12,10 @@ use Rattle.index.specs.First.{first, any}
 use Rattle.index.proofs.Search.{true-false, answers, any-at, any-index, any-first, first-holds, first-passed}
 use Rattle.token.specs.Token.{Meaning}
 use Rattle.oid.specs.Oid.{count-of}
-use Rattle.table.specs.Member.{is-object, is-column-of, is-column, access-of, read-write}
-use Rattle.table.specs.Held.{row-of}
-use Rattle.table.proofs.Chain.{both, same-tests}
-use Rattle.table.proofs.Rows.{column-parts, same-row, column-of-row}
+use Rattle.conceptual_table.specs.Member.{is-object, is-column-of, is-column, access-of, read-write}
+use Rattle.conceptual_table.specs.Held.{row-of}
+use Rattle.conceptual_table.proofs.Chain.{both, same-tests}
+use Rattle.conceptual_table.proofs.Rows.{column-parts, same-row, column-of-row}
 use Rattle.access_rule.specs.Access.{is-created-in, clashes, access-broken}
 use Rattle.access_rule.specs.Row.{is-created-beside}
 

@@ -11,8 +11,8 @@ use Rattle.number_list.specs.declared.Run.{Run}
 use Rattle.number_list.proofs.Runs.{run-length, run-number}
 use Rattle.number_buffer.specs.Held.{run-at}
 use Rattle.number_buffer.proofs.Held.{oid-held, held-inside}
-use Rattle.table.specs.Held.{ObjectTable}
-use Rattle.table.proofs.Objects.{inside}
+use Rattle.conceptual_table.specs.Held.{ObjectTable}
+use Rattle.conceptual_table.proofs.Objects.{inside}
 
 module _ {ms : List Meaning} {c : ℕ} {fields classed firsts numbers : List ℕ} (t : ObjectTable ms c fields classed firsts numbers)
     {k : ℕ} (h : k < c) {r : Run} (is : r ≡ run-at firsts k) where

@@ -13,8 +13,8 @@ use Rattle.name.specs.Import.{classes-of}
 use Rattle.oid.specs.Oid.{count-of}
 use Rattle.oid.specs.Refusal.{rule-of-definitions}
 use Rattle.syntax_class.specs.Class.{class-of}
-use Rattle.table.specs.Member.{is-object, is-table, is-row, is-column-of, is-column, access-of}
-use Rattle.table.specs.Member.{not-accessible, accessible-for-notify, read-only, read-write, read-create}
+use Rattle.conceptual_table.specs.Member.{is-object, is-table, is-row, is-column-of, is-column, access-of}
+use Rattle.conceptual_table.specs.Member.{not-accessible, accessible-for-notify, read-only, read-write, read-create}
 
 -- a table or a row that isn't not-accessible
 unfoldable pub open-table : List Meaning → ℕ → Bool

@@ -5,8 +5,8 @@ use mathlib.Core.List.{List}
 use Prim.Native.Nat.{ℕ}
 use lib.Dec.{eqb}
 use Rattle.token.specs.Token.{Meaning}
-use Rattle.table.specs.Member.{access-of, read-create}
-use Rattle.table.specs.Held.{row-of}
+use Rattle.conceptual_table.specs.Member.{access-of, read-create}
+use Rattle.conceptual_table.specs.Held.{row-of}
 
 -- object j is read-create, and its row is this one
 unfoldable pub is-created-beside : List Meaning → ℕ → ℕ → Bool

@@ -1,4 +1,4 @@
-// The numbers of access words, by the grammar's order; crates/table/specs/Member.antt has the same under the same names.
+// The numbers of access words, by the grammar's order; crates/conceptual_table/specs/Member.antt has the same under the same names.
 
 pub const NOT_ACCESSIBLE: usize = 1;
 

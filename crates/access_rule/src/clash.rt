@@ -6,13 +6,13 @@ ghost use lib.Dec.{eqb, ltb};
 ghost use Rattle.index.specs.First.{first};
 ghost use Rattle.token.specs.Cut.{meanings-in};
 ghost use Rattle.oid.specs.Oid.{count-of};
-ghost use Rattle.table.specs.Member.{access-of, read-write};
-ghost use Rattle.table.specs.Held.{row-of, ObjectTable, RowTable};
+ghost use Rattle.conceptual_table.specs.Member.{access-of, read-write};
+ghost use Rattle.conceptual_table.specs.Held.{row-of, ObjectTable, RowTable};
 ghost use Rattle.access_rule.specs.Access.{clashes};
 ghost use Rattle.access_rule.specs.Row.{is-created-beside};
 use crate::access;
+use conceptual_table::access_of;
 use index::RecordIndex;
-use table::access_of;
 
 // Whether definition k is a read-write column.
 fn is_written_column(

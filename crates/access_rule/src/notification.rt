@@ -6,7 +6,7 @@ ghost use Rattle.index.specs.Rule.{judge-one};
 ghost use Rattle.token.specs.Cut.{meanings-in};
 ghost use Rattle.field_table.specs.Table.{ModuleTable};
 ghost use Rattle.oid.specs.Oid.{oid-of};
-ghost use Rattle.table.specs.Held.{ObjectTable};
+ghost use Rattle.conceptual_table.specs.Held.{ObjectTable};
 ghost use Rattle.access_rule.specs.Notification.{is-short, is-not-zeroed, lists-hidden, notification-broken};
 use definition::kind;
 use index::Judgement;

@@ -7,18 +7,18 @@ ghost use Rattle.index.specs.Rule.{judge-one};
 ghost use Rattle.token.specs.Cut.{meanings-in};
 ghost use Rattle.field_table.specs.Table.{ModuleTable};
 ghost use Rattle.oid.specs.Oid.{count-of};
-ghost use Rattle.table.specs.Held.{ObjectTable, RowTable};
+ghost use Rattle.conceptual_table.specs.Held.{ObjectTable, RowTable};
 ghost use Rattle.access_rule.specs.Access.{open-table, created-alone, clashes, is-counter, is-counter-access, unfit-counter, access-broken};
 use crate::access;
 use crate::clash::first_clash;
+use conceptual_table::access_of;
+use conceptual_table::has_default;
+use conceptual_table::has_type;
+use conceptual_table::is_object;
 use index::Judgement;
 use index::RecordIndex;
 use index::TokenIndex;
 use symbol::class;
-use table::access_of;
-use table::has_default;
-use table::has_type;
-use table::is_object;
 
 // The number of the refusal.
 const ACCESS_BROKEN: u8 = 21;

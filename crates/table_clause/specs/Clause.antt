@@ -10,7 +10,7 @@ use Rattle.definition.specs.Fields.{fields-at}
 use Rattle.name.specs.Import.{classes-of}
 use Rattle.oid.specs.Oid.{count-of, oid-of}
 use Rattle.number_list.specs.Run.{is-below-by}
-use Rattle.table.specs.Member.{is-table, is-row, type-of, columns-of, is-column-of, has-index, has-augments}
+use Rattle.conceptual_table.specs.Member.{is-table, is-row, type-of, columns-of, is-column-of, has-index, has-augments}
 use Rattle.table_list.specs.Listed.{some-unwanted, lists, repeats}
 use Rattle.table_list.specs.declared.Wanted.the-variants.{ColumnOf, IndexedRow}
 

@@ -4,13 +4,13 @@ ghost use mathlib.Core.Bool.{_||_};
 ghost use Prim.Native.Nat.{_<_};
 ghost use Rattle.token.specs.Cut.{meanings-in};
 ghost use Rattle.field_table.specs.Table.{ModuleTable};
-ghost use Rattle.table.specs.Member.{has-index, has-augments};
-ghost use Rattle.table.specs.Held.{ObjectTable};
+ghost use Rattle.conceptual_table.specs.Member.{has-index, has-augments};
+ghost use Rattle.conceptual_table.specs.Held.{ObjectTable};
 ghost use Rattle.table_clause.specs.Clause.{unindexed-row, indexed-object, unfounded-augments};
+use conceptual_table::has_augments;
+use conceptual_table::has_index;
+use conceptual_table::is_row;
 use index::RecordIndex;
-use table::has_augments;
-use table::has_index;
-use table::is_row;
 use table_list::Wanted;
 use table_list::some_unwanted;
 

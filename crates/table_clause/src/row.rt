@@ -6,13 +6,13 @@ ghost use Rattle.index.specs.First.{first, any};
 ghost use Rattle.token.specs.Cut.{meanings-in};
 ghost use Rattle.oid.specs.Oid.{count-of, oid-of};
 ghost use Rattle.number_list.specs.Run.{is-below-by};
-ghost use Rattle.table.specs.Member.{type-of};
-ghost use Rattle.table.specs.Held.{ObjectTable, TypeTable};
+ghost use Rattle.conceptual_table.specs.Member.{type-of};
+ghost use Rattle.conceptual_table.specs.Held.{ObjectTable, TypeTable};
 ghost use Rattle.table_clause.specs.Clause.{is-row-of, first-row, has-one-row, rowless-table, is-row-in, stray-row};
+use conceptual_table::is_row;
+use conceptual_table::is_table;
 use index::RecordIndex;
 use number_buffer::is_below_by;
-use table::is_row;
-use table::is_table;
 
 // The number that follows a table's OID in that of its row.
 const ROW_NUMBER: u32 = 1;
@@ -95,11 +95,11 @@ fn has_its_row(
 {
     let at = k.0;
     let number = types[at];
-    let r = next_row(text, c, fields, classed, firsts, numbers, types, number, 0);
-    if c <= r {
+    let first = next_row(text, c, fields, classed, firsts, numbers, types, number, 0);
+    if c <= first {
         return false;
     }
-    if next_row(
+    let second = next_row(
         text,
         c,
         fields,
@@ -108,13 +108,12 @@ fn has_its_row(
         numbers,
         types,
         number,
-        r + 1,
-    )
-        < c
-    {
+        first + 1,
+    );
+    if second < c {
         return false;
     }
-    is_below_by(firsts, numbers, k, RecordIndex(r), ROW_NUMBER)
+    is_below_by(firsts, numbers, k, RecordIndex(first), ROW_NUMBER)
 }
 
 // Whether it is a table whose SEQUENCE type has not exactly one row, at the table's OID followed by 1.

@@ -13,7 +13,7 @@ use Rattle.name.specs.Import.{classes-of, spelled}
 use Rattle.name.specs.declared.Lead.{Lead}
 use Rattle.name.specs.declared.Lead.the-variants.{Iso, Import, Definition, Nothing}
 use Rattle.syntax_class.specs.Class.{lead-of}
-use Rattle.table.specs.Member.{is-row, is-column-of, access-of, has-index, not-accessible}
+use Rattle.conceptual_table.specs.Member.{is-row, is-column-of, access-of, has-index, not-accessible}
 use Rattle.table_list.specs.declared.Wanted.{Wanted}
 use Rattle.table_list.specs.declared.Wanted.the-variants.{ColumnOf, IndexedRow, Visible}
 

@@ -1,24 +1,24 @@
 // What the names of a list are wanted to be.
-ghost use Rattle.name.specs.Lead.{Inside};
 ghost use mathlib.Core.Path.{_≡_};
 ghost use mathlib.Core.Bool.{_&&_};
 ghost use Prim.Native.Nat.{_<_};
 ghost use Rattle.token.specs.Cut.{meanings-in};
 ghost use Rattle.field_table.specs.Table.{ModuleTable};
-ghost use Rattle.table.specs.Member.{is-row, has-index};
-ghost use Rattle.table.specs.Held.{ObjectTable};
+ghost use Rattle.name.specs.Lead.{Inside};
+ghost use Rattle.conceptual_table.specs.Member.{is-row, has-index};
+ghost use Rattle.conceptual_table.specs.Held.{ObjectTable};
 ghost use Rattle.table_list.specs.Listed.{WantedInside, is-wanted, leads-to-wanted, is-unwanted, some-unwanted};
 use crate::Wanted;
 use crate::name_at::is_name;
+use conceptual_table::access_of;
+use conceptual_table::has_index;
+use conceptual_table::is_column_of;
+use conceptual_table::is_row;
 use definition::Span;
 use index::RecordIndex;
 use index::TokenIndex;
 use name::Lead;
 use name::leads_to;
-use table::access_of;
-use table::has_index;
-use table::is_column_of;
-use table::is_row;
 
 // The access number of not-accessible.
 const NOT_ACCESSIBLE: usize = 1;

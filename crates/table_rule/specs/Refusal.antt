@@ -6,7 +6,7 @@ use Prim.Native.Nat.{ℕ}
 use Rattle.index.specs.Rule.{Rule}
 use Rattle.token.specs.Token.{Meaning}
 use Rattle.oid.specs.Refusal.{rule-of-definitions}
-use Rattle.table.specs.Member.{is-object}
+use Rattle.conceptual_table.specs.Member.{is-object}
 use Rattle.table_clause.specs.Clause.{rowless-table, stray-row, unindexed-row, indexed-object, repeating-row, misnaming-row, unlisted-column, unfounded-augments}
 use Rattle.access_rule.specs.Access.{access-broken}
 use Rattle.access_rule.specs.Notification.{notification-broken}

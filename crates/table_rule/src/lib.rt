@@ -5,17 +5,17 @@ ghost use Rattle.index.specs.Rule.{judge};
 ghost use Rattle.token.specs.Cut.{meanings-in};
 ghost use Rattle.name.specs.Collect.{most-definitions};
 ghost use Rattle.field_table.specs.Table.{ModuleTable};
-ghost use Rattle.table.specs.Held.{ObjectTable};
+ghost use Rattle.conceptual_table.specs.Held.{ObjectTable};
 ghost use Rattle.table_rule.specs.Refusal.{table-rules};
 
 mod placed;
 
 use access_rule::judge_access;
 use access_rule::judge_notifications;
+use conceptual_table::collect_rows;
+use conceptual_table::collect_types;
 use index::Judgement;
 use placed::judge_rows;
-use table::collect_rows;
-use table::collect_types;
 
 // What the rules on tables, access and notifications say of a module. The arrays `types` and `rows` are working room.
 pub fn judge_tables(

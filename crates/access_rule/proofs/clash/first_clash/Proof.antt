@@ -8,9 +8,9 @@ use native.Mathlib.Omega.{arith}
 use lib.ListN.{getD}
 use Rattle.index.specs.First.{any}
 use Rattle.token.specs.Cut.{meanings-in}
-use Rattle.table.specs.Held.{row-of}
-use Rattle.table.proofs.Asking.{Asking, asking-miss, asking-hit, asking-end, first-asked, none-asked}
-use Rattle.table.proofs.Objects.{small}
+use Rattle.conceptual_table.specs.Held.{row-of}
+use Rattle.conceptual_table.proofs.Asking.{Asking, asking-miss, asking-hit, asking-end, first-asked, none-asked}
+use Rattle.conceptual_table.proofs.Objects.{small}
 use Rattle.access_rule.specs.Access.{clashes}
 use Rattle.access_rule.specs.Row.{is-created-beside}
 use Rattle.access_rule.proofs.Clashing.{is-written, not-written, clash-asked}

@@ -6,9 +6,9 @@ use borrow.Author.Tests.{ne-eqb, eq-eqb}
 use lib.Dec.{eqb}
 use lib.ListN.{getD}
 use Rattle.token.specs.Cut.{meanings-in}
-use Rattle.table.specs.Member.{read-create}
-use Rattle.table.specs.Held.{row-of}
-use Rattle.table.proofs.Chain.{and-failed, and-held}
+use Rattle.conceptual_table.specs.Member.{read-create}
+use Rattle.conceptual_table.specs.Held.{row-of}
+use Rattle.conceptual_table.proofs.Chain.{and-failed, and-held}
 use Rattle.access_rule.specs.Row.{is-created-beside}
 use borrow.Author.Needs.{needs}
 use Rattle.access_rule.proofs.clash.is_created_in.Statement.{statement}

@@ -5,9 +5,9 @@ use Prim.Native.Nat.{ℕ}
 use borrow.Author.Tests.{ne-eqb, eq-eqb}
 use lib.Dec.{eqb, ltb}
 use Rattle.token.specs.Cut.{meanings-in}
-use Rattle.table.specs.Member.{access-of, read-write}
-use Rattle.table.specs.Held.{row-of}
-use Rattle.table.proofs.Chain.{and-failed, and-held}
+use Rattle.conceptual_table.specs.Member.{access-of, read-write}
+use Rattle.conceptual_table.specs.Held.{row-of}
+use Rattle.conceptual_table.proofs.Chain.{and-failed, and-held}
 use borrow.Author.Needs.{needs}
 use Rattle.access_rule.proofs.clash.is_written_column.Statement.{statement}
 use Rattle.access_rule.proofs.clash.is_written_column.Tie as tie

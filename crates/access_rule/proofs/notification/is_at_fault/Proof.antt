@@ -7,8 +7,8 @@ use lib.Dec.{eqb}
 use Rattle.token.specs.Cut.{meanings-in}
 use Rattle.definition.specs.Landmark.{notification}
 use Rattle.oid.specs.Oid.{kind-of, oid-of}
-use Rattle.table.proofs.Chain.{and-failed, and-held, or-held, or-failed}
-use Rattle.table.proofs.Objects.{kind-said}
+use Rattle.conceptual_table.proofs.Chain.{and-failed, and-held, or-held, or-failed}
+use Rattle.conceptual_table.proofs.Objects.{kind-said}
 use Rattle.access_rule.specs.Notification.{is-short, is-not-zeroed, notification-broken}
 use borrow.Author.Needs.{needs}
 use Rattle.access_rule.proofs.notification.is_at_fault.Statement.{statement}

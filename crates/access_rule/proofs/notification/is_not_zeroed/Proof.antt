@@ -8,7 +8,7 @@ use lib.Dec.{eqb}
 use lib.ListN.{length, getD}
 use Rattle.token.specs.Cut.{meanings-in}
 use Rattle.oid.specs.Oid.{oid-of}
-use Rattle.table.proofs.Objects.{small, inside}
+use Rattle.conceptual_table.proofs.Objects.{small, inside}
 use Rattle.access_rule.proofs.Numbers.{run-fits, run-counted, run-numbered}
 use Rattle.access_rule.proofs.notification.is_not_zeroed.Statement.{statement}
 use Rattle.access_rule.proofs.notification.is_not_zeroed.Tie as tie

@@ -3,7 +3,7 @@
 use mathlib.Core.Path.{ap}
 use Prim.Native.Nat.{ℕ}
 use lib.Dec.{ltb}
-use Rattle.table.proofs.Objects.{small, inside}
+use Rattle.conceptual_table.proofs.Objects.{small, inside}
 use Rattle.access_rule.proofs.Numbers.{run-counted}
 use Rattle.access_rule.proofs.notification.is_short.Statement.{statement}
 use Rattle.access_rule.proofs.notification.is_short.Tie as tie

@@ -5,8 +5,8 @@ use native.Mathlib.Omega.{arith}
 use borrow.Author.Tests.{ne-eqb, eq-eqb}
 use lib.Dec.{eqb}
 use Rattle.token.specs.Cut.{meanings-in}
-use Rattle.table.specs.Member.{is-object}
-use Rattle.table.proofs.Chain.{and-refused, and-passed, or-held, or-failed}
+use Rattle.conceptual_table.specs.Member.{is-object}
+use Rattle.conceptual_table.proofs.Chain.{and-refused, and-passed, or-held, or-failed}
 use Rattle.access_rule.specs.Access.{clashes, access-broken}
 use Rattle.access_rule.proofs.Clashing.{first-here}
 use borrow.Author.Needs.{needs}

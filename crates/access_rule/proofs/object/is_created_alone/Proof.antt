@@ -6,9 +6,9 @@ use Prim.Native.Nat.{ℕ}
 use borrow.Author.Tests.{ne-eqb, eq-eqb}
 use lib.Dec.{eqb, ltb}
 use Rattle.token.specs.Cut.{meanings-in}
-use Rattle.table.specs.Member.{access-of, read-create}
-use Rattle.table.specs.Held.{row-of}
-use Rattle.table.proofs.Chain.{and-failed, and-held}
+use Rattle.conceptual_table.specs.Member.{access-of, read-create}
+use Rattle.conceptual_table.specs.Held.{row-of}
+use Rattle.conceptual_table.proofs.Chain.{and-failed, and-held}
 use Rattle.access_rule.specs.Access.{created-alone}
 use Rattle.access_rule.proofs.Clashing.{column-rowed}
 use borrow.Author.Needs.{needs}

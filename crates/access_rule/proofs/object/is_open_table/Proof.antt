@@ -5,8 +5,8 @@ use mathlib.Core.Bool.{not, _||_}
 use Prim.Native.Nat.{ℕ}
 use lib.Dec.{eqb}
 use Rattle.token.specs.Cut.{meanings-in}
-use Rattle.table.specs.Member.{is-table, is-row, not-accessible}
-use Rattle.table.proofs.Chain.{and-refused, and-passed}
+use Rattle.conceptual_table.specs.Member.{is-table, is-row, not-accessible}
+use Rattle.conceptual_table.proofs.Chain.{and-refused, and-passed}
 use Rattle.access_rule.specs.Access.{open-table}
 use borrow.Author.Needs.{needs}
 use Rattle.access_rule.proofs.object.is_open_table.Statement.{statement}

@@ -4,9 +4,9 @@ use mathlib.Core.Path.{_≡_, ap, _∙_}
 use mathlib.Core.Bool.{not}
 use Rattle.token.specs.Cut.{meanings-in}
 use Rattle.syntax_class.specs.Class.{class-of}
-use Rattle.table.specs.Member.{access-of}
-use Rattle.table.proofs.Chain.{and-refused, and-passed, or-held, or-failed}
-use Rattle.table.proofs.Objects.{class-said}
+use Rattle.conceptual_table.specs.Member.{access-of}
+use Rattle.conceptual_table.proofs.Chain.{and-refused, and-passed, or-held, or-failed}
+use Rattle.conceptual_table.proofs.Objects.{class-said}
 use Rattle.access_rule.specs.Access.{is-counter, is-counter-access, unfit-counter}
 use borrow.Author.Needs.{needs}
 use Rattle.access_rule.proofs.object.is_unfit_counter.Statement.{statement}

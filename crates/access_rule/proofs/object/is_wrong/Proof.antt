@@ -2,7 +2,7 @@
 -- Assumes nothing.
 use mathlib.Core.Path.{_≡_}
 use Rattle.token.specs.Cut.{meanings-in}
-use Rattle.table.proofs.Chain.{or-held, or-failed}
+use Rattle.conceptual_table.proofs.Chain.{or-held, or-failed}
 use Rattle.access_rule.specs.Access.{open-table, created-alone}
 use borrow.Author.Needs.{needs}
 use Rattle.access_rule.proofs.object.is_wrong.Statement.{statement}

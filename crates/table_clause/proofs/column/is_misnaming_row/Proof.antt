@@ -2,8 +2,8 @@
 -- Assumes nothing.
 use mathlib.Core.Path.{_≡_, ap, _∙_}
 use Rattle.token.specs.Cut.{meanings-in}
-use Rattle.table.specs.Member.{is-row}
-use Rattle.table.proofs.Chain.{and-refused, and-passed}
+use Rattle.conceptual_table.specs.Member.{is-row}
+use Rattle.conceptual_table.proofs.Chain.{and-refused, and-passed}
 use Rattle.table_list.specs.Listed.{some-unwanted}
 use Rattle.table_list.specs.declared.Wanted.the-variants.{ColumnOf}
 use Rattle.table_clause.specs.Clause.{misnaming-row}

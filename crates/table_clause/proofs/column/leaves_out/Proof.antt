@@ -4,8 +4,8 @@ use mathlib.Core.Path.{_≡_, ap, _∙_}
 use Rattle.token.specs.Cut.{meanings-in}
 use mathlib.Core.Bool.{not}
 use Rattle.definition.specs.declared.Span.{Span}
-use Rattle.table.specs.Member.{is-column-of}
-use Rattle.table.proofs.Chain.{and-refused, and-passed}
+use Rattle.conceptual_table.specs.Member.{is-column-of}
+use Rattle.conceptual_table.proofs.Chain.{and-refused, and-passed}
 use Rattle.table_list.specs.Listed.{lists}
 use Rattle.table_clause.specs.Clause.{leaves-out}
 use borrow.Author.Needs.{needs}

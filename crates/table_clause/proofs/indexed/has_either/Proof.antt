@@ -2,8 +2,8 @@
 -- Assumes nothing.
 use mathlib.Core.Path.{_≡_}
 use Rattle.token.specs.Cut.{meanings-in}
-use Rattle.table.specs.Member.{has-index}
-use Rattle.table.proofs.Chain.{or-held, or-failed}
+use Rattle.conceptual_table.specs.Member.{has-index}
+use Rattle.conceptual_table.proofs.Chain.{or-held, or-failed}
 use borrow.Author.Needs.{needs}
 use Rattle.table_clause.proofs.indexed.has_either.Statement.{statement}
 use Rattle.table_clause.proofs.indexed.has_either.Tie as tie

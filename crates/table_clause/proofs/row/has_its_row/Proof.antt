@@ -1,13 +1,13 @@
 -- `has_its_row` is right because the first row of the type is the only one where the search finds none after it.
 -- Assumes nothing.
-use mathlib.Core.Path.{_≡_, sym, _∙_}
+use mathlib.Core.Path.{_≡_, sym}
 use lib.ListN.{getD}
 use Rattle.index.specs.First.{first}
 use Rattle.token.specs.Cut.{meanings-in}
 use Rattle.oid.specs.Oid.{count-of}
 use Rattle.number_list.specs.Run.{is-below-by}
-use Rattle.table.specs.Member.{type-of}
-use Rattle.table.proofs.Objects.{inside, oids-said}
+use Rattle.conceptual_table.specs.Member.{type-of}
+use Rattle.conceptual_table.proofs.Objects.{inside, oids-said}
 use Rattle.table_clause.specs.Clause.{is-row-of}
 use Rattle.table_clause.proofs.OneRow.{no-row, second-row, only-row}
 use borrow.Author.Needs.{needs}

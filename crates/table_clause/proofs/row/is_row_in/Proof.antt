@@ -7,9 +7,9 @@ use borrow.Author.Tests.{ne-eqb, eq-eqb}
 use lib.Dec.{eqb}
 use lib.ListN.{getD}
 use Rattle.number_list.specs.Run.{is-below-by}
-use Rattle.table.specs.Member.{is-table, type-of}
-use Rattle.table.proofs.Chain.{and-refused, and-passed, and-failed, and-held}
-use Rattle.table.proofs.Objects.{inside, oids-said}
+use Rattle.conceptual_table.specs.Member.{is-table, type-of}
+use Rattle.conceptual_table.proofs.Chain.{and-refused, and-passed, and-failed, and-held}
+use Rattle.conceptual_table.proofs.Objects.{inside, oids-said}
 use Rattle.table_clause.specs.Clause.{is-row-in}
 use borrow.Author.Needs.{needs}
 use Rattle.table_clause.proofs.row.is_row_in.Statement.{statement}

@@ -4,8 +4,8 @@ use mathlib.Core.Path.{_≡_, ap}
 use Rattle.token.specs.Cut.{meanings-in}
 use Prim.Native.Nat.{ℕ}
 use lib.Dec.{eqb}
-use Rattle.table.specs.Member.{is-row}
-use Rattle.table.proofs.Chain.{and-refused, and-passed}
+use Rattle.conceptual_table.specs.Member.{is-row}
+use Rattle.conceptual_table.proofs.Chain.{and-refused, and-passed}
 use Rattle.table_clause.specs.Clause.{is-row-of}
 use borrow.Author.Needs.{needs}
 use Rattle.table_clause.proofs.row.is_row_of.Statement.{statement}

@@ -4,7 +4,7 @@ use mathlib.Core.Path.{_≡_, refl, sym, _∙_}
 use Prim.Native.Nat.{_-_}
 use native.Mathlib.Omega.{arith}
 use Rattle.token.specs.Cut.{meanings-in}
-use Rattle.table.proofs.Asking.{Asking, asking-miss, first-asked, none-asked}
+use Rattle.conceptual_table.proofs.Asking.{Asking, asking-miss, first-asked, none-asked}
 use Rattle.table_clause.specs.Clause.{is-row-of}
 use Rattle.table_clause.proofs.row.next_row.Statement.{statement}
 use Rattle.table_clause.proofs.row.next_row.Tie as tie

@@ -11,7 +11,7 @@ use Rattle.definition.specs.Landmark.{definitions}
 use Rattle.definition.specs.Members.{is-name}
 use Rattle.name.specs.Import.{classes-of, spelled}
 use Rattle.field_table.proofs.Said.{names-said, definition-before}
-use Rattle.table.proofs.Chain.{and-refused, and-passed}
+use Rattle.conceptual_table.proofs.Chain.{and-refused, and-passed}
 use Rattle.table_list.specs.Listed.{leads-there, is-name-of}
 use Rattle.table_list.proofs.Names.{token-inside, not-there}
 use borrow.Author.Needs.{needs}

@@ -2,8 +2,8 @@
 -- Assumes nothing.
 use mathlib.Core.Path.{_≡_}
 use Rattle.token.specs.Cut.{meanings-in}
-use Rattle.table.specs.Member.{is-row}
-use Rattle.table.proofs.Chain.{and-refused, and-passed}
+use Rattle.conceptual_table.specs.Member.{is-row}
+use Rattle.conceptual_table.proofs.Chain.{and-refused, and-passed}
 use borrow.Author.Needs.{needs}
 use Rattle.table_list.proofs.unwanted.is_indexed_row.Statement.{statement}
 use Rattle.table_list.proofs.unwanted.is_indexed_row.Tie as tie

@@ -6,7 +6,7 @@ use Rattle.token.specs.Cut.{meanings-in}
 use Rattle.definition.specs.Members.{is-name}
 use Rattle.name.specs.Import.{classes-of}
 use Rattle.syntax_class.proofs.Tables.{lead-known}
-use Rattle.table.proofs.Chain.{and-refused, and-passed}
+use Rattle.conceptual_table.proofs.Chain.{and-refused, and-passed}
 use Rattle.table_list.specs.Listed.{leads-to-wanted, is-unwanted}
 use Rattle.table_list.proofs.Names.{token-inside}
 use borrow.Author.Needs.{needs}

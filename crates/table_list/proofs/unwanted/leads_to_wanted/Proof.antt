@@ -1,7 +1,7 @@
 -- `leads_to_wanted` is right: it is the definition, case by case.
 -- Assumes nothing.
-use Rattle.name.specs.Lead.{Inside}
 use mathlib.Core.Path.{subst}
+use Rattle.name.specs.Lead.{Inside}
 use borrow.Author.Needs.{needs}
 use Rattle.table_list.proofs.unwanted.leads_to_wanted.Statement.{statement}
 use Rattle.table_list.proofs.unwanted.leads_to_wanted.Tie as tie

@@ -2,8 +2,8 @@
 -- Assumes nothing.
 use mathlib.Core.Path.{_≡_}
 use Rattle.token.specs.Cut.{meanings-in}
-use Rattle.table.specs.Member.{is-object}
-use Rattle.table.proofs.Chain.{and-refused, and-passed, or-held, or-failed}
+use Rattle.conceptual_table.specs.Member.{is-object}
+use Rattle.conceptual_table.proofs.Chain.{and-refused, and-passed, or-held, or-failed}
 use Rattle.table_rule.specs.Refusal.{has-wrong-row, table-broken}
 use borrow.Author.Needs.{needs}
 use Rattle.table_rule.proofs.placed.is_at_fault.Statement.{statement}
