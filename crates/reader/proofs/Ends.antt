@@ -1,13 +1,13 @@
 -- The four ends of reading a module: a short buffer, a long text, and a text that is read.
 -- Assumes nothing.
-use mathlib.Core.Path.{_≡_, refl, ap}
+use mathlib.Core.Path.{refl, ap}
 use mathlib.Core.Logic.{_⊎_, inl, inr}
 use mathlib.Core.List.{List, _++_}
 use Prim.Native.Nat.{ℕ, _≤_, _<_}
 use native.Mathlib.Omega.{arith}
 use lib.ListN.{length, drop}
 use Rattle.token.specs.Table.{longest-text}
-use Rattle.reader.specs.Buffers.{record-words, number-words, ReadParts, Reads, Left}
+use Rattle.reader.specs.Buffers.{record-words, number-words, ReadParts, Reads}
 use Rattle.reader.specs.declared.Answer.{Answer}
 use Rattle.reader.specs.declared.Answer.the-variants.{Refused}
 
@@ -41,9 +41,13 @@ module _ (text records numbers : List ℕ) where
     ends-read answer part run within p = record {
       short = λ which. absurd (enough which);
       long = λ r s over. absurd (omega (arith, over, within));
-      read = λ r s w. (p .parsing, p .right, record {
-        answered = p .answered;
-        records-left = ap (λ words. words ++ drop record-words records) (p .records-left);
-        numbers-left = ap (λ words. words ++ drop number-words numbers) (p .numbers-left);
-        });
+      read = λ r s w. (
+        p .parsing,
+        p .right,
+        record {
+          answered = p .answered;
+          records-left = ap (λ words. words ++ drop record-words records) (p .records-left);
+          numbers-left = ap (λ words. words ++ drop number-words numbers) (p .numbers-left);
+        },
+      );
     }

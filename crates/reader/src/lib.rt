@@ -1,7 +1,7 @@
 // The reader: one call that reads a module's text into records and sub-identifiers, or says which rule it breaks first, and where.
 ghost use mathlib.Core.Path.{_≡_};
 ghost use Prim.Native.Nat.{_≤_};
-ghost use lib.ListN.{length, replicate};
+ghost use lib.ListN.{length};
 ghost use Rattle.token.specs.Table.{longest-text};
 ghost use Rattle.reader.specs.Buffers.{record-words, number-words, unparsed, zeros, ReadInto, ReadParts, Reads};
 

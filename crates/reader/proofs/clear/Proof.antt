@@ -1,7 +1,7 @@
 -- `clear` is right: each turn stores one zero more.
 -- Assumes nothing.
 use mathlib.Core.Path.{_≡_}
-use Prim.Native.Nat.{ℕ, _-_, _≤_, _<_}
+use Prim.Native.Nat.{_-_, _≤_, _<_}
 use native.Mathlib.Omega.{arith}
 use lib.ListN.{length, length-replicate}
 use Rattle.number_buffer.proofs.Writing.{Writing, writing-start, writing-length, writing-more, writing-end}
@@ -9,8 +9,6 @@ use Rattle.reader.specs.Buffers.{zeros}
 use Rattle.reader.proofs.Clearing.{zero-at, all-cleared}
 use Rattle.reader.proofs.clear.Statement.{statement}
 use Rattle.reader.proofs.clear.Tie as tie
-use Rattle.reader.proofs.clear.Reads as reads
-use Rattle.reader.proofs.clear.Lts as lts
 
 abbrev Inv-loop : tie.InvT-loop
 Inv-loop words₀ i₀ words i = Writing (zeros (length words₀)) i words₀ words

@@ -8,9 +8,6 @@ use Rattle.reader.proofs.Ends.{ends-short, ends-long, ends-read}
 use borrow.Author.Needs.{needs}
 use Rattle.reader.proofs.read.Statement.{statement}
 use Rattle.reader.proofs.read.Tie as tie
-use Rattle.reader.proofs.read.Reads as reads
-use Rattle.reader.proofs.read.Lts as lts
-use Rattle.reader.proofs.read_parts.Reads as read-parts-reads
 
 -- src/lib.rt:95:9
 returns : tie.Need-returns
@@ -47,8 +44,7 @@ slice-aggregate-read-parts-2 c =
 -- src/lib.rt:103:5
 read-parts-requires : tie.Need-read-parts-requires
 read-parts-requires c κs =
-    let s = c .before .before .before .before .before .before .before .before in
-    (
+    let s = c .before .before .before .before .before .before .before .before in (
       omega (arith, c .before .before .if3 .left),
       (length-take 5120 (s .args .records .now) ∙ omega (arith, c .before .before .before .before .if1 .left), length-take 8192 (s .args .numbers .now) ∙ omega (arith, c .before .before .before .if2 .left)),
     )

@@ -5,11 +5,6 @@ use Rattle.reader.proofs.Laying.{unparsed-answer, unparsed-laid, derive
 use borrow.Author.Needs.{needs}
 use Rattle.reader.proofs.read_into.Statement.{statement}
 use Rattle.reader.proofs.read_into.Tie as tie
-use Rattle.reader.proofs.read_into.Reads as reads
-use Rattle.reader.proofs.read_into.Lts as lts
-use Rattle.reader.proofs.module.read_derived.Reads as read-derived-reads
-use Rattle.reader.proofs.refusal.Reads as refusal-reads
-use Rattle.syntax.proofs.parse.Reads as parse-reads
 
 abbrev start : tie.After-parse → tie.Start
 start q = q .before .before .before .before .before .before .before

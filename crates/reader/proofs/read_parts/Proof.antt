@@ -7,10 +7,6 @@ use Rattle.reader.proofs.Parts.{parts-accepted, parts-refused}
 use borrow.Author.Needs.{needs}
 use Rattle.reader.proofs.read_parts.Statement.{statement}
 use Rattle.reader.proofs.read_parts.Tie as tie
-use Rattle.reader.proofs.read_parts.Reads as reads
-use Rattle.reader.proofs.read_parts.Lts as lts
-use Rattle.reader.proofs.clear.Reads as clear-reads
-use Rattle.reader.proofs.read_into.Reads as read-into-reads
 
 abbrev start : tie.After-read-into → tie.Start
 start r = r .before .before .before .before .before .before .before .before .before .before .before .before .before .before

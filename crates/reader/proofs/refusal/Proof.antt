@@ -5,8 +5,6 @@ use Rattle.reader.specs.Buffers.{unparsed}
 use borrow.Author.Needs.{needs}
 use Rattle.reader.proofs.refusal.Statement.{statement}
 use Rattle.reader.proofs.refusal.Tie as tie
-use Rattle.reader.proofs.refusal.Reads as reads
-use Rattle.reader.proofs.refusal.Lts as lts
 
 -- src/lib.rt:48:32
 enum-told : tie.Need-enum-told

@@ -16,12 +16,6 @@ use Rattle.reader.proofs.Laying.{answer-broken, laid-as, laid-refused, 
 use borrow.Author.Needs.{needs}
 use Rattle.reader.proofs.module.read_derived.Statement.{statement}
 use Rattle.reader.proofs.module.read_derived.Tie as tie
-use Rattle.reader.proofs.module.read_derived.Reads as reads
-use Rattle.reader.proofs.module.read_derived.Lts as lts
-use Rattle.name_rule.proofs.judge_names.Reads as judge-names-reads
-use Rattle.reader.proofs.module.read_named.Reads as read-named-reads
-use Rattle.reader.proofs.module.refusal.Reads as refusal-reads
-use Rattle.reader.proofs.module.verdict_of.Reads as verdict-of-reads
 
 abbrev start : tie.After-judge-names → tie.Start
 start j = j .before .before .before .before .before .before

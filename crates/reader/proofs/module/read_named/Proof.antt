@@ -10,11 +10,6 @@ use Rattle.reader.proofs.Laying.{answer-broken, answer-kept, laid-as}
 use borrow.Author.Needs.{needs}
 use Rattle.reader.proofs.module.read_named.Statement.{statement}
 use Rattle.reader.proofs.module.read_named.Tie as tie
-use Rattle.reader.proofs.module.read_named.Reads as reads
-use Rattle.reader.proofs.module.read_named.Lts as lts
-use Rattle.field_table.proofs.collect_fields.Reads as collect-fields-reads
-use Rattle.reader.proofs.module.refusal.Reads as refusal-reads
-use Rattle.reader.proofs.shape.read_fields.Reads as read-fields-reads
 
 abbrev start : tie.After-read-fields → tie.Start
 start r = r .before .before .before .before .before .before .before .before .before

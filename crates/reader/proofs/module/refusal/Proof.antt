@@ -8,9 +8,6 @@ use Rattle.reader.specs.declared.Answer.the-variants.{Refused}
 use borrow.Author.Needs.{needs}
 use Rattle.reader.proofs.module.refusal.Statement.{statement}
 use Rattle.reader.proofs.module.refusal.Tie as tie
-use Rattle.reader.proofs.module.refusal.Reads as reads
-use Rattle.reader.proofs.module.refusal.Lts as lts
-use Rattle.reader.proofs.module.start_of.Reads as start-of-reads
 
 -- src/module.rt:61:28
 enum-told : tie.Need-enum-told

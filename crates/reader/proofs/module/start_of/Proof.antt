@@ -9,9 +9,6 @@ use Rattle.token.proofs.Entries.{start-at}
 use borrow.Author.Needs.{needs}
 use Rattle.reader.proofs.module.start_of.Statement.{statement}
 use Rattle.reader.proofs.module.start_of.Tie as tie
-use Rattle.reader.proofs.module.start_of.Reads as reads
-use Rattle.reader.proofs.module.start_of.Lts as lts
-use Rattle.reader.proofs.module.place_of.Reads as place-of-reads
 
 -- src/module.rt:43:25
 mul-place-of : tie.Need-mul-place-of

@@ -5,8 +5,6 @@ use Rattle.name_rule.specs.Judged.{judgement}
 use borrow.Author.Needs.{needs}
 use Rattle.reader.proofs.module.verdict_of.Statement.{statement}
 use Rattle.reader.proofs.module.verdict_of.Tie as tie
-use Rattle.reader.proofs.module.verdict_of.Reads as reads
-use Rattle.reader.proofs.module.verdict_of.Lts as lts
 
 -- src/module.rt:117:30
 enum-told : tie.Need-enum-told

@@ -6,10 +6,6 @@ use Rattle.field_table.proofs.Said.{definitions-counted, fields-said}
 use borrow.Author.Needs.{needs}
 use Rattle.reader.proofs.shape.judge_shapes.Statement.{statement}
 use Rattle.reader.proofs.shape.judge_shapes.Tie as tie
-use Rattle.reader.proofs.shape.judge_shapes.Reads as reads
-use Rattle.reader.proofs.shape.judge_shapes.Lts as lts
-use Rattle.syntax_rule.proofs.judge_syntax.Reads as judge-syntax-reads
-use Rattle.table_rule.proofs.judge_tables.Reads as judge-tables-reads
 
 -- src/shape.rt:45:9
 judge-syntax-requires : tie.Need-judge-syntax-requires

@@ -23,10 +23,6 @@ use Rattle.reader.proofs.Laying.{laid-broken, laid-both, oids-kept, oid
 use borrow.Author.Needs.{needs}
 use Rattle.reader.proofs.shape.read_fields.Statement.{statement}
 use Rattle.reader.proofs.shape.read_fields.Tie as tie
-use Rattle.reader.proofs.shape.read_fields.Reads as reads
-use Rattle.reader.proofs.shape.read_fields.Lts as lts
-use Rattle.oid_rule.proofs.judge_oids.Reads as judge-oids-reads
-use Rattle.reader.proofs.shape.read_shapes.Reads as read-shapes-reads
 
 abbrev start : tie.After-judge-oids → tie.Start
 start o = o .before .before .before .before .before .before

@@ -8,11 +8,6 @@ use Rattle.reader.proofs.Laying.{records-untouched, records-room, recor
 use borrow.Author.Needs.{needs}
 use Rattle.reader.proofs.shape.read_shapes.Statement.{statement}
 use Rattle.reader.proofs.shape.read_shapes.Tie as tie
-use Rattle.reader.proofs.shape.read_shapes.Reads as reads
-use Rattle.reader.proofs.shape.read_shapes.Lts as lts
-use Rattle.reader.proofs.shape.judge_shapes.Reads as judge-shapes-reads
-use Rattle.record.proofs.write_records.Reads as write-records-reads
-use Rattle.syntax_class.proofs.collect_classes.Reads as collect-classes-reads
 
 abbrev start : tie.After-judge-shapes → tie.Start
 start j = j .before .before .before .before .before .before .before
