@@ -3,3 +3,5 @@ pub mod Clearing
 pub mod Parts
 pub mod Ends
 pub mod Laws
+pub mod Numbers
+pub mod Demand
