@@ -9,18 +9,14 @@ use lib.ListN.{length}
 use Rattle.index.specs.Rule.{judge}
 use Rattle.index.specs.declared.Judgement.{Judgement}
 use Rattle.index.specs.declared.Judgement.the-variants.{Kept, Broken}
-use Rattle.token.specs.Token.{class-of-token}
 use Rattle.token.specs.Cut.{cut, whole, meanings-in}
 use Rattle.token.specs.Table.{longest-text}
-use Rattle.grammar.specs.Grammar.{smi-module}
-use Rattle.grammar.specs.Derivation.{DerivesTokens}
 use Rattle.grammar.specs.Answer.{Verdict, derived}
 use Rattle.grammar.specs.Answer.{refused as refused-at}
-use Rattle.syntax.specs.Parsing.{Parses, Judges, place-of as token-place}
 use Rattle.syntax.specs.Parsing.{ThirdDemand as ParsingDemand, answer-to as parsing-of}
 use Rattle.syntax.specs.declared.Answer.{Answer as Parsing}
 use Rattle.syntax.proofs.Parsed.{third-demand}
-use Rattle.reader.specs.Reading.{Outcome, rules, judged, outcome}
+use Rattle.reader.specs.Reading.{rules, judged, outcome}
 use Rattle.reader.specs.Buffers.{record-words, number-words, number-of, answer-to, Reads}
 use Rattle.reader.specs.Demand.{ThirdDemand}
 use Rattle.reader.specs.declared.Answer.{Answer}
@@ -53,5 +49,5 @@ module _ (text : List ℕ) where
       let i = reads .read room space within in
       let v = i .1 .judged ending in
       let is : answer ≡ answer-to (outcome text (parsing-of (cut text .tokens) (length text) (v .0))) =
-          i .2 .answered ∙ ap (λ (p : Parsing). answer-to (outcome text p)) (v .2) in
+      i .2 .answered ∙ ap (λ (p : Parsing). answer-to (outcome text p)) (v .2) in
       subst (ThirdDemand text) (sym is) (demand-of (v .0) (subst (ParsingDemand text) (v .2) (third-demand text (i .0) (i .1) ending)))

@@ -1,7 +1,7 @@
 -- What the call's contract says of two calls: new bytes between quotes, and none at all, change neither answer nor buffers.
 -- Assumes nothing.
 use mathlib.Core.Path.{_≡_, refl, sym, ap, subst, _∙_}
-use mathlib.Core.Logic.{_⊎_, inl, inr}
+use mathlib.Core.Logic.{inl, inr}
 use mathlib.Core.List.{List}
 use Prim.Native.Nat.{ℕ, _≤_, _<_}
 use native.Mathlib.Decide.{decLt}
@@ -13,7 +13,6 @@ use Rattle.token.specs.Cut.{Cut, cut}
 use Rattle.token.specs.Law.{QuotedChange}
 use Rattle.token.specs.Table.{longest-text}
 use Rattle.token.proofs.Quotes.{quotes}
-use Rattle.syntax.specs.Parsing.{Parses}
 use Rattle.syntax.specs.declared.Answer.{Answer as Parsing}
 use Rattle.syntax.specs.declared.Answer.the-variants.{Derived, Underived, Uncut}
 use Rattle.syntax.proofs.Parsed.{quotes-answer}
@@ -48,7 +47,7 @@ quotes-read a b change x y records r s numbers m n p q = go (decLt (length recor
         let i = p .read room space within in
         let j = q .read room space (omega (arith, within, change .same-length)) in
         let one : outcome b (j .0) ≡ outcome a (i .0) =
-            sym (same-outcome a b (quotes a b change) (j .0)) ∙ ap (outcome a) (sym (quotes-answer a b change (i .0) (j .0) (i .1) (j .1))) in
+        sym (same-outcome a b (quotes a b change) (j .0)) ∙ ap (outcome a) (sym (quotes-answer a b change (i .0) (j .0) (i .1) (j .1))) in
         both-left (i .2) (subst (λ (o : Outcome). Left y (answer-to o) s (filled record-words (records-in o) records) n (filled number-words (numbers-in o) numbers)) one (j .2))
 
     go : Dec (length records < record-words) → Dec (length numbers < number-words) → Dec (longest-text < length a) → Same

@@ -5,3 +5,4 @@ pub mod Ends
 pub mod Laws
 pub mod Numbers
 pub mod Demand
+pub mod Breach
