@@ -12,26 +12,23 @@ use Rattle.reader.specs.declared.Answer.{Answer}
 use Rattle.reader.specs.declared.Answer.the-variants.{Refused}
 
 module _ (text records numbers : List ℕ) where
+  -- buffers that are long enough are not too short
+  enough : record-words ≤ length records → number-words ≤ length numbers → (length records < record-words) ⊎ (length numbers < number-words) → ⊥
+  enough room space (inl less) = omega (arith, less, room)
+  enough room space (inr less) = omega (arith, less, space)
+
   pub ends-short : (length records < record-words) ⊎ (length numbers < number-words)
       → Reads text (Refused 1 (record { 0 = 0 })) records records numbers numbers
   ends-short few = record {
     short = λ which. record { answered = refl; records-left = refl; numbers-left = refl };
-    long = λ room space over. absurd (enough few room space);
-    read = λ room space within. absurd (enough few room space);
+    long = λ room space over. absurd (enough room space few);
+    read = λ room space within. absurd (enough room space few);
   }
-    where
-      enough : (length records < record-words) ⊎ (length numbers < number-words) → record-words ≤ length records → number-words ≤ length numbers → ⊥
-      enough (inl less) room space = omega (arith, less, room)
-      enough (inr less) room space = omega (arith, less, space)
 
   module _ (room : record-words ≤ length records) (space : number-words ≤ length numbers) where
-    enough : (length records < record-words) ⊎ (length numbers < number-words) → ⊥
-    enough (inl less) = omega (arith, less, room)
-    enough (inr less) = omega (arith, less, space)
-
     pub ends-long : longest-text < length text → Reads text (Refused 2 (record { 0 = 0 })) records records numbers numbers
     ends-long over = record {
-      short = λ which. absurd (enough which);
+      short = λ which. absurd (enough room space which);
       long = λ r s o. record { answered = refl; records-left = refl; numbers-left = refl };
       read = λ r s within. absurd (omega (arith, over, within));
     }
@@ -39,7 +36,7 @@ module _ (text records numbers : List ℕ) where
     pub ends-read : (answer : Answer) (part run : List ℕ) → length text ≤ longest-text → ReadParts text answer part run
         → Reads text answer records (part ++ drop record-words records) numbers (run ++ drop number-words numbers)
     ends-read answer part run within p = record {
-      short = λ which. absurd (enough which);
+      short = λ which. absurd (enough room space which);
       long = λ r s over. absurd (omega (arith, over, within));
       read = λ r s w. (
         p .parsing,

@@ -21,8 +21,8 @@ use Rattle.oid.specs.Refusal.{unreached, too-long, past-room}
 use Rattle.number_buffer.specs.Refusal.{held-twice}
 use Rattle.oid_rule.specs.Rules.{oid-rules}
 use Rattle.name.specs.Import.{classes-of}
-use Rattle.syntax_class.specs.Class.{kind-of, syntax-of, class-of}
-use Rattle.syntax_rule.specs.Refusal.{has-syntax, is-untested, restriction-of, nothing-tested, order-rule, limit-rule, enumeration-rule, item-rule, misplaced-in, outside-in, misfit-in, indirect-convention, syntax-rules}
+use Rattle.syntax_class.specs.Class.{kind-of, has-syntax, syntax-of, class-of}
+use Rattle.syntax_rule.specs.Refusal.{is-untested, restriction-of, nothing-tested, order-rule, limit-rule, enumeration-rule, item-rule, misplaced-in, outside-in, misfit-in, indirect-convention, syntax-rules}
 use Rattle.table_rule.specs.Refusal.{table-broken, table-rules}
 use Rattle.access_rule.specs.Access.{access-broken}
 use Rattle.access_rule.specs.Notification.{notification-broken}

@@ -38,19 +38,18 @@ record-words = 5120
 abbrev pub number-words : ℕ
 number-words = 8192
 
+-- so many zeros
+abbrev pub zeros : ℕ → List ℕ
+zeros n = replicate n 0
+
 -- a buffer whose working part holds these words and then zeros; the words beyond it are as they were
 abbrev pub filled : ℕ → List ℕ → List ℕ → List ℕ
-filled size words before = (words ++ replicate (size - length words) 0) ++ drop size before
+filled size words before = (words ++ zeros (size - length words)) ++ drop size before
 
 -- the answer to an outcome, and the words that each buffer's working part holds: after a refusal all are zero
 abbrev pub answer-to : Outcome → Answer
 answer-to (accepted count records numbers) = Accepted count
 answer-to (refused number place) = Refused number (record { 0 = place })
-
--- the answer where a rule is broken
-abbrev pub refusal-of : List Tok → Judgement → Answer
-refusal-of ts judgement.Kept = Accepted 0
-refusal-of ts (judgement.Broken number token) = Refused number (record { 0 = start-of ts (token .0) })
 
 abbrev pub records-in : Outcome → List ℕ
 records-in (accepted count records numbers) = records
@@ -79,15 +78,16 @@ pub record ReadInto (text : List ℕ) (answer : Answer) (records records′ numb
   pub answered : answer ≡ answer-to (outcome text parsing)
   pub laid : Laid (outcome text parsing) records records′ numbers numbers′
 
+-- the answer where a rule is broken
+abbrev pub refusal-of : List Tok → Judgement → Answer
+refusal-of ts judgement.Kept = Accepted 0
+refusal-of ts (judgement.Broken number token) = Refused number (record { 0 = start-of ts (token .0) })
+
 -- the answer to a text that is not derived
 abbrev pub unparsed : Parsing → Answer
 unparsed (Derived n) = Accepted 0
 unparsed (Underived n at) = Refused 7 at
 unparsed (Uncut number at) = Refused number at
-
--- so many zeros
-abbrev pub zeros : ℕ → List ℕ
-zeros n = replicate n 0
 
 -- What reading into the working parts leaves: the words that were read, and then zeros.
 pub record ReadParts (text : List ℕ) (answer : Answer) (records numbers : List ℕ) : Type 0 where

@@ -11,7 +11,7 @@ use Rattle.definition.specs.Fields.{span, fields-at}
 use Rattle.definition.specs.declared.Span.{Span}
 use Rattle.name.specs.Import.{classes-of}
 use Rattle.oid.specs.Oid.{kind-of, oid-of, first-number}
-use Rattle.syntax_class.specs.Class.{class-of}
+use Rattle.syntax_class.specs.Class.{has-syntax, class-of}
 
 -- where token i starts, and where it ends
 abbrev pub start-of : List Tok → ℕ → ℕ
@@ -30,10 +30,6 @@ length-in ts s = cond (ltb (s .from) (s .to)) (end-of ts (s .to - 1) - start-of 
 -- the token of definition k's name
 abbrev pub name-token : List Tok → ℕ → ℕ
 name-token ts k = getD (definitions (classes-of (meanings ts))) k 0
-
--- a definition of this kind has a syntax: an object or a convention
-abbrev pub has-syntax : ℕ → Bool
-has-syntax kind = eqb kind object || eqb kind convention
 
 -- its syntax without the word SYNTAX; none where its kind has no syntax
 abbrev pub syntax-tokens : List Tok → ℕ → Span

@@ -1,7 +1,7 @@
 -- The class of a definition: document 01, "Records". With it what breaks refusal 19, since such a convention has no class that counts.
 -- `ms` is what the tokens of a module say, `cs` their classes.
 -- Assumes nothing.
-use mathlib.Core.Bool.{Bool, false, cond, not, _&&_}
+use mathlib.Core.Bool.{Bool, false, cond, not, _&&_, _||_}
 use mathlib.Core.List.{List}
 use Prim.Native.Nat.{ℕ}
 use lib.Dec.{eqb}
@@ -36,6 +36,10 @@ unsettled = 15
 -- the kind of definition k
 abbrev pub kind-of : List ℕ → ℕ → ℕ
 kind-of cs k = fields-at cs k .kind
+
+-- a definition of this kind has a syntax and a class: an object or a convention
+abbrev pub has-syntax : ℕ → Bool
+has-syntax kind = eqb kind object || eqb kind convention
 
 -- the syntax of definition k
 unfoldable pub syntax-of : List ℕ → ℕ → Syntax

@@ -11,8 +11,8 @@ use Rattle.token.specs.Token.{Meaning}
 use Rattle.definition.specs.declared.Restriction.{Restriction}
 use Rattle.definition.specs.declared.Syntax.{Syntax}
 use Rattle.name.specs.Import.{classes-of}
-use Rattle.syntax_class.specs.Class.{unsettled, kind-of, syntax-of, class-of}
-use Rattle.syntax_rule.specs.Refusal.{nothing-tested, restriction-of, order-rule, limit-rule, item-rule, has-syntax, misplaced-in, outside-in, misfit-in}
+use Rattle.syntax_class.specs.Class.{unsettled, kind-of, has-syntax, syntax-of, class-of}
+use Rattle.syntax_rule.specs.Refusal.{nothing-tested, restriction-of, order-rule, limit-rule, item-rule, misplaced-in, outside-in, misfit-in}
 use Rattle.syntax_rule.proofs.RuleLaws.{nothing-kept}
 use Rattle.syntax_rule.proofs.Unsettled.{untested-unsettled}
 

@@ -20,7 +20,7 @@ use Rattle.name.specs.declared.Lead.the-variants.{Iso, Import, Definition, Noth
 use Rattle.restriction.specs.Limits.{range-limits, size-limits, integer-limits, bit-limits}
 use Rattle.restriction.specs.declared.Limits.{Limits}
 use Rattle.restriction.specs.Refusal.{misplaced-range, range-outside, misfit-item}
-use Rattle.syntax_class.specs.Class.{kind-of, syntax-of, type-name, lead-in, is-indirect, class-of}
+use Rattle.syntax_class.specs.Class.{kind-of, has-syntax, syntax-of, type-name, lead-in, is-indirect, class-of}
 
 -- a rule that is tested nowhere
 unfoldable pub nothing-tested : ℕ → Rule
@@ -64,10 +64,6 @@ item-rule ms (Octets r) = nothing-tested 18
 item-rule ms ObjectIdentifier = nothing-tested 18
 item-rule ms (Bits r) = enumeration-rule ms bit-limits r
 item-rule ms (SequenceOf t) = nothing-tested 18
-
--- definition k has a syntax: an object or a convention
-abbrev pub has-syntax : ℕ → Bool
-has-syntax kind = eqb kind object || eqb kind convention
 
 -- a name leads to a convention that breaches 19
 abbrev pub leads-to-indirect : List Meaning → Lead → Bool

@@ -19,7 +19,8 @@ use Rattle.number_buffer.proofs.Oids.{before-grows}
 use Rattle.oid.proofs.Runs.{run-ordered, run-count}
 use Rattle.record.proofs.Small.{kind-small, access-small, status-small}
 use Rattle.record.proofs.Words.{one-start, one-length, chosen-inside, chosen-small}
-use Rattle.record.specs.Record.{start-of, end-of, offset-in, length-in, has-syntax, syntax-tokens, record-of}
+use Rattle.syntax_class.specs.Class.{has-syntax}
+use Rattle.record.specs.Record.{start-of, end-of, offset-in, length-in, syntax-tokens, record-of}
 use Rattle.definition.specs.Landmark.{has-oid}
 use Rattle.field_table.specs.Table.{span-in}
 use borrow.Author.Needs.{needs}
