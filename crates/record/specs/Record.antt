@@ -1,12 +1,12 @@
 -- The records: document 01, "Records". `ts` are the tokens of a text; a definition is meant by its index among the definitions.
 -- Assumes nothing.
-use mathlib.Core.Bool.{Bool, cond, _||_}
+use mathlib.Core.Bool.{cond}
 use mathlib.Core.List.{List, [], _∷_, _++_}
 use Prim.Native.Nat.{ℕ, zero, suc, _-_}
-use lib.Dec.{ltb, eqb}
+use lib.Dec.{ltb}
 use lib.ListN.{length, getD}
 use Rattle.token.specs.Token.{Tok, meanings, no-token}
-use Rattle.definition.specs.Landmark.{definitions, has-oid, object, convention}
+use Rattle.definition.specs.Landmark.{definitions, has-oid}
 use Rattle.definition.specs.Fields.{span, fields-at}
 use Rattle.definition.specs.declared.Span.{Span}
 use Rattle.name.specs.Import.{classes-of}

@@ -8,7 +8,7 @@ use lib.Dec.{eqb}
 use lib.ListN.{length}
 use Rattle.index.specs.Rule.{Rule, each}
 use Rattle.token.specs.Token.{Meaning}
-use Rattle.definition.specs.Landmark.{definitions, object, convention}
+use Rattle.definition.specs.Landmark.{definitions, object}
 use Rattle.definition.specs.Fields.{fields-at}
 use Rattle.definition.specs.declared.Restriction.{Restriction}
 use Rattle.definition.specs.declared.Restriction.the-variants.{Free, Ranges, Sizes, Enumeration}
