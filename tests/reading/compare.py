@@ -5,7 +5,9 @@ compare.py card PROGRAM --count N --seed S     whole cards
 
 Both kinds of program take file names and print, when there are several, a
 line with each file's name before what they say of it. Texts on which the
-two differ are kept in a folder, and the exit is 1.
+two differ are kept in a folder, and the exit is 1. With --every it is 1
+also where some refusal from 2 to 22, or acceptance, occurs in no case;
+refusal 1 is about buffers, which no file can make short.
 """
 
 import argparse
@@ -53,9 +55,9 @@ def expected_end(answer):
     return b"derived"
 
 
-def tokens_differ(text, lines):
+def tokens_differ(text, answer, lines):
     """The last line always, starts and ends where the text is derived."""
-    expected = expected_end(reading.read(text))
+    expected = expected_end(answer)
     if not lines or lines[-1] != expected:
         return "%r, not %r" % (lines and lines[-1], expected)
     if expected != b"derived":
@@ -68,8 +70,8 @@ def tokens_differ(text, lines):
     return None
 
 
-def cards_differ(text, lines):
-    expected = reading.card(text).split(b"\n")[:-1]
+def cards_differ(text, answer, lines):
+    expected = reading.card_of(text, answer).split(b"\n")[:-1]
     if lines is None:
         return "nothing, not %r" % expected[0]
     for mine, other in zip(expected + [None], lines + [None]):
@@ -79,6 +81,9 @@ def cards_differ(text, lines):
 
 
 KINDS = {"tokens": tokens_differ, "card": cards_differ}
+
+# Accepted is 0.
+NUMBERS = [0] + list(range(2, 23))
 
 
 def cases(count, seed, first):
@@ -97,14 +102,15 @@ def write_files(folder, texts, first):
     return files
 
 
-def compare_batch(differ, program, texts, first, kept):
+def compare_batch(differ, program, texts, answers, first, kept):
     """Say each difference and keep its text; the answer is their
     number."""
     differences = 0
     with tempfile.TemporaryDirectory() as folder:
         files = write_files(folder, texts, first)
-        for file, text, lines in zip(files, texts, run(program, files)):
-            difference = differ(text, lines)
+        for file, text, answer, lines in zip(files, texts, answers,
+                                             run(program, files)):
+            difference = differ(text, answer, lines)
             if difference:
                 differences += 1
                 name = os.path.join(kept, os.path.basename(file))
@@ -122,15 +128,22 @@ def main():
     parser.add_argument("--count", type=int, default=1000)
     parser.add_argument("--seed", type=int, default=1)
     parser.add_argument("--kept", help="folder for texts that differ")
+    parser.add_argument("--every", action="store_true",
+                        help="ask that each answer occurs")
     options = parser.parse_args()
     kept = options.kept or os.path.join(tempfile.gettempdir(), "differing")
-    differences = 0
+    differences, seen = 0, set()
     for first in range(0, options.count, BATCH):
         texts = cases(options.count, options.seed, first)
+        answers = [reading.read(text) for text in texts]
+        seen.update(answer.number for answer in answers)
         differences += compare_batch(KINDS[options.kind], options.program,
-                                     texts, first, kept)
+                                     texts, answers, first, kept)
+    missing = [number for number in NUMBERS if number not in seen]
+    if options.every and missing:
+        print("no case is answered by %s" % missing)
     print("%d cases, %d differences" % (options.count, differences))
-    sys.exit(1 if differences else 0)
+    sys.exit(1 if differences or options.every and missing else 0)
 
 
 if __name__ == "__main__":

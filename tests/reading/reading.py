@@ -1159,10 +1159,13 @@ def read(text, record_words=5120, number_words=8192):
 # ------------------------------------------------------------------- card
 
 def card(text):
+    return card_of(text, read(text))
+
+
+def card_of(text, answer):
     """"one record a line, tabs between: `accepted` and the count, then
     kind, name, dotted OID or `-`, class, access, status; or `refused`,
     number, place" """
-    answer = read(text)
     if answer.number:
         lines = [("refused", answer.number, answer.place)]
     else:

@@ -1,0 +1,78 @@
+-- `write_definition` is right: kind, name and OID.
+-- Assumes nothing.
+use native.Mathlib.Omega.{arith}
+use borrow.Author.Needs.{needs}
+use mathlib.Core.Path.{ap}
+use Prim.Native.Nat.{ℕ, _≤_}
+use lib.ListN.{length, getD}
+use Rattle.buffer.proofs.Writing.{wrote-as}
+use Rattle.card_line.proofs.Sizes.{part-size, wrote-then}
+use Rattle.card_line.specs.Line.{tab, field, name, sub-identifiers, name-field, oid-field, definition-fields}
+use Rattle.card_line.proofs.write_definition.Statement.{statement}
+use Rattle.card_line.proofs.write_definition.Tie as tie
+
+-- a name is no longer than the text, and an OID than the number buffer
+name-size : (d : tie.Start) → length (name (d .args .text .now) (d .args .words .now)) ≤ length (d .args .text .now)
+name-size d = part-size (getD (d .args .words .now) 2 0) (getD (d .args .words .now) 1 0) (d .args .text .now)
+
+oid-size : (d : tie.Start) → length (sub-identifiers (d .args .numbers .now) (d .args .words .now)) ≤ length (d .args .numbers .now)
+oid-size d = part-size (getD (d .args .words .now) 4 0) (getD (d .args .words .now) 3 0) (d .args .numbers .now)
+
+word-requires : tie.Need-word-requires
+word-requires c κs = search needs
+
+cast-write-field : tie.Need-cast-write-field
+cast-write-field c = search needs
+
+write-field-requires : tie.Need-write-field-requires
+write-field-requires c κs = search needs
+
+name-of-requires : tie.Need-name-of-requires
+name-of-requires c κs = search needs
+
+write-name-requires : tie.Need-write-name-requires
+write-name-requires c κs =
+    let d = c .before .before .before .before .before .before .before .before .before .before .before in
+    let p = c .before .before .before .before .write-field in
+    omega (arith, d .pre, p .ensures .1, p .kept .1 .1 .0, ap length (c .before .name-of .ensures), name-size d)
+
+oid-of-requires : tie.Need-oid-of-requires
+oid-of-requires c κs = search needs
+
+write-oid-requires : tie.Need-write-oid-requires
+write-oid-requires c κs =
+    let d = c .before .before .before .before .before .before .before .before .before .before .before .before .before .before .before .before in
+    let p = c .before .before .before .before .before .before .before .before .before .write-field in
+    let q = c .before .before .before .before .write-name in
+    (omega (arith, d .pre, ap length (c .before .oid-of .ensures), oid-size d), omega (arith, d .pre, p .ensures .1, p .kept .1 .1 .0, ap length (c .before .before .before .before .before .before .name-of .ensures), name-size d, q .ensures .1, q .kept .1 .0))
+
+same-length : tie.Need-same-length
+same-length c = search needs
+
+returns : tie.Need-returns
+unfolding definition-fields
+returns c =
+    let d = c .before .before .before .before .before .before .before .before .before .before .before .before .before .before .before .before .before .before .before in
+    let p = c .before .before .before .before .before .before .before .before .before .before .before .before .write-field in
+    let q = c .before .before .before .before .before .before .before .write-name in
+    let r = c .before .before .write-oid in
+    let named = ap length (c .before .before .before .before .before .before .before .before .before .name-of .ensures) in (
+      wrote-then (wrote-as (ap (λ (n : ℕ). field n tab) (c .before .before .before .before .before .before .before .before .before .before .before .before .before .before .word .ensures)) (p .ensures .0)) (omega (arith, d .pre, p .ensures .1))
+          (wrote-then (wrote-as (ap name-field (c .before .before .before .before .before .before .before .before .before .name-of .ensures)) (q .ensures .0)) (omega (arith, d .pre, p .ensures .1, p .kept .1 .1 .0, q .ensures .1, named, name-size d))
+          (wrote-as (ap oid-field (c .before .before .before .before .oid-of .ensures)) (r .ensures .0))),
+      omega (arith, d .pre, p .ensures .1, q .ensures .1, r .ensures .1, named, name-size d),
+    )
+
+pub write-definition-spec : {M : Type 1} → statement M
+write-definition-spec =
+    tie.close
+    (tie.spec
+    word-requires
+    cast-write-field
+    write-field-requires
+    name-of-requires
+    write-name-requires
+    oid-of-requires
+    write-oid-requires
+    same-length
+    returns)

@@ -1,0 +1,40 @@
+// The bytes of a file.
+
+// What a file holds: so many bytes, at the start of the buffer; or it cannot be opened or read, and errno says why.
+pub enum Content {
+    Bytes(usize),
+    Failed,
+}
+
+// Reads the file of that name until it ends or buf is full.
+pub fn read_file(name: &[u8], buf: &mut [u8]) -> Content
+    ensures { λ r. ⌜ ContentWithin r (length (now (buf .entry))) ⌝ }
+{
+    let fd = os::open_read(name);
+    if fd < 0 {
+        return Content::Failed;
+    }
+    let content = read_all(fd, buf);
+    libc::close(fd);
+    content
+}
+
+// Reads until the input ends or buf is full.
+fn read_all(fd: i32, buf: &mut [u8]) -> Content
+    ensures { λ r. ⌜ ContentWithin r (length (now (buf .entry))) ⌝ }
+{
+    let mut n = 0;
+    while n < buf.len() {
+        let rest = &mut buf[n..];
+        let got = libc::read(fd, rest);
+        if got < 0 {
+            return Content::Failed;
+        }
+        let more = io::count(got, rest);
+        if more == 0 {
+            return Content::Bytes(n);
+        }
+        n += more;
+    }
+    Content::Bytes(n)
+}
