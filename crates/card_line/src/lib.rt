@@ -46,7 +46,8 @@ fn write_field(n: u64, behind: u8, out: &mut [u8], at: usize) -> usize
 // The line of an accepted module.
 fn write_accepted(count: usize, out: &mut [u8], at: usize) -> usize
     requires { ⌜ at + longest-head ≤ length (now out) ⌝ }
-    ensures { λ r. ⌜ Wrote (accepted-line count) at r (now (out .entry)) (now (out .exit)) ⌝ }
+    ensures bytes { λ r. ⌜ Wrote (accepted-line count) at r (now (out .entry)) (now (out .exit)) ⌝ }
+    ensures short { λ r. ⌜ r ≤ at + longest-head ⌝ }
 {
     let next = copy(b"accepted\t", out, at);
     write_field(count as u64, LINE_END, out, next)
@@ -55,7 +56,8 @@ fn write_accepted(count: usize, out: &mut [u8], at: usize) -> usize
 // The line of a refusal.
 fn write_refused(number: u8, place: usize, out: &mut [u8], at: usize) -> usize
     requires { ⌜ at + longest-head ≤ length (now out) ⌝ }
-    ensures { λ r. ⌜ Wrote (refused-line number place) at r (now (out .entry)) (now (out .exit)) ⌝ }
+    ensures bytes { λ r. ⌜ Wrote (refused-line number place) at r (now (out .entry)) (now (out .exit)) ⌝ }
+    ensures short { λ r. ⌜ r ≤ at + longest-head ⌝ }
 {
     let next = copy(b"refused\t", out, at);
     let next = write_field(number as u64, TAB, out, next);
@@ -65,7 +67,8 @@ fn write_refused(number: u8, place: usize, out: &mut [u8], at: usize) -> usize
 // Writes the card's first line, and answers the place after it.
 pub fn write_head(answer: Answer, out: &mut [u8], at: usize) -> usize
     requires { ⌜ at + longest-head ≤ length (now out) ⌝ }
-    ensures { λ r. ⌜ Wrote (head answer) at r (now (out .entry)) (now (out .exit)) ⌝ }
+    ensures bytes { λ r. ⌜ Wrote (head answer) at r (now (out .entry)) (now (out .exit)) ⌝ }
+    ensures short { λ r. ⌜ r ≤ at + longest-head ⌝ }
 {
     match answer {
         Answer::Accepted(count) => write_accepted(count, out, at),
@@ -212,7 +215,8 @@ fn write_definition(text: &[u8], words: &[u32], numbers: &[u32], out: &mut [u8],
 // Writes what is said of it: class, access and status.
 fn write_attributes(words: &[u32], out: &mut [u8], at: usize) -> usize
     requires { ⌜ at + longest-attributes ≤ length (now out) ⌝ }
-    ensures { λ r. ⌜ Wrote (attribute-fields (now (words .entry))) at r (now (out .entry)) (now (out .exit)) ⌝ }
+    ensures bytes { λ r. ⌜ Wrote (attribute-fields (now (words .entry))) at r (now (out .entry)) (now (out .exit)) ⌝ }
+    ensures short { λ r. ⌜ r ≤ at + longest-attributes ⌝ }
 {
     let next = write_field(word(words, CLASS) as u64, TAB, out, at);
     let next = write_field(word(words, ACCESS) as u64, TAB, out, next);
@@ -224,7 +228,8 @@ pub fn write_record(text: &[u8], words: &[u32], numbers: &[u32], out: &mut [u8],
     requires text { ⌜ length (now text) ≤ longest-text ⌝ }
     requires numbers { ⌜ length (now numbers) ≤ number-words ⌝ }
     requires room { ⌜ at + longest-line ≤ length (now out) ⌝ }
-    ensures { λ r. ⌜ Wrote (record-line (now (text .entry)) (now (words .entry)) (now (numbers .entry))) at r (now (out .entry)) (now (out .exit)) ⌝ }
+    ensures bytes { λ r. ⌜ Wrote (record-line (now (text .entry)) (now (words .entry)) (now (numbers .entry))) at r (now (out .entry)) (now (out .exit)) ⌝ }
+    ensures short { λ r. ⌜ r ≤ at + longest-line ⌝ }
 {
     let next = write_definition(text, words, numbers, out, at);
     write_attributes(words, out, next)

@@ -1,4 +1,6 @@
 // The bytes of a file.
+ghost use lib.ListN.{length};
+ghost use Rattle.command.specs.Within.{ContentWithin};
 
 // What a file holds: so many bytes, at the start of the buffer; or it cannot be opened or read, and errno says why.
 pub enum Content {

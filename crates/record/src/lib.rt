@@ -22,7 +22,7 @@ use definition::kind;
 use index::RecordIndex;
 
 // How many words a record has.
-const WIDTH: usize = 10;
+pub const WIDTH: usize = 10;
 
 // Some bytes of the text: where they start, and how many there are.
 struct Bytes {

@@ -8,17 +8,12 @@ ghost use lib.ListN.{length};
 ghost use Rattle.lexicon.specs.Word.{Within};
 ghost use Rattle.token.specs.Cut.{cut};
 ghost use Rattle.token.specs.Table.{longest-text, TokenTable};
+use command::Content;
 use libc::STDOUT_FILENO;
 use syntax::Answer;
 
 // A text may have this many bytes. One byte more is read, to tell a longer file.
 const LONGEST: usize = 65536;
-
-// What a file holds: so many bytes; or it cannot be read.
-enum Content {
-    Bytes(usize),
-    Failed,
-}
 
 fn main() {
     let mut space = io::large_buffer();
@@ -55,42 +50,16 @@ fn print_line(line: &[u8]) {
 
 // Lists one file, or says why it cannot be opened or read.
 fn list_file(name: &[u8]) {
-    let fd = os::open_read(name);
-    if fd < 0 {
-        os::fail(name);
-        return;
-    }
     let mut space = [0u8; 65537];
-    let content = read_file(fd, &mut space);
-    let Content::Bytes(n) = content else {
+    let Content::Bytes(n) = command::read_file(name, &mut space) else {
         os::fail(name);
-        libc::close(fd);
         return;
     };
-    libc::close(fd);
     if LONGEST < n {
         print_refusal(2, 0);
         return;
     }
     list_text(&space[..n]);
-}
-
-// Reads until the file ends or buf is full.
-fn read_file(fd: i32, buf: &mut [u8]) -> Content {
-    let mut n = 0;
-    while n < buf.len() {
-        let rest = &mut buf[n..];
-        let got = libc::read(fd, rest);
-        if got < 0 {
-            return Content::Failed;
-        }
-        let more = io::count(got, rest);
-        if more == 0 {
-            return Content::Bytes(n);
-        }
-        n += more;
-    }
-    Content::Bytes(n)
 }
 
 fn print_refusal(number: u64, place: u64) {

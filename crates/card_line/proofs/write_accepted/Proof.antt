@@ -25,7 +25,8 @@ unfolding accepted-line bytes
 returns c =
     let d = c .before .before .before .before .before .before .before .before .before .before in
     let p = c .before .before .before .before .before .before .copy .ensures in
-    wrote-then p (omega (arith, d .pre, p .next-is)) (c .before .before .write-field .ensures .0)
+    let q = c .before .before .write-field .ensures in
+    (wrote-then p (omega (arith, d .pre, p .next-is)) (q .0), omega (arith, p .next-is, q .1))
 
 pub write-accepted-spec : {M : Type 1} → statement M
 write-accepted-spec =

@@ -53,9 +53,12 @@ returns c =
     let d = c .before .before .before .before .before .before .before .before .before .before .before .before .before .before .before .before .before in
     let p = c .before .before .before .before .before .before .before .before .before .before .before .before .write-field in
     let q = c .before .before .before .before .before .before .before .write-field2 in
-    wrote-then (wrote-as (ap (λ (n : ℕ). field n tab) (c .before .before .before .before .before .before .before .before .before .before .before .before .before .before .word .ensures)) (p .ensures .0)) (omega (arith, d .pre, p .ensures .1))
-    (wrote-then (wrote-as (ap (λ (n : ℕ). field n tab) (c .before .before .before .before .before .before .before .before .before .word2 .ensures)) (q .ensures .0)) (omega (arith, d .pre, p .ensures .1, q .ensures .1, p .kept .1 .1 .0))
-    (wrote-as (ap (λ (n : ℕ). field n line-end) (c .before .before .before .before .word3 .ensures)) (c .before .before .write-field3 .ensures .0)))
+    let r = c .before .before .write-field3 .ensures in (
+      wrote-then (wrote-as (ap (λ (n : ℕ). field n tab) (c .before .before .before .before .before .before .before .before .before .before .before .before .before .before .word .ensures)) (p .ensures .0)) (omega (arith, d .pre, p .ensures .1))
+          (wrote-then (wrote-as (ap (λ (n : ℕ). field n tab) (c .before .before .before .before .before .before .before .before .before .word2 .ensures)) (q .ensures .0)) (omega (arith, d .pre, p .ensures .1, q .ensures .1, p .kept .1 .1 .0))
+          (wrote-as (ap (λ (n : ℕ). field n line-end) (c .before .before .before .before .word3 .ensures)) (r .0))),
+      omega (arith, p .ensures .1, q .ensures .1, r .1),
+    )
 
 pub write-attributes-spec : {M : Type 1} → statement M
 write-attributes-spec =

@@ -23,13 +23,17 @@ same-length : tie.Need-same-length
 same-length c = search needs
 
 returns : tie.Need-returns
-returns c = wrote-as (sym (ap head (c .before .before .before .before .before .answer .given .1))) (c .before .before .write-accepted .ensures)
+returns c =
+    let p = c .before .before .write-accepted .ensures in
+    (wrote-as (sym (ap head (c .before .before .before .before .before .answer .given .1))) (p .0), p .1)
 
 same-length-2 : tie.Need-same-length-2
 same-length-2 c = search needs
 
 returns-2 : tie.Need-returns-2
-returns-2 c = wrote-as (sym (ap head (c .before .before .before .before .before .answer2 .given .1))) (c .before .before .write-refused .ensures)
+returns-2 c =
+    let p = c .before .before .write-refused .ensures in
+    (wrote-as (sym (ap head (c .before .before .before .before .before .answer2 .given .1))) (p .0), p .1)
 
 pub write-head-spec : {M : Type 1} → statement M
 write-head-spec =

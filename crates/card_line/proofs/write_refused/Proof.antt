@@ -33,7 +33,8 @@ returns c =
     let d = c .before .before .before .before .before .before .before .before .before .before .before .before .before .before in
     let p = c .before .before .before .before .before .before .before .before .before .before .copy in
     let q = c .before .before .before .before .before .before .write-field in
-    wrote-then (p .ensures) (omega (arith, d .pre, p .ensures .next-is)) (wrote-then (q .ensures .0) (omega (arith, d .pre, p .ensures .next-is, p .kept .1 .0, q .ensures .1)) (c .before .before .write-field2 .ensures .0))
+    let r = c .before .before .write-field2 .ensures in
+    (wrote-then (p .ensures) (omega (arith, d .pre, p .ensures .next-is)) (wrote-then (q .ensures .0) (omega (arith, d .pre, p .ensures .next-is, p .kept .1 .0, q .ensures .1)) (r .0)), omega (arith, p .ensures .next-is, q .ensures .1, r .1))
 
 pub write-refused-spec : {M : Type 1} → statement M
 write-refused-spec =

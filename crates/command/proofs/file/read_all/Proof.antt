@@ -1,11 +1,11 @@
--- `read_file` is safe and ends because each turn reads at least a byte into what is left of the buffer.
+-- `read_all` is safe and ends because each turn reads at least a byte into what is left of the buffer.
 -- Assumes nothing.
 use mathlib.Core.Path.{_≡_}
 use Prim.Native.Nat.{_-_, _≤_}
 use lib.ListN.{length}
 use borrow.Author.Needs.{needs}
-use Rattle.tokens.proofs.read_file.Statement.{statement}
-use Rattle.tokens.proofs.read_file.Tie as tie
+use Rattle.command.proofs.file.read_all.Statement.{statement}
+use Rattle.command.proofs.file.read_all.Tie as tie
 
 abbrev Inv-loop : tie.InvT-loop
 Inv-loop fd buf₀ n₀ buf n = (n ≤ length buf) × (length buf ≡ length buf₀)
@@ -58,8 +58,8 @@ same-length-3 c = search needs
 returns-3 : tie.Need-returns-3 Inv-loop μ-loop
 returns-3 c = search needs
 
-pub read-file-spec : {M : Type 1} → statement M
-read-file-spec =
+pub read-all-spec : {M : Type 1} → statement M
+read-all-spec =
     tie.close
     (tie.spec
     Inv-loop
