@@ -1,0 +1,5 @@
+pub mod First
+pub mod Starts
+pub mod CutNumbers
+pub mod Faults
+pub mod Breaches
