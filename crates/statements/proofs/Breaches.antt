@@ -31,15 +31,19 @@ before-number : (r s : Rule) → Before r s → r .number ≤ s .number
 before-number r s (inl less) = omega arith
 before-number r s (inr same) = omega (arith, same .0)
 
--- the first of rules in order has the smallest number
-head-smallest : (r : Rule) (rs : List Rule) → InOrder (r ∷ rs) → (s : Rule) → s listed-in (r ∷ rs) → r .number ≤ s .number
-head-smallest r rs order s (inl same) = omega (arith, ap (λ (x : Rule). x .number) same)
-head-smallest r rs order s (inr l) = before-number r s (before-listed r rs (order .1) s l)
+-- the number of the first of some rules, which is the smallest where they are in order
+abbrev head-number : List Rule → ℕ
+head-number [] = 0
+head-number (r ∷ rs) = r .number
+
+head-smallest : (rs : List Rule) → InOrder rs → (s : Rule) → s listed-in rs → head-number rs ≤ s .number
+head-smallest (r ∷ rs) order s (inl same) = omega (arith, ap (λ (x : Rule). x .number) same)
+head-smallest (r ∷ rs) order s (inr l) = before-number r s (before-listed r rs (order .1) s l)
 
 -- the rules after the grammar have numbers from 8 on
 pub from-eight : (ms : List Meaning) → InOrder (rules ms) → (s : Rule) → s listed-in rules ms → 8 ≤ s .number
 unfolding rules name-rules too-many
-from-eight ms order s l = head-smallest (too-many ms) _ order s l
+from-eight ms order s l = head-smallest (rules ms) order s l
 
 -- ---- the first breach
 
@@ -100,3 +104,88 @@ module _ (text : List ℕ) (a b : ℕ) where
       nowhere-earlier = λ q less x. omega arith;
       none-smaller = λ m q less x. omega (arith, numbered m q x);
     }
+
+    -- 2 is, where no buffer is too short
+    pub first-long : record-words ≤ a → number-words ≤ b → longest-text < length text → First 2 0
+    first-long room space over = record {
+      broken = long-text over;
+      nowhere-earlier = λ q less x. omega arith;
+      none-smaller = none;
+    }
+      where
+        none : (m q : ℕ) → m < 2 → In m q → ⊥
+        none m q less (short-buffer s) = ⊎-elim (λ l. omega arith) (λ l. omega arith) s
+        none m q less (long-text l) = omega arith
+        none m q less (not-cut e) = omega (arith, cut-numbered text m q e)
+        none m q less (not-derived c n f) = omega arith
+        none m q less (rule-broken c d x) = omega (arith, later-number x)
+
+    -- within the limits
+    module _ (limits : WithinLimits text a b) where
+      not-short : (a < record-words) ⊎ (b < number-words) → ⊥
+      not-short = ⊎-elim (λ l. omega (arith, limits .record-room)) (λ l. omega (arith, limits .number-room))
+
+      -- a text that does not cut
+      pub first-uncut : (n p : ℕ) → cut text .ending ≡ refused n p → First n p
+      first-uncut n p e = least-first n p (not-cut e) least
+        where
+          never : Cuts text → ⊥
+          never c = let z : _≡_ {A = ℕ} 0 1 = cc in omega arith
+
+          least : (m q : ℕ) → In m q → NoLater n p m q
+          least m q (short-buffer s) = absurd (not-short s)
+          least m q (long-text l) = absurd (omega (arith, limits .short-text))
+          least m q (not-cut f) =
+              let number : n ≡ m = cc in
+              let place : p ≡ q = cc in
+              inr (number, omega arith)
+          least m q (not-derived c d f) = absurd (never c)
+          least m q (rule-broken c d x) = absurd (never c)
+
+      -- a text that cuts into tokens
+      module _ (cuts : Cuts text) where
+        whole-cut : (m q : ℕ) → cut text .ending ≡ refused m q → ⊥
+        whole-cut m q e = let z : _≡_ {A = ℕ} 0 1 = cc in omega arith
+
+        -- and is not derived
+        pub first-underived : (p : ℕ) → (Derives text → ⊥) → Fault text p → First 7 p
+        first-underived p none fault = least-first 7 p (not-derived cuts none fault) least
+          where
+            least : (m q : ℕ) → In m q → NoLater 7 p m q
+            least m q (short-buffer s) = absurd (not-short s)
+            least m q (long-text l) = absurd (omega (arith, limits .short-text))
+            least m q (not-cut e) = absurd (whole-cut m q e)
+            least m q (not-derived c n f) = inr (refl, omega (arith, one-fault text fault f))
+            least m q (rule-broken c d x) = absurd (none d)
+
+        -- and is derived
+        module _ (derives : Derives text) where
+          by-rules : (m q : ℕ) → In m q → OfRules m q
+          by-rules m q (short-buffer s) = absurd (not-short s)
+          by-rules m q (long-text l) = absurd (omega (arith, limits .short-text))
+          by-rules m q (not-cut e) = absurd (whole-cut m q e)
+          by-rules m q (not-derived c none f) = absurd (none derives)
+          by-rules m q (rule-broken {token = t} c d x) = record { token = t; broken = x; starts = refl }
+
+          -- all rules are kept
+          pub none-broken : AllKept (rules (meanings-in text)) → (m q : ℕ) → In m q → ⊥
+          none-broken kept m q x =
+              let y = by-rules m q x .broken in
+              kept-none (rules (meanings-in text)) kept (y .rule) (y .listed) (y .index) (y .broken)
+
+          -- one is broken: the first is broken first at its token's start, since starts rise
+          pub first-broken : Placed (length (meanings-in text)) (rules (meanings-in text)) → (n token : ℕ)
+              → FirstBroken n token (rules (meanings-in text)) → First n (start-of (cut text .tokens) token)
+          first-broken placed n token first =
+              least-first n (start-of (cut text .tokens) token) (rule-broken cuts derives (first-found first)) least
+            where
+              least : (m q : ℕ) → In m q → NoLater n (start-of (cut text .tokens) token) m q
+              least m q x =
+                  let o = by-rules m q x in
+                  let y = o .broken in
+                  let at = placed-listed (length (meanings-in text)) (rules (meanings-in text)) placed (y .rule) (y .listed) (y .index) (y .broken) in
+                  let inside : o .token < length (cut text .tokens) = omega (arith, at, y .placed, length-map (cut text .tokens) (λ (t : Tok). t .says)) in
+                  ⊎-elim
+                  (λ less. inl (omega (arith, y .numbered)))
+                  (λ same. inr (same .0 ∙ y .numbered, omega (arith, o .starts, starts-rise text token (o .token) (omega (arith, same .1, y .placed)) inside)))
+                  (first-least (rules (meanings-in text)) first order (y .rule) (y .listed) (y .index) (y .broken))

@@ -17,7 +17,7 @@ use Rattle.statements.specs.Breach.{_listed-in_, BrokenIn}
 abbrev pub NoLater : ℕ → ℕ → ℕ → ℕ → Type 0
 NoLater number token m i = (number < m) ⊎ ((number ≡ m) × (token ≤ i))
 
--- what holds of each rule of a list holds of a rule that is listed
+-- where a rule is broken first, it is broken
 broken-here : {r : Rule} {number token : ℕ} → (b : BrokenAt r number token) → Broken r (b .index)
 broken-here b = record { from = b .inside .0; below = b .inside .1; breaks = b .breaks }
 
@@ -52,7 +52,7 @@ kept-none (r ∷ rs) kept s (inl same) k b = never-here (kept .0) (subst (λ (x 
 kept-none (r ∷ rs) kept s (inr l) k b = kept-none rs (kept .1) s l k b
 
 -- a rule comes before each that is listed after it
-before-listed : (r : Rule) (rs : List Rule) → BeforeAll r rs → (s : Rule) → s listed-in rs → Before r s
+pub before-listed : (r : Rule) (rs : List Rule) → BeforeAll r rs → (s : Rule) → s listed-in rs → Before r s
 before-listed r (x ∷ rs) all s (inl same) = subst (Before r) (sym same) (all .0)
 before-listed r (x ∷ rs) all s (inr l) = before-listed r rs (all .1) s l
 
