@@ -3,3 +3,4 @@ pub mod Starts
 pub mod CutNumbers
 pub mod Faults
 pub mod Breaches
+pub mod Right

@@ -91,10 +91,6 @@ ReadAlike a b =
 
 -- ---- Printing by hint
 
--- each element is an octet
-abbrev pub Octets : List ℕ → Type 0
-Octets value = (k : ℕ) → getD value k 0 < 256
-
 -- A value printed to a buffer with a part of so many bytes, by its verdict: what is answered, and every byte of the buffer.
 pub record Prints (part : ℕ) (verdict : hint.Verdict) (answer : HintAnswer) (before after : List ℕ) : Type 0 where
   -- "0 and the length"; "bytes of that part not printed are 0, later ones unchanged"
@@ -163,7 +159,7 @@ pub record Statements : Type 0 where
       → PrintedInteger display-hint value answer before after
       → Prints hint.integer-part (hint.integer-verdict (length before) display-hint value) answer before after
   -- "Output never passes four bytes for each octet"
-  pub four-bytes : (room : ℕ) (display-hint value t : List ℕ) → Octets value → hint.octets-verdict room display-hint value ≡ hint.text t
+  pub four-bytes : (room : ℕ) (display-hint value t : List ℕ) → ((k : ℕ) → getD value k 0 < 256) → hint.octets-verdict room display-hint value ≡ hint.text t
       → length t ≤ 4 * length value
   -- the contracts leave nothing open: two calls with equal arguments answer and print the same
   pub one-print-of-octets : (display-hint value : List ℕ) (x y : HintAnswer) (before a b : List ℕ)
