@@ -85,9 +85,10 @@ module _ (text : List ℕ) (a b : ℕ) where
     broken : BrokenIn (rules (meanings-in text)) m token
     starts : q ≡ start-of (cut text .tokens) token
 
-  module _ (order : InOrder (rules (meanings-in text))) where
-    later-number : {m token : ℕ} → BrokenIn (rules (meanings-in text)) m token → 8 ≤ m
-    later-number x = omega (arith, x .numbered, from-eight (meanings-in text) order (x .rule) (x .listed))
+  -- where the text is derived, its rules are in order
+  module _ (order : Derives text → InOrder (rules (meanings-in text))) where
+    later-number : {m token : ℕ} → Derives text → BrokenIn (rules (meanings-in text)) m token → 8 ≤ m
+    later-number derives x = omega (arith, x .numbered, from-eight (meanings-in text) (order derives) (x .rule) (x .listed))
 
     -- no number is 0
     pub numbered : (m q : ℕ) → In m q → 1 ≤ m
@@ -95,7 +96,7 @@ module _ (text : List ℕ) (a b : ℕ) where
     numbered m q (long-text l) = omega arith
     numbered m q (not-cut e) = omega (arith, cut-numbered text m q e)
     numbered m q (not-derived c n f) = omega arith
-    numbered m q (rule-broken c d x) = omega (arith, later-number x)
+    numbered m q (rule-broken c d x) = omega (arith, later-number d x)
 
     -- 1 is the first wherever it is met
     pub first-short : (a < record-words) ⊎ (b < number-words) → First 1 0
@@ -118,7 +119,7 @@ module _ (text : List ℕ) (a b : ℕ) where
         none m q less (long-text l) = omega arith
         none m q less (not-cut e) = omega (arith, cut-numbered text m q e)
         none m q less (not-derived c n f) = omega arith
-        none m q less (rule-broken c d x) = omega (arith, later-number x)
+        none m q less (rule-broken c d x) = omega (arith, later-number d x)
 
     -- within the limits
     module _ (limits : WithinLimits text a b) where
@@ -188,4 +189,4 @@ module _ (text : List ℕ) (a b : ℕ) where
                   ⊎-elim
                   (λ less. inl (omega (arith, y .numbered)))
                   (λ same. inr (same .0 ∙ y .numbered, omega (arith, o .starts, starts-rise text token (o .token) (omega (arith, same .1, y .placed)) inside)))
-                  (first-least (rules (meanings-in text)) first order (y .rule) (y .listed) (y .index) (y .broken))
+                  (first-least (rules (meanings-in text)) first (order derives) (y .rule) (y .listed) (y .index) (y .broken))

@@ -4,3 +4,4 @@ pub mod CutNumbers
 pub mod Faults
 pub mod Breaches
 pub mod Right
+pub mod Classes

@@ -11,7 +11,6 @@ use Rattle.index.specs.Rule.{judge}
 use Rattle.index.specs.declared.Judgement.{Judgement}
 use Rattle.index.specs.declared.Judgement.the-variants.{Kept, Broken}
 use Rattle.index.proofs.Judged.{judged-kept, judged-broken}
-use Rattle.token.specs.Token.{Meaning}
 use Rattle.token.specs.Cut.{Ending, whole, refused, cut, meanings-in}
 use Rattle.token.specs.Table.{longest-text}
 use Rattle.grammar.specs.Answer.{Verdict, derived}
@@ -25,7 +24,7 @@ use Rattle.reader.specs.Buffers.{record-words, number-words, number-of, answer-
 use Rattle.reader.specs.declared.Answer.{Answer}
 use Rattle.reader.specs.declared.Answer.the-variants.{Accepted, Refused}
 use Rattle.statements.specs.Order.{InOrder, Placed}
-use Rattle.statements.specs.Breach.{WithinLimits, Cuts, InBreach, FirstBreach}
+use Rattle.statements.specs.Breach.{WithinLimits, Cuts, Derives, InBreach, FirstBreach}
 use Rattle.statements.proofs.Breaches.{one-first, numbered, first-short, first-long, first-uncut, first-underived, none-broken, first-broken}
 
 -- what an answer says of breaches, where the buffers lent have so many words
@@ -33,12 +32,8 @@ abbrev pub Right : List ℕ → ℕ → ℕ → Answer → Type 0
 Right text a b (Accepted count) = (m q : ℕ) → InBreach text a b m q → ⊥
 Right text a b (Refused number place) = FirstBreach text a b number (place .0)
 
--- for rules that are in order, with places among the tokens
-module _ (in-order : (ms : List Meaning) → InOrder (rules ms)) (placed : (ms : List Meaning) → Placed (length ms) (rules ms)) (text : List ℕ) where
-  -- the rules of this text
-  order : InOrder (rules (meanings-in text))
-  order = in-order (meanings-in text)
-
+-- of a text whose rules, where it is derived, are in order, with places among the tokens
+module _ (text : List ℕ) (order : Derives text → InOrder (rules (meanings-in text))) (placed : Placed (length (meanings-in text)) (rules (meanings-in text))) where
   -- within the limits, by how the text is parsed
   module _ (a b : ℕ) (limits : WithinLimits text a b) where
     abbrev RightOutcome : Parsing → Type 0
@@ -51,7 +46,7 @@ module _ (in-order : (ms : List Meaning) → InOrder (rules ms)) (placed : (ms :
         go : (j : Judgement) → judge (rules (meanings-in text)) ≡ j → Right text a b (answer-to (judged (cut text .tokens) j))
         go Kept is = none-broken text a b order limits cuts (d .otherwise .0 refl) (judged-kept (rules (meanings-in text)) is)
         go (Broken number token) is =
-            first-broken text a b order limits cuts (d .otherwise .0 refl) (placed (meanings-in text)) number (token .0)
+            first-broken text a b order limits cuts (d .otherwise .0 refl) placed number (token .0)
             (judged-broken (rules (meanings-in text)) number (token .0) is)
     by-verdict cuts (refused-at i) d = first-underived text a b order limits cuts _ (d .exactly .0 refl) (d .at-fault refl)
 
