@@ -126,6 +126,14 @@ module _ (text : List ℕ) (a b : ℕ) where
       not-short : (a < record-words) ⊎ (b < number-words) → ⊥
       not-short = ⊎-elim (λ l. omega (arith, limits .record-room)) (λ l. omega (arith, limits .number-room))
 
+      -- only 1 and 2 are below 3
+      pub past-limits : (m q : ℕ) → In m q → 3 ≤ m
+      past-limits m q (short-buffer s) = absurd (not-short s)
+      past-limits m q (long-text l) = absurd (omega (arith, limits .short-text))
+      past-limits m q (not-cut e) = omega (arith, cut-numbered text m q e)
+      past-limits m q (not-derived c n f) = omega arith
+      past-limits m q (rule-broken c d x) = omega (arith, later-number d x)
+
       -- a text that does not cut
       pub first-uncut : (n p : ℕ) → cut text .ending ≡ refused n p → First n p
       first-uncut n p e = least-first n p (not-cut e) least

@@ -25,7 +25,8 @@ use Rattle.reader.specs.declared.Answer.{Answer}
 use Rattle.reader.specs.declared.Answer.the-variants.{Accepted, Refused}
 use Rattle.statements.specs.Order.{InOrder, Placed}
 use Rattle.statements.specs.Breach.{WithinLimits, Cuts, Derives, InBreach, FirstBreach}
-use Rattle.statements.proofs.Breaches.{one-first, numbered, first-short, first-long, first-uncut, first-underived, none-broken, first-broken}
+use Rattle.statements.proofs.Limits.{Lent, short, long, within, lent}
+use Rattle.statements.proofs.Breaches.{one-first, numbered, first-short, first-long, past-limits, first-uncut, first-underived, none-broken, first-broken}
 
 -- what an answer says of breaches, where the buffers lent have so many words
 abbrev pub Right : List ℕ → ℕ → ℕ → Answer → Type 0
@@ -68,17 +69,34 @@ module _ (text : List ℕ) (order : Derives text → InOrder (rules (meanings-in
     b = length numbers
 
     right-answer : Right text a b answer
-    right-answer = go (decLt a record-words) (decLt b number-words) (decLt longest-text (length text))
+    right-answer = go (lent text a b)
       where
-        go : Dec (a < record-words) → Dec (b < number-words) → Dec (longest-text < length text) → Right text a b answer
-        go (yes less) f l = subst (Right text a b) (sym (reads .short (inl less) .answered)) (first-short text a b order (inl less))
-        go (no e) (yes less) l = subst (Right text a b) (sym (reads .short (inr less) .answered)) (first-short text a b order (inr less))
-        go (no e) (no f) (yes over) =
-            subst (Right text a b) (sym (reads .long (omega arith) (omega arith) over .answered)) (first-long text a b order (omega arith) (omega arith) over)
-        go (no e) (no f) (no l) =
-            let limits : WithinLimits text a b = record { record-room = omega arith; number-room = omega arith; short-text = omega arith } in
-            let i = reads .read (omega arith) (omega arith) (omega arith) in
+        go : Lent text a b → Right text a b answer
+        go (short few) = subst (Right text a b) (sym (reads .short few .answered)) (first-short text a b order few)
+        go (long room space over) = subst (Right text a b) (sym (reads .long room space over .answered)) (first-long text a b order room space over)
+        go (within limits) =
+            let i = reads .read (limits .record-room) (limits .number-room) (limits .short-text) in
             subst (Right text a b) (sym (i .2 .answered)) (right-outcome a b limits (i .0) (i .1))
+
+    -- number 0 is that of accepted texts alone
+    pub accepted-is : number-of answer ≡ 0 → (count : ℕ) × (answer ≡ Accepted count)
+    accepted-is zero = go answer refl
+      where
+        go : (x : Answer) → answer ≡ x → (count : ℕ) × (answer ≡ Accepted count)
+        go (Accepted count) e = (count, e)
+        go (Refused m q) e =
+            let first : FirstBreach text a b m (q .0) = subst (Right text a b) e right-answer in
+            absurd (omega (arith, zero, ap number-of e, numbered text a b order m (q .0) (first .broken)))
+
+    -- within the limits, 1 and 2 are not answered
+    pub later-refusal : WithinLimits text a b → 0 < number-of answer → 2 < number-of answer
+    later-refusal limits some = go answer refl
+      where
+        go : (x : Answer) → answer ≡ x → 2 < number-of answer
+        go (Accepted count) e = absurd (omega (arith, ap number-of e))
+        go (Refused m q) e =
+            let first : FirstBreach text a b m (q .0) = subst (Right text a b) e right-answer in
+            omega (arith, ap number-of e, past-limits text a b order limits m (q .0) (first .broken))
 
     pub refused-exactly : (number place : ℕ) → (answer ≡ Refused number (record { 0 = place })) ↔ FirstBreach text a b number place
     refused-exactly number place = (λ e. subst (Right text a b) e right-answer, λ first. go first answer refl)
@@ -90,14 +108,11 @@ module _ (text : List ℕ) (order : Derives text → InOrder (rules (meanings-in
             e ∙ ap (λ (k : ℕ). Refused k q) (one .0) ∙ ap (λ (k : ℕ). Refused number (record { 0 = k })) (one .1)
 
     pub accepted-exactly : (number-of answer ≡ 0) ↔ ((number place : ℕ) → InBreach text a b number place → ⊥)
-    accepted-exactly = (λ zero. accepted answer refl zero, λ none. unbroken none answer refl)
+    accepted-exactly = (
+      λ zero. let c = accepted-is zero in subst (Right text a b) (c .1) right-answer,
+      λ none. unbroken none answer refl,
+    )
       where
-        accepted : (x : Answer) → answer ≡ x → number-of answer ≡ 0 → (number place : ℕ) → InBreach text a b number place → ⊥
-        accepted (Accepted count) e zero = subst (Right text a b) e right-answer
-        accepted (Refused m q) e zero =
-            let first : FirstBreach text a b m (q .0) = subst (Right text a b) e right-answer in
-            absurd (omega (arith, zero, ap number-of e, numbered text a b order m (q .0) (first .broken)))
-
         unbroken : ((number place : ℕ) → InBreach text a b number place → ⊥) → (x : Answer) → answer ≡ x → number-of answer ≡ 0
         unbroken none (Accepted count) e = ap number-of e
         unbroken none (Refused m q) e =
