@@ -8,3 +8,4 @@ pub mod Classes
 pub mod Room
 pub mod Limits
 pub mod Filled
+pub mod Demands
