@@ -9,3 +9,5 @@ pub mod Room
 pub mod Limits
 pub mod Filled
 pub mod Demands
+pub mod Third
+pub mod Alike
