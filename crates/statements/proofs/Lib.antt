@@ -11,3 +11,7 @@ pub mod Filled
 pub mod Demands
 pub mod Third
 pub mod Alike
+pub mod Printing
+pub mod Rows
+pub mod Examples
+pub mod Statements

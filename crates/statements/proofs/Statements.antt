@@ -1,0 +1,47 @@
+-- All statements hold.
+-- Assumes nothing.
+use mathlib.Core.Path.{ap, sym, _∙_}
+use mathlib.Core.List.{List}
+use Prim.Native.Nat.{ℕ}
+use lib.ListN.{length}
+use Rattle.token.specs.Token.{Meaning}
+use Rattle.token.specs.Cut.{meanings-in}
+use Rattle.grammar.specs.Grammar.{smi-module}
+use Rattle.grammar.specs.Answer.{Derives as DerivesClasses}
+use Rattle.name.specs.Import.{classes-of}
+use Rattle.row_status.specs.RowStatus.{Outcome}
+use Rattle.reader.specs.Reading.{rules}
+use Rattle.statements.specs.Order.{InOrder, Placed}
+use Rattle.statements.specs.Breach.{Derives}
+use Rattle.statements.specs.Statements.{Statements}
+use Rattle.statements.proofs.Classes.{derived-classes}
+use Rattle.statements.proofs.Demands.{first-demand, second-demand}
+use Rattle.statements.proofs.Third.{third-demand}
+use Rattle.statements.proofs.Alike.{quotes-alike, read-once}
+use Rattle.statements.proofs.Printing.{prints, printed-alike, octets-bound}
+use Rattle.statements.proofs.Rows.{state-kept, same-answer}
+use Rattle.statements.proofs.Examples.{examples}
+
+-- where the rules of each derived module are in order, with places among its tokens
+module _ (in-order : (ms : List Meaning) → DerivesClasses smi-module (classes-of ms) → InOrder (rules ms))
+    (placed : (ms : List Meaning) → Placed (length ms) (rules ms)) where
+  order : (text : List ℕ) → Derives text → InOrder (rules (meanings-in text))
+  order text derives = in-order (meanings-in text) (derived-classes text derives)
+
+  pub statements-from : Statements
+  statements-from = record {
+    first-demand = λ text. first-demand text (order text) (placed (meanings-in text));
+    second-demand = λ text. second-demand text (order text) (placed (meanings-in text));
+    quotes = quotes-alike;
+    third-demand = λ text. third-demand text (order text);
+    one-reading = read-once;
+    octets = λ hint value answer before after a. prints _ _ before answer after a;
+    integer = λ hint value answer before after a. prints _ _ before answer after a;
+    four-bytes = octets-bound;
+    one-print-of-octets = λ hint value x y before a b p q. printed-alike _ _ before x y a b p q;
+    one-print-of-integer = λ hint value x y before a b p q. printed-alike _ _ before x y a b p q;
+    row-answer = λ state value complete willing answer set.
+        (ap (λ (o : Outcome). o .number) set, ap (λ (o : Outcome). o .next) set, state-kept state answer);
+    one-row-answer = λ state value complete willing x y p q. same-answer state x y (p ∙ sym q);
+    examples = examples;
+  }
