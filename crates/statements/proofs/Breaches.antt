@@ -10,15 +10,15 @@ use native.Mathlib.Omega.{arith}
 use lib.ListN.{length, length-map}
 use Rattle.index.specs.Rule.{Rule}
 use Rattle.index.proofs.Judged.{AllKept, FirstBroken}
-use Rattle.token.specs.Token.{Tok, Meaning, meanings}
-use Rattle.token.specs.Cut.{cut, whole, refused, meanings-in}
+use Rattle.token.specs.Token.{Tok, Meaning}
+use Rattle.token.specs.Cut.{cut, refused, meanings-in}
 use Rattle.token.specs.Table.{longest-text}
 use Rattle.syntax.specs.Parsing.{Fault}
 use Rattle.name_rule.specs.Refusal.{too-many, name-rules}
 use Rattle.record.specs.Record.{start-of}
 use Rattle.reader.specs.Reading.{rules}
 use Rattle.reader.specs.Buffers.{record-words, number-words}
-use Rattle.statements.specs.Order.{Before, BeforeAll, InOrder, Placed}
+use Rattle.statements.specs.Order.{Before, InOrder, Placed}
 use Rattle.statements.specs.Breach.{WithinLimits, Cuts, Derives, _listed-in_, BrokenIn, InBreach, short-buffer, long-text, not-cut, not-derived, rule-broken, FirstBreach}
 use Rattle.statements.proofs.First.{NoLater, before-listed, first-found, kept-none, placed-listed, first-least}
 use Rattle.statements.proofs.Starts.{starts-rise}

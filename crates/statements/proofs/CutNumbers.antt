@@ -3,11 +3,11 @@
 use mathlib.Core.Path.{_≡_, subst}
 use mathlib.Core.Bool.{Bool, true, false, cond, _&&_, _||_}
 use mathlib.Core.List.{List}
-use Prim.Native.Nat.{ℕ, suc, _+_, _≤_}
+use Prim.Native.Nat.{ℕ, _+_, _≤_}
 use native.Mathlib.Omega.{arith}
 use lib.Dec.{leb, eqb}
 use lib.ListN.{length, getD, take, drop}
-use Rattle.terminal.specs.Terminal.{number, negative, left-brace, bar}
+use Rattle.terminal.specs.Terminal.{number, left-brace, bar}
 use Rattle.lexicon.specs.Byte.{class-of, quote, hyphen, apostrophe, colon, dot, digit, blank-byte, digit-byte, hex-byte, text-byte, name-byte, alphanumeric}
 use Rattle.lexicon.specs.Word.{longest-name}
 use Rattle.piece.specs.Decimal.{decimal}

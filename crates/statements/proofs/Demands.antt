@@ -1,8 +1,8 @@
 -- The first and the second demand, from what each answer says of breaches and from what the contract says of the buffers.
 -- Assumes nothing.
-use mathlib.Core.Path.{_≡_, refl, sym, ap, subst, _∙_}
-use mathlib.Core.Logic.{_⊎_, inl, inr, ⊎-elim}
-use mathlib.Core.List.{List, [], _++_}
+use mathlib.Core.Path.{_≡_, refl, sym, ap, _∙_}
+use mathlib.Core.Logic.{_⊎_, ⊎-elim}
+use mathlib.Core.List.{List, []}
 use Prim.Native.Nat.{ℕ, _-_, _*_, _≤_, _<_}
 use native.Mathlib.Omega.{arith}
 use lib.ListN.{length, take, drop}
@@ -14,10 +14,10 @@ use Rattle.syntax.specs.declared.Answer.{Answer as Parsing}
 use Rattle.syntax.specs.declared.Answer.the-variants.{Derived, Underived, Uncut}
 use Rattle.oid.specs.Oid.{first-number}
 use Rattle.oid.specs.Oid.{count-of as definitions-in}
-use Rattle.record.specs.Record.{records-before, record-width}
+use Rattle.record.specs.Record.{record-width}
 use Rattle.record.proofs.Words.{before-long}
 use Rattle.reader.specs.Reading.{Outcome, accepted, refused, rules, judged, outcome}
-use Rattle.reader.specs.Buffers.{number-of, place-of, count-of, record-words, number-words, zeros, filled, answer-to, records-in, numbers-in, Left, Reads}
+use Rattle.reader.specs.Buffers.{number-of, place-of, count-of, record-words, number-words, filled, answer-to, records-in, numbers-in, Left, Reads}
 use Rattle.reader.specs.declared.Answer.{Answer}
 use Rattle.reader.specs.declared.Answer.the-variants.{Accepted, Refused}
 use Rattle.statements.specs.Order.{InOrder, Placed}

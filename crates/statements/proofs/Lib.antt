@@ -4,7 +4,6 @@ pub mod CutNumbers
 pub mod Faults
 pub mod Breaches
 pub mod Right
-pub mod Classes
 pub mod Room
 pub mod Limits
 pub mod Filled

@@ -1,10 +1,9 @@
 -- Each answer is right: a refusal is the first breach, and an accepted text has none.
 -- Assumes nothing.
 use mathlib.Core.Path.{_≡_, refl, sym, ap, subst, _∙_}
-use mathlib.Core.Logic.{_↔_, inl, inr}
+use mathlib.Core.Logic.{_↔_}
 use mathlib.Core.List.{List}
-use Prim.Native.Nat.{ℕ, _≤_, _<_}
-use native.Mathlib.Decide.{decLt}
+use Prim.Native.Nat.{ℕ, _<_}
 use native.Mathlib.Omega.{arith}
 use lib.ListN.{length}
 use Rattle.index.specs.Rule.{judge}
@@ -12,15 +11,13 @@ use Rattle.index.specs.declared.Judgement.{Judgement}
 use Rattle.index.specs.declared.Judgement.the-variants.{Kept, Broken}
 use Rattle.index.proofs.Judged.{judged-kept, judged-broken}
 use Rattle.token.specs.Cut.{Ending, whole, refused, cut, meanings-in}
-use Rattle.token.specs.Table.{longest-text}
 use Rattle.grammar.specs.Answer.{Verdict, derived}
 use Rattle.grammar.specs.Answer.{refused as refused-at}
 use Rattle.syntax.specs.Parsing.{Parses, ThirdDemand as ParsingDemand, answer-to as parsing-of}
 use Rattle.syntax.specs.declared.Answer.{Answer as Parsing}
-use Rattle.syntax.specs.declared.Answer.the-variants.{Derived, Underived, Uncut}
 use Rattle.syntax.proofs.Parsed.{third-demand}
 use Rattle.reader.specs.Reading.{rules, judged, outcome}
-use Rattle.reader.specs.Buffers.{record-words, number-words, number-of, answer-to, Reads}
+use Rattle.reader.specs.Buffers.{number-of, answer-to, Reads}
 use Rattle.reader.specs.declared.Answer.{Answer}
 use Rattle.reader.specs.declared.Answer.the-variants.{Accepted, Refused}
 use Rattle.statements.specs.Order.{InOrder, Placed}

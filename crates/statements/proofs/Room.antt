@@ -1,27 +1,24 @@
 -- What is read fits the working parts: where the rules are kept there are at most 512 definitions and 8,192 sub-identifiers.
 -- Assumes nothing.
-use mathlib.Core.Path.{_≡_, refl, sym, ap, _∙_}
-use mathlib.Core.Logic.{_⊎_}
-use mathlib.Core.Bool.{false}
+use mathlib.Core.Path.{_≡_, refl}
 use mathlib.Core.List.{List, [], _∷_, _++_}
 use Prim.Native.Nat.{ℕ, _≤_, _<_}
 use native.Mathlib.Decide.{decLt}
 use native.Mathlib.Omega.{arith}
-use lib.Dec.{leb}
 use lib.ListN.{length}
 use borrow.Author.Tests.{leb-false}
 use Rattle.index.specs.Rule.{Rule, judge}
 use Rattle.index.specs.declared.Judgement.{Judgement}
 use Rattle.index.specs.declared.Judgement.the-variants.{Kept, Broken}
 use Rattle.index.proofs.Judged.{NeverBroken, AllKept, judged-kept}
-use Rattle.token.specs.Token.{Meaning, meanings}
+use Rattle.token.specs.Token.{Meaning}
 use Rattle.token.specs.Cut.{cut, meanings-in}
 use Rattle.syntax.specs.declared.Answer.{Answer as Parsing}
 use Rattle.syntax.specs.declared.Answer.the-variants.{Derived, Underived, Uncut}
 use Rattle.name.specs.Collect.{most-definitions}
 use Rattle.name_rule.specs.Refusal.{too-many, name-rules}
 use Rattle.oid.specs.Oid.{count-of, first-number}
-use Rattle.oid.specs.Refusal.{most-numbers, past-room}
+use Rattle.oid.specs.Refusal.{most-numbers}
 use Rattle.oid_rule.specs.Rules.{oid-rules}
 use Rattle.oid_rule.proofs.Judging.{room-kept}
 use Rattle.record.proofs.Words.{before-long}

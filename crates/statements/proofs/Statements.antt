@@ -4,17 +4,15 @@ use mathlib.Core.Path.{ap, sym, _∙_}
 use mathlib.Core.List.{List}
 use Prim.Native.Nat.{ℕ}
 use lib.ListN.{length}
-use Rattle.token.specs.Token.{Meaning}
-use Rattle.token.specs.Cut.{meanings-in}
+use Rattle.token.specs.Token.{Tok, Meaning, class-of-token, meanings}
+use Rattle.token.specs.Cut.{cut, meanings-in}
 use Rattle.grammar.specs.Grammar.{smi-module}
-use Rattle.grammar.specs.Answer.{Derives as DerivesClasses}
-use Rattle.name.specs.Import.{classes-of}
+use Rattle.grammar.specs.Derivation.{DerivesTokens}
 use Rattle.row_status.specs.RowStatus.{Outcome}
 use Rattle.reader.specs.Reading.{rules}
 use Rattle.statements.specs.Order.{InOrder, Placed}
 use Rattle.statements.specs.Breach.{Derives}
 use Rattle.statements.specs.Statements.{Statements}
-use Rattle.statements.proofs.Classes.{derived-classes}
 use Rattle.statements.proofs.Demands.{first-demand, second-demand}
 use Rattle.statements.proofs.Third.{third-demand}
 use Rattle.statements.proofs.Alike.{quotes-alike, read-once}
@@ -22,11 +20,11 @@ use Rattle.statements.proofs.Printing.{prints, printed-alike, octets-bo
 use Rattle.statements.proofs.Rows.{state-kept, same-answer}
 use Rattle.statements.proofs.Examples.{examples}
 
--- where the rules of each derived module are in order, with places among its tokens
-module _ (in-order : (ms : List Meaning) → DerivesClasses smi-module (classes-of ms) → InOrder (rules ms))
+-- where the rules of derived tokens are in order, with places among the tokens
+module _ (in-order : (ts : List Tok) → DerivesTokens class-of-token smi-module ts → InOrder (rules (meanings ts)))
     (placed : (ms : List Meaning) → Placed (length ms) (rules ms)) where
   order : (text : List ℕ) → Derives text → InOrder (rules (meanings-in text))
-  order text derives = in-order (meanings-in text) (derived-classes text derives)
+  order text = in-order (cut text .tokens)
 
   pub statements-from : Statements
   statements-from = record {

@@ -25,7 +25,7 @@ use Rattle.oid.specs.Oid.{count-of as definitions-in}
 use Rattle.record.specs.Record.{records-before, record-width}
 use Rattle.reader.specs.Buffers.{number-of, place-of, count-of, record-words, number-words, zeros, filled, Reads}
 use Rattle.reader.specs.declared.Answer.{Answer}
-use Rattle.reader.specs.declared.Answer.the-variants.{Accepted, Refused}
+use Rattle.reader.specs.declared.Answer.the-variants.{Refused}
 use Rattle.hint.specs.Answer as hint
 use Rattle.hint.specs.declared.Answer.{Answer as HintAnswer}
 use Rattle.hint.specs.declared.Answer.the-variants.{Printed, ShortBuffer}
