@@ -32,14 +32,14 @@ module _ (in-order : (ts : List Tok) → DerivesTokens class-of-token smi-module
     second-demand = λ text. second-demand text (order text) (placed (meanings-in text));
     quotes = quotes-alike;
     third-demand = λ text. third-demand text (order text);
-    one-reading = read-once;
+    read-settled = read-once;
     octets = λ hint value answer before after a. prints _ _ before answer after a;
     integer = λ hint value answer before after a. prints _ _ before answer after a;
     four-bytes = octets-bound;
-    one-print-of-octets = λ hint value x y before a b p q. printed-alike _ _ before x y a b p q;
-    one-print-of-integer = λ hint value x y before a b p q. printed-alike _ _ before x y a b p q;
+    octets-settled = λ hint value x y before a b p q. printed-alike _ _ before x y a b p q;
+    integer-settled = λ hint value x y before a b p q. printed-alike _ _ before x y a b p q;
     row-answer = λ state value complete willing answer set.
         (ap (λ (o : Outcome). o .number) set, ap (λ (o : Outcome). o .next) set, state-kept state answer);
-    one-row-answer = λ state value complete willing x y p q. same-answer state x y (p ∙ sym q);
+    row-settled = λ state value complete willing x y p q. same-answer state x y (p ∙ sym q);
     examples = examples;
   }

@@ -151,7 +151,7 @@ pub record Statements : Type 0 where
   pub third-demand : OfEveryRead
       (λ text answer records records′ numbers numbers′. WithinLimits text (length records) (length numbers) → Cuts text → ThirdDemand text answer)
   -- the contract leaves nothing open: number, place, count and each lent word are settled
-  pub one-reading : (text : List ℕ) → ReadAlike text text
+  pub read-settled : (text : List ℕ) → ReadAlike text text
   -- the second demand's printed values, of octets and of integers
   pub octets : (display-hint value : List ℕ) (answer : HintAnswer) (before after : List ℕ) → PrintedOctets display-hint value answer before after
       → Prints hint.octets-part (hint.octets-verdict (length before) display-hint value) answer before after
@@ -162,9 +162,9 @@ pub record Statements : Type 0 where
   pub four-bytes : (room : ℕ) (display-hint value t : List ℕ) → ((k : ℕ) → getD value k 0 < 256) → hint.octets-verdict room display-hint value ≡ hint.text t
       → length t ≤ 4 * length value
   -- the contracts leave nothing open: two calls with equal arguments answer and print the same
-  pub one-print-of-octets : (display-hint value : List ℕ) (x y : HintAnswer) (before a b : List ℕ)
+  pub octets-settled : (display-hint value : List ℕ) (x y : HintAnswer) (before a b : List ℕ)
       → PrintedOctets display-hint value x before a → PrintedOctets display-hint value y before b → (x ≡ y) × (a ≡ b)
-  pub one-print-of-integer : (display-hint : List ℕ) (value : ℤ) (x y : HintAnswer) (before a b : List ℕ)
+  pub integer-settled : (display-hint : List ℕ) (value : ℤ) (x y : HintAnswer) (before a b : List ℕ)
       → PrintedInteger display-hint value x before a → PrintedInteger display-hint value y before b → (x ≡ y) × (a ≡ b)
   -- the second demand's row answers: number and next state, "unchanged unless 0"
   pub row-answer : (state : ℕ) (value : ℤ) (complete willing : Bool) (answer : RowAnswer) → Sets state value complete willing answer
@@ -172,7 +172,7 @@ pub record Statements : Type 0 where
       × (row.next-of state answer ≡ row.row-status state value complete willing .next)
       × ((row.number-of answer ≡ 0 → ⊥) → row.next-of state answer ≡ state)
   -- that contract leaves nothing open either
-  pub one-row-answer : (state : ℕ) (value : ℤ) (complete willing : Bool) (x y : RowAnswer)
+  pub row-settled : (state : ℕ) (value : ℤ) (complete willing : Bool) (x y : RowAnswer)
       → Sets state value complete willing x → Sets state value complete willing y → x ≡ y
   -- P1 to P8
   pub examples : Examples
