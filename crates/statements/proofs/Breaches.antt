@@ -5,7 +5,6 @@ use mathlib.Core.Path.{_≡_, refl, sym, ap, subst, _∙_}
 use mathlib.Core.Logic.{_⊎_, inl, inr, ⊎-elim}
 use mathlib.Core.List.{List, [], _∷_}
 use Prim.Native.Nat.{ℕ, _≤_, _<_}
-use native.Mathlib.Decide.{decLt}
 use native.Mathlib.Omega.{arith}
 use lib.ListN.{length, length-map}
 use Rattle.index.specs.Rule.{Rule}
@@ -56,20 +55,19 @@ module _ (text : List ℕ) (a b : ℕ) where
 
   -- there is one
   pub one-first : (n p m q : ℕ) → First n p → First m q → (n ≡ m) × (p ≡ q)
-  one-first n p m q f g = (number, place (decLt p q) (decLt q p))
+  one-first n p m q f g = (number, place)
     where
-      compare : Dec (n < m) → Dec (m < n) → n ≡ m
-      compare (yes less) d = absurd (g .none-smaller n p less (f .broken))
-      compare (no e) (yes less) = absurd (f .none-smaller m q less (g .broken))
-      compare (no e) (no d) = omega arith
-
       number : n ≡ m
-      number = compare (decLt n m) (decLt m n)
+      number =
+          let not-below : n < m → ⊥ = λ less. g .none-smaller n p less (f .broken) in
+          let not-above : m < n → ⊥ = λ less. f .none-smaller m q less (g .broken) in
+          omega arith
 
-      place : Dec (p < q) → Dec (q < p) → p ≡ q
-      place (yes less) d = absurd (g .nowhere-earlier p less (subst (λ (k : ℕ). In k p) number (f .broken)))
-      place (no e) (yes less) = absurd (f .nowhere-earlier q less (subst (λ (k : ℕ). In k q) (sym number) (g .broken)))
-      place (no e) (no d) = omega arith
+      place : p ≡ q
+      place =
+          let not-before : p < q → ⊥ = λ less. g .nowhere-earlier p less (subst (λ (k : ℕ). In k p) number (f .broken)) in
+          let not-after : q < p → ⊥ = λ less. f .nowhere-earlier q less (subst (λ (k : ℕ). In k q) (sym number) (g .broken)) in
+          omega arith
 
   -- a breach that comes no later than any other is the first
   least-first : (n p : ℕ) → In n p → ((m q : ℕ) → In m q → NoLater n p m q) → First n p
@@ -90,49 +88,49 @@ module _ (text : List ℕ) (a b : ℕ) where
     later-number : {m token : ℕ} → Derives text → BrokenIn (rules (meanings-in text)) m token → 8 ≤ m
     later-number derives x = omega (arith, x .numbered, from-eight (meanings-in text) (order derives) (x .rule) (x .listed))
 
+    -- what breaks a rule of a number below 3
+    by-number : (m q : ℕ) → In m q
+        → ((m ≡ 1) × ((a < record-words) ⊎ (b < number-words))) ⊎ (((m ≡ 2) × (longest-text < length text)) ⊎ (3 ≤ m))
+    by-number m q (short-buffer few) = inl (refl, few)
+    by-number m q (long-text over) = inr (inl (refl, over))
+    by-number m q (not-cut e) = inr (inr (cut-numbered text m q e .0))
+    by-number m q (not-derived c n f) = inr (inr (omega arith))
+    by-number m q (rule-broken c d x) = inr (inr (omega (arith, later-number d x)))
+
     -- no number is 0
     pub numbered : (m q : ℕ) → In m q → 1 ≤ m
-    numbered m q (short-buffer s) = omega arith
-    numbered m q (long-text l) = omega arith
-    numbered m q (not-cut e) = omega (arith, cut-numbered text m q e)
-    numbered m q (not-derived c n f) = omega arith
-    numbered m q (rule-broken c d x) = omega (arith, later-number d x)
+    numbered m q x = ⊎-elim (λ one. omega (arith, one .0)) (⊎-elim (λ two. omega (arith, two .0)) (λ more. omega arith)) (by-number m q x)
 
     -- 1 is the first wherever it is met
     pub first-short : (a < record-words) ⊎ (b < number-words) → First 1 0
-    first-short s = record {
-      broken = short-buffer s;
+    first-short few = record {
+      broken = short-buffer few;
       nowhere-earlier = λ q less x. omega arith;
       none-smaller = λ m q less x. omega (arith, numbered m q x);
     }
+
+    -- buffers that are long enough are not too short
+    enough : record-words ≤ a → number-words ≤ b → (a < record-words) ⊎ (b < number-words) → ⊥
+    enough room space = ⊎-elim (λ few. omega arith) (λ few. omega arith)
 
     -- 2 is, where no buffer is too short
     pub first-long : record-words ≤ a → number-words ≤ b → longest-text < length text → First 2 0
     first-long room space over = record {
       broken = long-text over;
       nowhere-earlier = λ q less x. omega arith;
-      none-smaller = none;
+      none-smaller = λ m q less x.
+          ⊎-elim (λ one. enough room space (one .1)) (⊎-elim (λ two. omega (arith, two .0)) (λ more. omega arith)) (by-number m q x);
     }
-      where
-        none : (m q : ℕ) → m < 2 → In m q → ⊥
-        none m q less (short-buffer s) = ⊎-elim (λ l. omega arith) (λ l. omega arith) s
-        none m q less (long-text l) = omega arith
-        none m q less (not-cut e) = omega (arith, cut-numbered text m q e)
-        none m q less (not-derived c n f) = omega arith
-        none m q less (rule-broken c d x) = omega (arith, later-number d x)
 
     -- within the limits
     module _ (limits : WithinLimits text a b) where
       not-short : (a < record-words) ⊎ (b < number-words) → ⊥
-      not-short = ⊎-elim (λ l. omega (arith, limits .record-room)) (λ l. omega (arith, limits .number-room))
+      not-short = enough (limits .record-room) (limits .number-room)
 
-      -- only 1 and 2 are below 3
+      -- neither 1 nor 2 is broken
       pub past-limits : (m q : ℕ) → In m q → 3 ≤ m
-      past-limits m q (short-buffer s) = absurd (not-short s)
-      past-limits m q (long-text l) = absurd (omega (arith, limits .short-text))
-      past-limits m q (not-cut e) = omega (arith, cut-numbered text m q e)
-      past-limits m q (not-derived c n f) = omega arith
-      past-limits m q (rule-broken c d x) = omega (arith, later-number d x)
+      past-limits m q x =
+          ⊎-elim (λ one. absurd (not-short (one .1))) (⊎-elim (λ two. absurd (omega (arith, two .1, limits .short-text))) (λ more. more)) (by-number m q x)
 
       -- a text that does not cut
       pub first-uncut : (n p : ℕ) → cut text .ending ≡ refused n p → First n p
