@@ -40,7 +40,8 @@ all-kept text (Derived n) count e = go (judge (rules (meanings-in text))) refl
     go : (j : Judgement) → judge (rules (meanings-in text)) ≡ j → judged (cut text .tokens) (judge (rules (meanings-in text))) ≡ judged (cut text .tokens) Kept
     go Kept is = ap (judged (cut text .tokens)) is
     go (Broken number token) is =
-        let same : answer-to (judged (cut text .tokens) (Broken number token)) ≡ Accepted count = sym (ap (λ (j : Judgement). answer-to (judged (cut text .tokens) j)) is) ∙ e in
+        let same : answer-to (judged (cut text .tokens) (Broken number token)) ≡ Accepted count =
+        sym (ap (λ (j : Judgement). answer-to (judged (cut text .tokens) j)) is) ∙ e in
         let z : _≡_ {A = ℕ} 0 1 = cc in
         absurd (omega arith)
 all-kept text (Underived n at) count e = let z : _≡_ {A = ℕ} 0 1 = cc in absurd (omega arith)
@@ -101,8 +102,10 @@ module _ (text : List ℕ) (order : Derives text → InOrder (rules (meanings-in
           let more = later-refusal text order placed answer records records′ numbers numbers′ reads limits in
           absurd (⊎-elim (λ one. omega (arith, more (omega (arith, one)))) (λ two. omega (arith, more (omega (arith, two)))) which);
       zeroed = λ more.
-          let none = none-read found (omega (arith, ap number-of (left .answered))) in
-          (left .records-left ∙ ap (λ (w : List ℕ). filled record-words w records) (none .0), left .numbers-left ∙ ap (λ (w : List ℕ). filled number-words w numbers) (none .1));
+          let none = none-read found (omega (arith, ap number-of (left .answered))) in (
+            left .records-left ∙ ap (λ (w : List ℕ). filled record-words w records) (none .0),
+            left .numbers-left ∙ ap (λ (w : List ℕ). filled number-words w numbers) (none .1),
+          );
       beyond = (
         ap (drop record-words) (left .records-left) ∙ filled-beyond record-words (records-in found) records (fit .0),
         ap (drop number-words) (left .numbers-left) ∙ filled-beyond number-words (numbers-in found) numbers (fit .1),
