@@ -20,7 +20,7 @@ module _ {D X : Type 0} (spelt : D → List X) (ts : List X) where
   Right v = RightVerdict spelt ts v
 
   -- what begins some derived sequence, cut shorter, begins it too
-  viable-shorter : (k j : ℕ) → k ≤ j → Viable j → Viable k
+  pub viable-shorter : (k j : ℕ) → k ≤ j → Viable j → Viable k
   viable-shorter k j h b =
       let whole : take k ts ++ drop k (take j ts) ≡ take j ts =
       ap (λ l. l ++ drop k (take j ts)) (sym (take-take k j ts h)) ∙ take-append-drop k (take j ts) in (

@@ -1,0 +1,158 @@
+-- The first and the second demand, from what each answer says of breaches and from what the contract says of the buffers.
+-- Assumes nothing.
+use mathlib.Core.Path.{_≡_, refl, sym, ap, _∙_}
+use mathlib.Core.Logic.{_⊎_, ⊎-elim}
+use mathlib.Core.List.{List, []}
+use Prim.Native.Nat.{ℕ, _-_, _*_, _≤_, _<_}
+use native.Mathlib.Omega.{arith}
+use lib.ListN.{length, take, drop}
+use Rattle.index.specs.Rule.{judge}
+use Rattle.index.specs.declared.Judgement.{Judgement}
+use Rattle.index.specs.declared.Judgement.the-variants.{Kept, Broken}
+use Rattle.token.specs.Cut.{cut, meanings-in}
+use Rattle.syntax.specs.declared.Answer.{Answer as Parsing}
+use Rattle.syntax.specs.declared.Answer.the-variants.{Derived, Underived, Uncut}
+use Rattle.oid.specs.Oid.{first-number}
+use Rattle.oid.specs.Oid.{count-of as definitions-in}
+use Rattle.record.specs.Record.{record-width}
+use Rattle.record.proofs.Words.{before-long}
+use Rattle.reader.specs.Reading.{Outcome, accepted, refused, rules, judged, outcome}
+use Rattle.reader.specs.Buffers.{number-of, place-of, count-of, record-words, number-words, filled, answer-to, records-in, numbers-in, Left, Reads}
+use Rattle.reader.specs.declared.Answer.{Answer}
+use Rattle.reader.specs.declared.Answer.the-variants.{Accepted, Refused}
+use Rattle.statements.specs.Order.{InOrder, Placed}
+use Rattle.statements.specs.Breach.{WithinLimits, Derives}
+use Rattle.statements.specs.Statements.{FirstDemand, SecondDemand}
+use Rattle.statements.proofs.Limits.{Lent, short, long, within, lent}
+use Rattle.statements.proofs.Filled.{filled-beyond, filled-unused}
+use Rattle.statements.proofs.Room.{words-fit}
+use Rattle.statements.proofs.Right.{refused-exactly, accepted-exactly, accepted-is, later-refusal}
+
+-- after a refusal no word is read
+none-read : (o : Outcome) → 0 < number-of (answer-to o) → (records-in o ≡ []) × (numbers-in o ≡ [])
+none-read (accepted count records numbers) some = absurd (omega arith)
+none-read (refused number place) some = (refl, refl)
+
+-- a text is accepted where all rules are kept
+all-kept : (text : List ℕ) (p : Parsing) (count : ℕ) → answer-to (outcome text p) ≡ Accepted count → outcome text p ≡ judged (cut text .tokens) Kept
+all-kept text (Derived n) count e = go (judge (rules (meanings-in text))) refl
+  where
+    go : (j : Judgement) → judge (rules (meanings-in text)) ≡ j → judged (cut text .tokens) (judge (rules (meanings-in text))) ≡ judged (cut text .tokens) Kept
+    go Kept is = ap (judged (cut text .tokens)) is
+    go (Broken number token) is =
+        let same : answer-to (judged (cut text .tokens) (Broken number token)) ≡ Accepted count =
+        sym (ap (λ (j : Judgement). answer-to (judged (cut text .tokens) j)) is) ∙ e in
+        let z : _≡_ {A = ℕ} 0 1 = cc in
+        absurd (omega arith)
+all-kept text (Underived n at) count e = let z : _≡_ {A = ℕ} 0 1 = cc in absurd (omega arith)
+all-kept text (Uncut number at) count e = let z : _≡_ {A = ℕ} 0 1 = cc in absurd (omega arith)
+
+module _ (text : List ℕ) (order : Derives text → InOrder (rules (meanings-in text))) (placed : Placed (length (meanings-in text)) (rules (meanings-in text)))
+    (answer : Answer) (records records′ numbers numbers′ : List ℕ) (reads : Reads text answer records records′ numbers numbers′) where
+  -- number 1 or 2, with nothing changed
+  nothing-changed : (right : Answer) → Left answer right records′ records numbers′ numbers → 0 < number-of right → number-of right ≤ 2
+      → FirstDemand text answer records records′ numbers numbers′
+  nothing-changed right left some few =
+      let number : number-of answer ≡ number-of right = ap number-of (left .answered) in
+      record {
+        unchanged = λ which. (left .records-left, left .numbers-left);
+        zeroed = λ more. absurd (omega arith);
+        beyond = (ap (drop record-words) (left .records-left), ap (drop number-words) (left .numbers-left));
+        unused = λ zero. absurd (omega arith);
+      }
+
+  -- what is read of a text within the limits
+  module _ (limits : WithinLimits text (length records) (length numbers)) where
+    parsing : Parsing
+    parsing = reads .read (limits .record-room) (limits .number-room) (limits .short-text) .0
+
+    abbrev found : Outcome
+    found = outcome text parsing
+
+    left : Left answer (answer-to found) records′ (filled record-words (records-in found) records) numbers′ (filled number-words (numbers-in found) numbers)
+    unfolding parsing
+    left = reads .read (limits .record-room) (limits .number-room) (limits .short-text) .2
+
+    fit : (length (records-in found) ≤ record-words) × (length (numbers-in found) ≤ number-words)
+    fit = words-fit text parsing
+
+    -- where it is accepted
+    module _ (zero : number-of answer ≡ 0) where
+      found-all : found ≡ judged (cut text .tokens) Kept
+      found-all =
+          let c = accepted-is text order placed answer records records′ numbers numbers′ reads zero in
+          all-kept text parsing (c .0) (sym (left .answered) ∙ c .1)
+
+      all-counted : count-of answer ≡ definitions-in (meanings-in text)
+      all-counted = ap count-of (left .answered) ∙ ap (λ (o : Outcome). count-of (answer-to o)) found-all
+
+      records-long : length (records-in found) ≡ count-of answer * record-width
+      records-long =
+          ap (λ (o : Outcome). length (records-in o)) found-all
+          ∙ before-long (cut text .tokens) (definitions-in (meanings-in text))
+          ∙ ap (λ (c : ℕ). c * record-width) (sym all-counted)
+
+      numbers-long : length (numbers-in found) ≡ first-number (meanings-in text) (count-of answer)
+      numbers-long =
+          ap (λ (o : Outcome). length (numbers-in o)) found-all ∙ ap (first-number (meanings-in text)) (sym all-counted)
+
+    first-within : FirstDemand text answer records records′ numbers numbers′
+    first-within = record {
+      unchanged = λ which.
+          let more = later-refusal text order placed answer records records′ numbers numbers′ reads limits in
+          absurd (⊎-elim (λ one. omega (arith, more (omega (arith, one)))) (λ two. omega (arith, more (omega (arith, two)))) which);
+      zeroed = λ more.
+          let none = none-read found (omega (arith, ap number-of (left .answered))) in (
+            left .records-left ∙ ap (λ (w : List ℕ). filled record-words w records) (none .0),
+            left .numbers-left ∙ ap (λ (w : List ℕ). filled number-words w numbers) (none .1),
+          );
+      beyond = (
+        ap (drop record-words) (left .records-left) ∙ filled-beyond record-words (records-in found) records (fit .0),
+        ap (drop number-words) (left .numbers-left) ∙ filled-beyond number-words (numbers-in found) numbers (fit .1),
+      );
+      unused = λ zero. (
+        ap (λ (w : List ℕ). drop (count-of answer * record-width) (take record-words w)) (left .records-left)
+            ∙ filled-unused record-words (records-in found) records (fit .0) _ (records-long zero),
+        ap (λ (w : List ℕ). drop (first-number (meanings-in text) (count-of answer)) (take number-words w)) (left .numbers-left)
+            ∙ filled-unused number-words (numbers-in found) numbers (fit .1) _ (numbers-long zero),
+      );
+    }
+
+  pub first-demand : FirstDemand text answer records records′ numbers numbers′
+  first-demand = go (lent text (length records) (length numbers))
+    where
+      go : Lent text (length records) (length numbers) → FirstDemand text answer records records′ numbers numbers′
+      go (short few) = nothing-changed _ (reads .short few) (omega arith) (omega arith)
+      go (long room space over) = nothing-changed _ (reads .long room space over) (omega arith) (omega arith)
+      go (within limits) = first-within limits
+
+  -- an accepted text is within the limits
+  accepted-within : number-of answer ≡ 0 → WithinLimits text (length records) (length numbers)
+  accepted-within zero = go (lent text (length records) (length numbers))
+    where
+      go : Lent text (length records) (length numbers) → WithinLimits text (length records) (length numbers)
+      go (short few) = absurd (omega (arith, ap number-of (reads .short few .answered)))
+      go (long room space over) = absurd (omega (arith, ap number-of (reads .long room space over .answered)))
+      go (within limits) = limits
+
+  -- a refusal has no count
+  refusal-count : (x : Answer) → 0 < number-of x → count-of x ≡ 0
+  refusal-count (Accepted count) some = absurd (omega arith)
+  refusal-count (Refused number place) some = refl
+
+  pub second-demand : SecondDemand text answer records records′ numbers numbers′
+  second-demand = record {
+    refused-exactly = refused-exactly text order placed answer records records′ numbers numbers′ reads;
+    accepted-exactly = accepted-exactly text order placed answer records records′ numbers numbers′ reads;
+    counted = λ zero. (
+      ap place-of (accepted-is text order placed answer records records′ numbers numbers′ reads zero .1),
+      all-counted (accepted-within zero) zero,
+    );
+    not-counted = refusal-count answer;
+    recorded = λ zero.
+        let limits = accepted-within zero in
+        left limits .records-left ∙ ap (λ (o : Outcome). filled record-words (records-in o) records) (found-all limits zero);
+    numbered = λ zero.
+        let limits = accepted-within zero in
+        left limits .numbers-left ∙ ap (λ (o : Outcome). filled number-words (numbers-in o) numbers) (found-all limits zero);
+  }

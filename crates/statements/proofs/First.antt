@@ -1,0 +1,90 @@
+-- Of rules that are in order, the first that is broken is broken no later than any other: its number is no larger, and where it is
+-- the same its place is no later.
+-- Assumes nothing.
+use mathlib.Core.Path.{_≡_, refl, sym, ap, subst, _∙_}
+use mathlib.Core.Logic.{_⊎_, inl, inr}
+use mathlib.Core.List.{List, _∷_}
+use Prim.Native.Nat.{ℕ, _≤_, _<_}
+use native.Mathlib.Decide.{decLt}
+use native.Mathlib.Omega.{arith}
+use Rattle.index.specs.Rule.{Rule}
+use Rattle.index.proofs.Search.{true-false}
+use Rattle.index.proofs.Judged.{AllKept, NeverBroken, BrokenAt, FirstBroken, here, later}
+use Rattle.statements.specs.Order.{Broken, Rises, Before, BeforeAll, InOrder, Placed}
+use Rattle.statements.specs.Breach.{_listed-in_, BrokenIn}
+
+-- a breach by one number at one token comes no later than another
+abbrev pub NoLater : ℕ → ℕ → ℕ → ℕ → Type 0
+NoLater number token m i = (number < m) ⊎ ((number ≡ m) × (token ≤ i))
+
+-- where a rule is broken first, it is broken
+broken-here : {r : Rule} {number token : ℕ} → (b : BrokenAt r number token) → Broken r (b .index)
+broken-here b = record { from = b .inside .0; below = b .inside .1; breaks = b .breaks }
+
+-- the first rule that is broken is one that is
+pub first-found : {number token : ℕ} {rs : List Rule} → FirstBroken number token rs → BrokenIn rs number token
+first-found (here {r = r} b) = record {
+  rule = r;
+  listed = inl refl;
+  numbered = b .its-number;
+  index = b .index;
+  broken = broken-here b;
+  placed = b .its-place;
+}
+first-found (later never f) =
+    let x = first-found f in
+    record {
+      rule = x .rule;
+      listed = inr (x .listed);
+      numbered = x .numbered;
+      index = x .index;
+      broken = x .broken;
+      placed = x .placed;
+    }
+
+-- a rule that is kept has no breach
+never-here : {r : Rule} {k : ℕ} → NeverBroken r → Broken r k → ⊥
+never-here {k = k} never b = true-false (b .breaks) (never k (b .from) (b .below))
+
+-- rules that are kept have none
+pub kept-none : (rs : List Rule) → AllKept rs → (s : Rule) → s listed-in rs → (k : ℕ) → Broken s k → ⊥
+kept-none (r ∷ rs) kept s (inl same) k b = never-here (kept .0) (subst (λ (x : Rule). Broken x k) same b)
+kept-none (r ∷ rs) kept s (inr l) k b = kept-none rs (kept .1) s l k b
+
+-- a rule comes before each that is listed after it
+pub before-listed : (r : Rule) (rs : List Rule) → BeforeAll r rs → (s : Rule) → s listed-in rs → Before r s
+before-listed r (x ∷ rs) all s (inl same) = subst (Before r) (sym same) (all .0)
+before-listed r (x ∷ rs) all s (inr l) = before-listed r rs (all .1) s l
+
+-- where each of a list is broken at one of the first n tokens, so is one that is listed
+pub placed-listed : (n : ℕ) (rs : List Rule) → Placed n rs → (s : Rule) → s listed-in rs → (k : ℕ) → Broken s k → s .place k < n
+placed-listed n (r ∷ rs) all s (inl same) k b =
+    subst (λ (x : Rule). Broken x k → x .place k < n) (sym same) (all .0 k) b
+placed-listed n (r ∷ rs) all s (inr l) k b = placed-listed n rs (all .1) s l k b
+
+-- of one rule
+least-here : {number token : ℕ} (r : Rule) → BrokenAt r number token → Rises r → (k : ℕ) → Broken r k → NoLater number token (r .number) (r .place k)
+least-here {token = token} r b rises k broken = inr (sym (b .its-number), go (decLt k (b .index)) (decLt (b .index) k))
+  where
+    go : Dec (k < b .index) → Dec (b .index < k) → token ≤ r .place k
+    go (yes earlier) d = absurd (true-false (broken .breaks) (b .none-before k (broken .from) earlier))
+    go (no n) (yes h) = omega (arith, b .its-place, rises (b .index) k h (broken-here b) broken)
+    go (no n) (no m) =
+        let same : b .index ≡ k = omega arith in
+        omega (arith, sym (b .its-place) ∙ ap (r .place) same)
+
+-- of one rule and a later one
+least-after : {number token : ℕ} (r s : Rule) → BrokenAt r number token → Before r s → (k : ℕ) → Broken s k → NoLater number token (s .number) (s .place k)
+least-after r s b (inl less) k broken = inl (omega (arith, b .its-number))
+least-after r s b (inr same) k broken =
+    inr (sym (b .its-number) ∙ same .0, omega (arith, b .its-place, same .1 (b .index) k (broken-here b) broken))
+
+-- of all of them
+pub first-least : {number token : ℕ} (rs : List Rule) → FirstBroken number token rs → InOrder rs
+    → (s : Rule) → s listed-in rs → (k : ℕ) → Broken s k → NoLater number token (s .number) (s .place k)
+first-least {number} {token} (r ∷ rs) (here b) order s (inl same) k broken =
+    subst (λ (x : Rule). Broken x k → NoLater number token (x .number) (x .place k)) (sym same) (least-here r b (order .0) k) broken
+first-least (r ∷ rs) (here b) order s (inr l) k broken = least-after r s b (before-listed r rs (order .1) s l) k broken
+first-least (r ∷ rs) (later never f) order s (inl same) k broken =
+    absurd (never-here never (subst (λ (x : Rule). Broken x k) same broken))
+first-least (r ∷ rs) (later never f) order s (inr l) k broken = first-least rs f (order .2) s l k broken

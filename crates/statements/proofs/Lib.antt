@@ -1,0 +1,16 @@
+pub mod First
+pub mod Starts
+pub mod CutNumbers
+pub mod Faults
+pub mod Breaches
+pub mod Right
+pub mod Room
+pub mod Limits
+pub mod Filled
+pub mod Demands
+pub mod Third
+pub mod Alike
+pub mod Printing
+pub mod Rows
+pub mod Examples
+pub mod Statements

@@ -1,0 +1,178 @@
+-- The statements: what is promised of reading a module, of printing by DISPLAY-HINT and of the row answers, each under the sentence
+-- of document 01 that it puts into symbols. There is no proof here: `Statements`, the last record, holds them all, and
+-- proofs/Statements.antt has a value of it.
+--
+-- Each is about a call's contract, which the call is proved to keep whatever it is given: `Reads` for reader::read, `Answered` for
+-- hint::octets and hint::integer, an equation with `row-status` for row_status::set. A name with a prime is what a call leaves.
+-- Assumes nothing.
+use mathlib.Core.Path.{_≡_}
+use mathlib.Core.Logic.{_⊎_, _↔_}
+use mathlib.Core.Bool.{Bool}
+use mathlib.Core.List.{List, [], _∷_, _++_}
+use Prim.Native.Nat.{ℕ, _-_, _*_, _<_, _≤_}
+use lib.IntN.{ℤ, negsuc}
+use lib.ListN.{length, getD, take, drop}
+use Rattle.terminal.specs.Terminal.{lower}
+use Rattle.lexicon.specs.Word.{bytes}
+use Rattle.token.specs.Token.{class-of-token, tok}
+use Rattle.token.specs.Cut.{cut, whole, refused, meanings-in}
+use Rattle.token.specs.Law.{QuotedChange}
+use Rattle.grammar.specs.Grammar.{smi-module}
+use Rattle.grammar.specs.Derivation.{Derivation, tokens-of}
+use Rattle.syntax.specs.Parsing.{Fault}
+use Rattle.oid.specs.Oid.{numbers-before, first-number}
+use Rattle.oid.specs.Oid.{count-of as definitions-in}
+use Rattle.record.specs.Record.{records-before, record-width}
+use Rattle.reader.specs.Buffers.{number-of, place-of, count-of, record-words, number-words, zeros, filled, Reads}
+use Rattle.reader.specs.declared.Answer.{Answer}
+use Rattle.reader.specs.declared.Answer.the-variants.{Refused}
+use Rattle.hint.specs.Answer as hint
+use Rattle.hint.specs.declared.Answer.{Answer as HintAnswer}
+use Rattle.hint.specs.declared.Answer.the-variants.{Printed, ShortBuffer}
+use Rattle.row_status.specs.RowStatus as row
+use Rattle.row_status.specs.declared.Answer.{Answer as RowAnswer}
+use Rattle.statements.specs.Breach.{WithinLimits, Cuts, Derives, InBreach, FirstBreach}
+
+-- ---- Reading a module
+
+-- a property of every call of reader::read: of the text, the answer, and each buffer as it is lent and as it is left
+abbrev pub OfEveryRead : (List ℕ → Answer → List ℕ → List ℕ → List ℕ → List ℕ → Type 0) → Type 0
+OfEveryRead P =
+    (text : List ℕ) (answer : Answer) (records records′ numbers numbers′ : List ℕ) → Reads text answer records records′ numbers numbers′
+    → P text answer records records′ numbers numbers′
+
+-- The first demand: what is left in the two buffers.
+pub record FirstDemand (text : List ℕ) (answer : Answer) (records records′ numbers numbers′ : List ℕ) : Type 0 where
+  -- "1 and 2 change nothing"
+  pub unchanged : (number-of answer ≡ 1) ⊎ (number-of answer ≡ 2) → (records′ ≡ records) × (numbers′ ≡ numbers)
+  -- "the rest zero the working part"
+  pub zeroed : 2 < number-of answer
+      → (records′ ≡ zeros record-words ++ drop record-words records) × (numbers′ ≡ zeros number-words ++ drop number-words numbers)
+  -- "Those words are the working part; others never change"
+  pub beyond : (drop record-words records′ ≡ drop record-words records) × (drop number-words numbers′ ≡ drop number-words numbers)
+  -- "unused working words are 0": those after the records, and those after the sub-identifiers
+  pub unused : number-of answer ≡ 0
+      → (drop (count-of answer * record-width) (take record-words records′) ≡ zeros (record-words - count-of answer * record-width))
+      × (drop (first-number (meanings-in text) (count-of answer)) (take number-words numbers′)
+      ≡ zeros (number-words - first-number (meanings-in text) (count-of answer)))
+
+-- The second demand: the first broken rule, or the records and sub-identifiers of all definitions.
+pub record SecondDemand (text : List ℕ) (answer : Answer) (records records′ numbers numbers′ : List ℕ) : Type 0 where
+  -- "Given when the condition holds and no smaller number applies (3 to 6 together: the leftmost token), with the earliest place in
+  -- breach"
+  pub refused-exactly : (number place : ℕ)
+      → (answer ≡ Refused number (record { 0 = place })) ↔ FirstBreach text (length records) (length numbers) number place
+  -- accepted, number 0, exactly when no rule is broken anywhere
+  pub accepted-exactly : (number-of answer ≡ 0) ↔ ((number place : ℕ) → InBreach text (length records) (length numbers) number place → ⊥)
+  -- "Accepted answers number 0, place 0 and the definition count; a refusal's count is 0"
+  pub counted : number-of answer ≡ 0 → (place-of answer ≡ 0) × (count-of answer ≡ definitions-in (meanings-in text))
+  pub not-counted : 0 < number-of answer → count-of answer ≡ 0
+  -- "Ten words each, in text order", and then zeros; the words beyond as they were
+  pub recorded : number-of answer ≡ 0
+      → records′ ≡ filled record-words (records-before (cut text .tokens) (definitions-in (meanings-in text))) records
+  -- "Each definition's sub-identifiers fill the next free words, without gaps", and then zeros; the words beyond as they were
+  pub numbered : number-of answer ≡ 0
+      → numbers′ ≡ filled number-words (numbers-before (meanings-in text) (definitions-in (meanings-in text))) numbers
+
+-- The third demand, of a text within the limits that cuts into tokens: refusal 7 exactly when the grammar derives no such token
+-- sequence; its place is the start of the first token after which no derived sequence, however long, can begin so, or the text's
+-- length where only more was missing; and a derivation is unique.
+pub record ThirdDemand (text : List ℕ) (answer : Answer) : Type 0 where
+  pub exactly : (number-of answer ≡ 7) ↔ (Derives text → ⊥)
+  pub at-fault : number-of answer ≡ 7 → Fault text (place-of answer)
+  pub one-derivation : (d e : Derivation class-of-token smi-module) → tokens-of class-of-token smi-module d ≡ cut text .tokens
+      → tokens-of class-of-token smi-module e ≡ cut text .tokens → d ≡ e
+
+-- Two calls, of the texts a and b, with equal buffers lent: equal answers, and equal buffers left.
+abbrev pub ReadAlike : List ℕ → List ℕ → Type 0
+ReadAlike a b =
+    (x y : Answer) (records r s numbers m n : List ℕ) → Reads a x records r numbers m → Reads b y records s numbers n
+    → (x ≡ y) × (r ≡ s) × (m ≡ n)
+
+-- ---- Printing by hint
+
+-- A value printed to a buffer with a part of so many bytes, by its verdict: what is answered, and every byte of the buffer.
+pub record Prints (part : ℕ) (verdict : hint.Verdict) (answer : HintAnswer) (before after : List ℕ) : Type 0 where
+  -- "0 and the length"; "bytes of that part not printed are 0, later ones unchanged"
+  pub printed : (t : List ℕ) → verdict ≡ hint.text t
+      → (answer ≡ Printed (length t)) × (after ≡ t ++ (zeros (part - length t) ++ drop part before))
+  -- "30 short buffer (nothing changed)"
+  pub unchanged : (place : ℕ) → verdict ≡ hint.refusal 30 place → (answer ≡ ShortBuffer) × (after ≡ before)
+  -- "31 to 34 zero the part"
+  pub zeroed : (number place : ℕ) → verdict ≡ hint.refusal number place → (number ≡ 30 → ⊥)
+      → (hint.number-of answer ≡ number) × (hint.place-of answer ≡ place) × (hint.length-of answer ≡ 0)
+      × (after ≡ zeros part ++ drop part before)
+
+-- the contract of hint::octets, and of hint::integer
+abbrev pub PrintedOctets : List ℕ → List ℕ → HintAnswer → List ℕ → List ℕ → Type 0
+PrintedOctets display-hint value answer before after =
+    hint.Answered hint.octets-part (hint.octets-verdict (length before) display-hint value) answer before after
+
+abbrev pub PrintedInteger : List ℕ → ℤ → HintAnswer → List ℕ → List ℕ → Type 0
+PrintedInteger display-hint value answer before after =
+    hint.Answered hint.integer-part (hint.integer-verdict (length before) display-hint value) answer before after
+
+-- ---- RowStatus
+
+-- the contract of row_status::set
+abbrev pub Sets : ℕ → ℤ → Bool → Bool → RowAnswer → Type 0
+Sets state value complete willing answer = row.outcome state answer ≡ row.row-status state value complete willing
+
+-- ---- The proved examples
+
+-- P1 to P8, from the definitions.
+pub record Examples : Type 0 where
+  -- `----` no token
+  pub P1 : cut (bytes "----") ≡ record { tokens = []; ending = whole }
+  -- `-----` refusal 3 at 4
+  pub P2 : cut (bytes "-----") ≡ record { tokens = []; ending = refused 3 4 }
+  -- `a--b` the name a
+  pub P3 : cut (bytes "a--b") ≡ record { tokens = tok lower 0 1 (bytes "a") ∷ []; ending = whole }
+  -- 4294967296 refusal 6
+  pub P4 : cut (bytes "4294967296") ≡ record { tokens = []; ending = refused 6 0 }
+  -- empty text: 7 at 0
+  pub P5 : (answer : Answer) (records records′ numbers numbers′ : List ℕ) → Reads [] answer records records′ numbers numbers′
+      → record-words ≤ length records → number-words ≤ length numbers → answer ≡ Refused 7 (record { 0 = 0 })
+  -- 02 0A 0B 05 under `*1d.:1d`: `10.11:5`
+  pub P6 : hint.octets-verdict 4096 (bytes "*1d.:1d") (0x02 ∷ 0x0A ∷ 0x0B ∷ 0x05 ∷ []) ≡ hint.text (bytes "10.11:5")
+  -- -5 under d-2: `-0.05`
+  pub P7 : hint.integer-verdict 64 (bytes "d-2") (negsuc 4) ≡ hint.text (bytes "-0.05")
+  -- C3 A9 under 255t prints both; under 255a, 33 at 0
+  pub P8 : (hint.octets-verdict 4096 (bytes "255t") (0xC3 ∷ 0xA9 ∷ []) ≡ hint.text (0xC3 ∷ 0xA9 ∷ []))
+      × (hint.octets-verdict 4096 (bytes "255a") (0xC3 ∷ 0xA9 ∷ []) ≡ hint.refusal 33 0)
+
+-- ---- All of them
+
+pub record Statements : Type 0 where
+  pub first-demand : OfEveryRead FirstDemand
+  pub second-demand : OfEveryRead SecondDemand
+  -- two texts that differ only in allowed bytes strictly inside text tokens are answered and written alike
+  pub quotes : (a b : List ℕ) → QuotedChange a b → ReadAlike a b
+  pub third-demand : OfEveryRead
+      (λ text answer records records′ numbers numbers′. WithinLimits text (length records) (length numbers) → Cuts text → ThirdDemand text answer)
+  -- the contract leaves nothing open: number, place, count and each lent word are settled
+  pub read-settled : (text : List ℕ) → ReadAlike text text
+  -- the second demand's printed values, of octets and of integers
+  pub octets : (display-hint value : List ℕ) (answer : HintAnswer) (before after : List ℕ) → PrintedOctets display-hint value answer before after
+      → Prints hint.octets-part (hint.octets-verdict (length before) display-hint value) answer before after
+  pub integer : (display-hint : List ℕ) (value : ℤ) (answer : HintAnswer) (before after : List ℕ)
+      → PrintedInteger display-hint value answer before after
+      → Prints hint.integer-part (hint.integer-verdict (length before) display-hint value) answer before after
+  -- "Output never passes four bytes for each octet"
+  pub four-bytes : (room : ℕ) (display-hint value t : List ℕ) → ((k : ℕ) → getD value k 0 < 256) → hint.octets-verdict room display-hint value ≡ hint.text t
+      → length t ≤ 4 * length value
+  -- the contracts leave nothing open: two calls with equal arguments answer and print the same
+  pub octets-settled : (display-hint value : List ℕ) (x y : HintAnswer) (before a b : List ℕ)
+      → PrintedOctets display-hint value x before a → PrintedOctets display-hint value y before b → (x ≡ y) × (a ≡ b)
+  pub integer-settled : (display-hint : List ℕ) (value : ℤ) (x y : HintAnswer) (before a b : List ℕ)
+      → PrintedInteger display-hint value x before a → PrintedInteger display-hint value y before b → (x ≡ y) × (a ≡ b)
+  -- the second demand's row answers: number and next state, "unchanged unless 0"
+  pub row-answer : (state : ℕ) (value : ℤ) (complete willing : Bool) (answer : RowAnswer) → Sets state value complete willing answer
+      → (row.number-of answer ≡ row.row-status state value complete willing .number)
+      × (row.next-of state answer ≡ row.row-status state value complete willing .next)
+      × ((row.number-of answer ≡ 0 → ⊥) → row.next-of state answer ≡ state)
+  -- that contract leaves nothing open either
+  pub row-settled : (state : ℕ) (value : ℤ) (complete willing : Bool) (x y : RowAnswer)
+      → Sets state value complete willing x → Sets state value complete willing y → x ≡ y
+  -- P1 to P8
+  pub examples : Examples
