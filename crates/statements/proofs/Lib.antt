@@ -1,0 +1,2 @@
+pub mod RisingHits
+pub mod RisingRun
