@@ -1,2 +1,3 @@
 pub mod RisingHits
 pub mod RisingRun
+pub mod RisingDefinitions
