@@ -1,3 +1,4 @@
 pub mod RisingHits
 pub mod RisingRun
 pub mod RisingDefinitions
+pub mod RisingSyntax
