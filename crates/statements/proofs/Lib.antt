@@ -2,3 +2,4 @@ pub mod RisingHits
 pub mod RisingRun
 pub mod RisingDefinitions
 pub mod RisingSyntax
+pub mod RisingImports
