@@ -3,3 +3,4 @@ pub mod RisingRun
 pub mod RisingDefinitions
 pub mod RisingSyntax
 pub mod RisingImports
+pub mod Rising

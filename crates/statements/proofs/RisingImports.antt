@@ -11,7 +11,7 @@ use native.Mathlib.Omega.{arith}
 use lib.Dec.{T, eqb}
 use lib.ListN.{length, getD}
 use Rattle.index.specs.First.{hits}
-use Rattle.index.proofs.Search.{true-false, answers, first-passed}
+use Rattle.index.proofs.Search.{true-false, first-none, first-inside, first-passed}
 use Rattle.index.proofs.Hits.{hits-none, hit-inside, hit-holds}
 use Rattle.index.proofs.Tested.{and-left, and-right}
 use Rattle.terminal.specs.Terminal.{assign, comma, semicolon, Upper, BEGIN, DEFINITIONS, END, FROM, IDENTIFIER, IMPORTS, OBJECT}
@@ -206,6 +206,19 @@ none-opens cs q (suc (suc zero)) none = refl
 none-opens cs q (suc (suc (suc zero))) none = refl
 none-opens cs q (suc (suc (suc (suc i)))) none =
     quiet-at IMPORTS cs q i (λ j h. none (suc (suc (suc (suc (suc j))))) (omega arith) (omega arith))
+
+-- the tokens among the imports are tokens of the module
+pub import-inside : (cs : List ℕ) (i : ℕ) → imports-start ≤ i → i < imports-end cs → i < length cs
+unfolding imports-end
+import-inside cs i l = go (eqb (class-at cs (imports-start - 1)) IMPORTS) (decLt (length cs) imports-start)
+  where
+    is-end : ℕ → Bool
+    is-end n = eqb (class-at cs n) semicolon
+
+    go : (b : Bool) → Dec (length cs < imports-start) → i < cond b (find cs semicolon imports-start (length cs)) imports-start → i < length cs
+    go true (yes short) h = absurd (omega (arith, first-none is-end imports-start (length cs) (omega arith)))
+    go true (no long) h = omega (arith, first-inside is-end imports-start (length cs) (omega arith) .1)
+    go false d h = absurd (omega arith)
 
 module _ (cs : List ℕ) (derived : Derives smi-module cs) where
   imported : eqb (class-at cs (imports-start - 1)) IMPORTS ≡ true → Imported cs

@@ -46,8 +46,16 @@ run-row {n} {m} {o} {rs} {ss} l h p q = record {
 }
 
 -- a rule alone
-pub run-one : {n d e : ℕ} {r : Rule} → Confined n d e r → Run n (suc n) (r ∷ [])
+run-one : {n d e : ℕ} {r : Rule} → Confined n d e r → Run n (suc n) (r ∷ [])
 run-one c = record { numbered = (omega (arith, c .numbered), omega (arith, c .numbered), tt); in-order = (c .rises, tt, tt) }
+
+-- a rule, and then those of larger numbers
+pub run-then : {n m d e : ℕ} {r : Rule} {rs : List Rule} → n < m → Confined n d e r → Run (suc n) m rs → Run n m (r ∷ rs)
+run-then l c rest = run-row (omega arith) l (run-one c) rest
+
+-- no rule
+pub run-none : (n : ℕ) → Run n n []
+run-none n = record { numbered = tt; in-order = tt }
 
 -- two rules of one number: no breach of the second has an earlier place
 pub run-two : {n d e f g : ℕ} {r s : Rule} → Confined n d e r → Confined n f g s
