@@ -4,14 +4,16 @@
 -- is that of a derived module.
 -- Assumes nothing.
 use mathlib.Core.Path.{_≡_, refl, sym, ap, _∙_}
-use mathlib.Core.List.{List, [], _∷_, _++_, map}
+use mathlib.Core.List.{List, [], _∷_, _++_, map, map-map}
 use Prim.Native.Nat.{ℕ, suc, _+_, _-_, _≤_, _<_}
 use native.Mathlib.Omega.{arith}
 use lib.ListN.{length, getD, length-map}
 use Rattle.index.specs.Rule.{Rule, each, each-of}
 use Rattle.index.proofs.Hits.{hit-inside}
-use Rattle.token.specs.Token.{Meaning}
+use Rattle.token.specs.Token.{Meaning, Tok, meanings, class-of-token}
 use Rattle.grammar.specs.Answer.{Derives}
+use Rattle.grammar.specs.Derivation.{DerivesTokens}
+use Rattle.grammar.proofs.Derivation.{tree-of, tree-yield}
 use Rattle.grammar.specs.Grammar.{smi-module}
 use Rattle.definition.specs.Landmark.{begins, last, definitions}
 use Rattle.name.specs.Import.{classes-of, imports-start, imports-end, is-symbol, imports}
@@ -210,3 +212,16 @@ module _ (ms : List Meaning) where
       placed-row (length ms) (name-rules ms) (oid-rules ms ++ (syntax-rules ms ++ table-rules ms)) names-placed
       (placed-row (length ms) (oid-rules ms) (syntax-rules ms ++ table-rules ms) oids-placed
       (placed-row (length ms) (syntax-rules ms) (table-rules ms) syntax-placed tables-placed))
+
+-- the classes of tokens that the grammar derives are derived
+derived-classes : (ts : List Tok) → DerivesTokens class-of-token smi-module ts → Derives smi-module (classes-of (meanings ts))
+derived-classes ts derived = (
+  tree-of class-of-token smi-module (derived .0),
+  tree-yield class-of-token smi-module (derived .0)
+  ∙ ap (map class-of-token) (derived .1)
+  ∙ sym (map-map (λ (m : Meaning). m .class) (λ (t : Tok). t .says) ts),
+)
+
+-- the same of the tokens of a text
+pub tokens-in-order : (ts : List Tok) → DerivesTokens class-of-token smi-module ts → InOrder (rules (meanings ts))
+tokens-in-order ts derived = rules-in-order (meanings ts) (derived-classes ts derived)
