@@ -4,3 +4,4 @@ pub mod RisingDefinitions
 pub mod RisingSyntax
 pub mod RisingImports
 pub mod Rising
+pub mod RisingNeeded

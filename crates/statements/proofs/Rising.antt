@@ -8,8 +8,7 @@ use mathlib.Core.List.{List, [], _∷_, _++_, map, map-map}
 use Prim.Native.Nat.{ℕ, suc, _+_, _-_, _≤_, _<_}
 use native.Mathlib.Omega.{arith}
 use lib.ListN.{length, getD, length-map}
-use Rattle.index.specs.Rule.{Rule, each, each-of}
-use Rattle.index.proofs.Hits.{hit-inside}
+use Rattle.index.specs.Rule.{Rule, each}
 use Rattle.token.specs.Token.{Meaning, Tok, meanings, class-of-token}
 use Rattle.grammar.specs.Answer.{Derives}
 use Rattle.grammar.specs.Derivation.{DerivesTokens}
@@ -171,8 +170,8 @@ module _ (ms : List Meaning) where
   unfolding rules later-rules
   imports-first-in-order first =
       let all : Run 8 23 (rules ms) =
-          run-row (omega arith) (omega arith) (names-run first)
-          (run-row (omega arith) (omega arith) oids-run (run-row (omega arith) (omega arith) syntax-run tables-run)) in
+      run-row (omega arith) (omega arith) (names-run first)
+      (run-row (omega arith) (omega arith) oids-run (run-row (omega arith) (omega arith) syntax-run tables-run)) in
       all .in-order
 
   -- as they do in a module that the grammar derives
@@ -218,8 +217,8 @@ derived-classes : (ts : List Tok) → DerivesTokens class-of-token smi-module ts
 derived-classes ts derived = (
   tree-of class-of-token smi-module (derived .0),
   tree-yield class-of-token smi-module (derived .0)
-  ∙ ap (map class-of-token) (derived .1)
-  ∙ sym (map-map (λ (m : Meaning). m .class) (λ (t : Tok). t .says) ts),
+      ∙ ap (map class-of-token) (derived .1)
+      ∙ sym (map-map (λ (m : Meaning). m .class) (λ (t : Tok). t .says) ts),
 )
 
 -- the same of the tokens of a text

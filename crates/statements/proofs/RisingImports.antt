@@ -10,9 +10,8 @@ use native.Mathlib.Numerals.{add-one}
 use native.Mathlib.Omega.{arith}
 use lib.Dec.{T, eqb}
 use lib.ListN.{length, getD}
-use Rattle.index.specs.First.{hits}
 use Rattle.index.proofs.Search.{true-false, first-none, first-inside, first-passed}
-use Rattle.index.proofs.Hits.{hits-none, hit-inside, hit-holds}
+use Rattle.index.proofs.Hits.{hit-inside, hit-holds}
 use Rattle.index.proofs.Tested.{and-left, and-right}
 use Rattle.terminal.specs.Terminal.{assign, comma, semicolon, Upper, BEGIN, DEFINITIONS, END, FROM, IDENTIFIER, IMPORTS, OBJECT}
 use Rattle.grammar.specs.Rule.{Rule, never, empty, token, _⨾_, _or_, repeated, any, Tree, last, step, yield}

@@ -1,11 +1,10 @@
 -- Rules 16 to 19: each breach has its place inside its definition, so those of earlier definitions stand before those of later ones.
 -- Assumes nothing.
-use mathlib.Core.Path.{_≡_, refl, ap, _∙_}
+use mathlib.Core.Path.{_≡_, refl, ap}
 use mathlib.Core.Bool.{Bool}
 use mathlib.Core.List.{List}
 use Prim.Native.Nat.{ℕ, _<_}
 use native.Mathlib.Omega.{arith}
-use lib.IntN.{pos}
 use lib.ListN.{length, getD, length-map}
 use Rattle.index.specs.First.{hits}
 use Rattle.index.specs.Rule.{Rule}
@@ -13,7 +12,6 @@ use Rattle.index.proofs.Step.{entry-made}
 use Rattle.token.specs.Token.{Meaning}
 use Rattle.definition.specs.Landmark.{definitions}
 use Rattle.definition.specs.Members.{is-name, names-in}
-use Rattle.definition.specs.Fields.{fields-at}
 use Rattle.definition.specs.declared.Span.{Span}
 use Rattle.definition.specs.declared.Restriction.{Restriction}
 use Rattle.definition.specs.declared.Restriction.the-variants.{Free, Ranges, Sizes, Enumeration}
@@ -33,9 +31,8 @@ use Rattle.restriction.proofs.RangeLaws.{ranges-counted}
 use Rattle.restriction.proofs.ItemLaws.{items-counted}
 use Rattle.syntax_class.specs.Class.{kind-of, has-syntax, syntax-of, class-of}
 use Rattle.syntax_rule.specs.Refusal.{nothing-tested, restriction-of, order-rule, limit-rule, enumeration-rule, item-rule, is-untested, misplaced-in, outside-in, misfit-in, indirect-convention}
-use Rattle.statements.specs.Order.{Broken}
 use Rattle.statements.proofs.RisingHits.{Confined, confined-wider, confined-either, hits-confined}
-use Rattle.statements.proofs.RisingDefinitions.{Fits, FitsIn, name-of, end-of, ends-before, end-inside, syntax-at-home, restriction-at-home}
+use Rattle.statements.proofs.RisingDefinitions.{FitsIn, name-of, end-of, ends-before, end-inside, syntax-at-home, restriction-at-home}
 
 -- a rule that is tested nowhere has no breach
 untested : (n d e : ℕ) → Confined n d e (nothing-tested n)
