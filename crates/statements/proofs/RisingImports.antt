@@ -27,7 +27,7 @@ use Rattle.name.specs.Import.{imports-start, imports-end, is-symbol, imports}
 unfoldable opens : ℕ → ℕ → Bool
 opens a b = (is-lower a && (is-defining b || eqb b OBJECT)) || (eqb a Upper && eqb b assign)
 
--- no definition begins at a token that follows a token of class a, up to the first `;`, which there is
+-- a token of class a, and those of classes cs after it: no definition begins at one of them before the first `;`, which there is
 abbrev Quiet : ℕ → List ℕ → Type 0
 Quiet a [] = ⊥
 Quiet a (b ∷ cs) = (opens a b ≡ false) × (eqb b semicolon ≡ false → Quiet b cs)
@@ -44,31 +44,63 @@ quiet-at a [] q i none = absurd q
 quiet-at a (b ∷ cs) q zero none = q .0
 quiet-at a (b ∷ cs) q (suc i) none = quiet-at b cs (q .1 (none 0 (omega arith))) i (λ j h. none (suc j) (omega arith))
 
+-- ---- where none begins
+
+-- at a token that is no name
+after-mark : (a b : ℕ) → is-lower a ≡ false → eqb a Upper ≡ false → opens a b ≡ false
+unfolding opens
+after-mark a b p q = rw (p, q)
+
+-- at an *Upper* before anything but `::=`
+after-upper : (b : ℕ) → eqb b assign ≡ false → opens Upper b ≡ false
+unfolding opens
+after-upper b e = e
+
+-- before a comma or FROM
+neither : (p q : Bool) → ((p && false) || (q && false)) ≡ false
+neither true true = refl
+neither true false = refl
+neither false true = refl
+neither false false = refl
+
+before-comma : (a : ℕ) → opens a comma ≡ false
+unfolding opens is-defining
+before-comma a = neither (is-lower a) (eqb a Upper)
+
+before-from : (a : ℕ) → opens a FROM ≡ false
+unfolding opens is-defining
+before-from a = neither (is-lower a) (eqb a Upper)
+
 -- ---- choices among single tokens
 
--- a rule that is a choice among tokens, whose classes all pass a test
-abbrev each-class : (ℕ → Bool) → Rule → Bool
-each-class test never = true
-each-class test empty = false
-each-class test (token c) = test c
-each-class test (r ⨾ s) = false
-each-class test (r or s) = each-class test r && each-class test s
-each-class test (repeated r s) = false
+-- a rule that is a choice among tokens, none of them of class k
+abbrev without : ℕ → Rule → Bool
+without k never = true
+without k empty = false
+without k (token c) = not (eqb c k)
+without k (r ⨾ s) = false
+without k (r or s) = without k r && without k s
+without k (repeated r s) = false
 
--- it yields one token, whose class passes
-record OneToken (test : ℕ → Bool) (cs : List ℕ) : Type 0 where
+-- one token, of another class than k
+record Other (k : ℕ) (cs : List ℕ) : Type 0 where
   class : ℕ
   alone : cs ≡ class ∷ []
-  passes : T (test class)
+  other : eqb class k ≡ false
 
-one-token : (test : ℕ → Bool) (r : Rule) → T (each-class test r) → (t : Tree r) → OneToken test (yield r t)
-one-token test never h t = absurd t
-one-token test empty h t = absurd h
-one-token test (token c) h t = record { class = c; alone = refl; passes = h }
-one-token test (r ⨾ s) h t = absurd h
-one-token test (r or s) h (inl t) = one-token test r (and-left (each-class test r) (each-class test s) h) t
-one-token test (r or s) h (inr t) = one-token test s (and-right (each-class test r) (each-class test s) h) t
-one-token test (repeated r s) h t = absurd h
+not-held : (b : Bool) → T (not b) → b ≡ false
+not-held true h = absurd h
+not-held false h = refl
+
+-- is what such a rule yields
+one-token : (k : ℕ) (r : Rule) → T (without k r) → (t : Tree r) → Other k (yield r t)
+one-token k never h t = absurd t
+one-token k empty h t = absurd h
+one-token k (token c) h t = record { class = c; alone = refl; other = not-held (eqb c k) h }
+one-token k (r ⨾ s) h t = absurd h
+one-token k (r or s) h (inl t) = one-token k r (and-left (without k r) (without k s) h) t
+one-token k (r or s) h (inr t) = one-token k s (and-right (without k r) (without k s) h) t
+one-token k (repeated r s) h t = absurd h
 
 -- ---- the imports
 
@@ -76,74 +108,30 @@ one-token test (repeated r s) h t = absurd h
 abbrev symbol : Rule
 symbol = lower or upper or macro-word
 
--- no definition begins where a token of class c stands in a group: not before it, nor at it
-abbrev is-still : ℕ → Bool
-is-still c =
-    not (opens IMPORTS c) && (not (opens comma c) && (not (opens Upper c) && (not (opens c comma) && not (opens c FROM))))
-
-symbols-still : T (each-class is-still symbol)
-unfolding opens is-defining
-symbols-still = tt
-
-record Still (c : ℕ) : Type 0 where
-  after-imports : opens IMPORTS c ≡ false
-  after-comma : opens comma c ≡ false
-  after-module : opens Upper c ≡ false
-  before-comma : opens c comma ≡ false
-  before-from : opens c FROM ≡ false
-
-still : (c : ℕ) → T (is-still c) → Still c
-still c = go (opens IMPORTS c) refl (opens comma c) refl (opens Upper c) refl (opens c comma) refl (opens c FROM) refl
-  where
-    go : (p : Bool) → opens IMPORTS c ≡ p → (q : Bool) → opens comma c ≡ q → (r : Bool) → opens Upper c ≡ r
-        → (s : Bool) → opens c comma ≡ s → (t : Bool) → opens c FROM ≡ t → T (not p && (not q && (not r && (not s && not t)))) → Still c
-    go false a false b false d false e false f h = record { after-imports = a; after-comma = b; after-module = d; before-comma = e; before-from = f }
-    go true a q b r d s e t f h = absurd h
-    go false a true b r d s e t f h = absurd h
-    go false a false b true d s e t f h = absurd h
-    go false a false b false d true e t f h = absurd h
-    go false a false b false d false e true f h = absurd h
-
--- a symbol of a group is one token
-record Symbol (cs : List ℕ) : Type 0 where
-  class : ℕ
-  alone : cs ≡ class ∷ []
-  quiet : Still class
-
-symbol-token : (t : Tree symbol) → Symbol (yield symbol t)
-symbol-token t =
-    let one = one-token is-still symbol symbols-still t in
-    record { class = one .class; alone = one .alone; quiet = still (one .class) (one .passes) }
-
-from-upper : opens FROM Upper ≡ false
-unfolding opens is-defining
-from-upper = refl
+symbol-token : (t : Tree symbol) → Other assign (yield symbol t)
+symbol-token t = one-token assign symbol tt t
 
 -- after a symbol come the rest of its group, FROM and the module, and then what else there is
-rest-quiet : (t : Tree (any (token comma ⨾ symbol))) (c : ℕ) → Still c → (more : List ℕ) → Quiet Upper more
+rest-quiet : (t : Tree (any (token comma ⨾ symbol))) (c : ℕ) (more : List ℕ) → Quiet Upper more
     → Quiet c ((yield (any (token comma ⨾ symbol)) t ++ (FROM ∷ Upper ∷ [])) ++ more)
-rest-quiet (last t) c s more q = (s .before-from, λ e. (from-upper, λ f. q))
-rest-quiet (step t ts) c s more q =
+rest-quiet (last t) c more q = (before-from c, λ e. (after-mark FROM Upper refl refl, λ f. q))
+rest-quiet (step t ts) c more q =
     let next = symbol-token (t .1) in
-    rw (next .alone)
-    (s .before-comma, λ e. (next .quiet .after-comma, λ f. rest-quiet ts (next .class) (next .quiet) more q))
+    rw (next .alone) (before-comma c, λ e. (after-mark comma (next .class) refl refl, λ f. rest-quiet ts (next .class) more q))
 
 -- a group after a token of class a, and then what else there is
-group-quiet : (t : Tree group) (a : ℕ) → ((c : ℕ) → Still c → opens a c ≡ false) → (more : List ℕ) → Quiet Upper more → Quiet a (yield group t ++ more)
+group-quiet : (t : Tree group) (a : ℕ) → ((c : ℕ) → eqb c assign ≡ false → opens a c ≡ false) → (more : List ℕ) → Quiet Upper more
+    → Quiet a (yield group t ++ more)
 group-quiet t a leads more q =
     let one = symbol-token (t .0 .0) in
-    rw (one .alone) (leads (one .class) (one .quiet), λ e. rest-quiet (t .0 .1) (one .class) (one .quiet) more q)
-
-upper-semicolon : opens Upper semicolon ≡ false
-unfolding opens is-defining
-upper-semicolon = refl
+    rw (one .alone) (leads (one .class) (one .other), λ e. rest-quiet (t .0 .1) (one .class) more q)
 
 -- more groups, and then `;`
 groups-quiet : (t : Tree (any group)) → Quiet Upper (yield (any group) t ++ (semicolon ∷ []))
-groups-quiet (last t) = (upper-semicolon, λ e. absurd (true-false refl e))
+groups-quiet (last t) = (after-upper semicolon refl, λ e. absurd (true-false refl e))
 groups-quiet (step t ts) =
     rw (append-assoc (yield group t) (yield (any group) ts) (semicolon ∷ []))
-    (group-quiet t Upper (λ c s. s .after-module) (yield (any group) ts ++ (semicolon ∷ [])) (groups-quiet ts))
+    (group-quiet t Upper after-upper (yield (any group) ts ++ (semicolon ∷ [])) (groups-quiet ts))
 
 -- the first tokens of a module with imports, and the tokens after them
 abbrev with-imports : List ℕ → List ℕ
@@ -155,33 +143,28 @@ record Imported (cs : List ℕ) : Type 0 where
   whole : cs ≡ with-imports rest
   quiet : Quiet IMPORTS rest
 
--- the name of the identity is not IMPORTS
-abbrev is-other : ℕ → Bool
-is-other c = not (eqb c IMPORTS)
-
-lower-other : (t : Tree lower) → OneToken is-other (yield lower t)
-lower-other t = one-token is-other lower tt t
-
-other-first : (cs more rest : List ℕ) → OneToken is-other cs → eqb (class-at ((cs ++ more) ++ rest) 0) IMPORTS ≡ true → ⊥
+-- tokens that start with one of another class do not start with IMPORTS
+other-first : (cs more rest : List ℕ) → Other IMPORTS cs → eqb (class-at ((cs ++ more) ++ rest) 0) IMPORTS ≡ true → ⊥
 other-first [] more rest one e = let z : _≡_ {A = ℕ} 0 1 = cc (one .alone) in omega arith
 other-first (c ∷ cs) more rest one e =
-    let same : one .class ≡ c = cc (one .alone) in
-    rw (ap is-other same ∙ ap not e) at (one .passes)
+    let same : c ≡ one .class = cc (one .alone) in
+    true-false e (ap (λ (k : ℕ). eqb k IMPORTS) same ∙ one .other)
 
+-- without imports the fifth token is the name of the identity
 module-imported : (t : Tree smi-module) → eqb (class-at (yield smi-module t) 4) IMPORTS ≡ true → Imported (yield smi-module t)
 unfolding smi-module
-module-imported (u, (d, (a, (b, (inl o, (i, more)))))) e = absurd (other-first (yield lower (i .0)) _ _ (lower-other (i .0)) e)
+module-imported (u, (d, (a, (b, (inl o, (i, more)))))) e = absurd (other-first (yield lower (i .0)) _ _ (one-token IMPORTS lower tt (i .0)) e)
 module-imported (u, (d, (a, (b, (inr (o, (g, (gs, s))), more))))) e = record {
   rest = (yield group g ++ (yield (any group) gs ++ (semicolon ∷ []))) ++ yield (identity ⨾ any def ⨾ token END) more;
   whole = refl;
   quiet =
       quiet-more IMPORTS (yield group g ++ (yield (any group) gs ++ (semicolon ∷ []))) _
-      (group-quiet g IMPORTS (λ c k. k .after-imports) (yield (any group) gs ++ (semicolon ∷ [])) (groups-quiet gs));
+      (group-quiet g IMPORTS (λ c k. after-mark IMPORTS c refl refl) (yield (any group) gs ++ (semicolon ∷ [])) (groups-quiet gs));
 }
 
 -- ---- definitions after the imports
 
--- where a definition begins, the classes of the token and of the next one show it
+-- a definition begins only where the classes of the token and of the next one allow it
 not-opening : (cs : List ℕ) (i : ℕ) → opens (class-at cs i) (class-at cs (i + 1)) ≡ false → begins cs i ≡ false
 unfolding opens begins before-object-identifier
 not-opening cs i =
@@ -220,9 +203,11 @@ import-inside cs i l = go (eqb (class-at cs (imports-start - 1)) IMPORTS) (decLt
     go false d h = absurd (omega arith)
 
 module _ (cs : List ℕ) (derived : Derives smi-module cs) where
+  -- as `module-imported`, of what the tree yields
   imported : eqb (class-at cs (imports-start - 1)) IMPORTS ≡ true → Imported cs
   imported e = rw (← (derived .1)) (module-imported (derived .0) (rw (derived .1) e))
 
+  -- no definition begins before the imports end
   none-begins : (i : ℕ) → i < imports-end cs → eqb (class-at cs (imports-start - 1)) IMPORTS ≡ true → begins cs i ≡ false
   unfolding imports-end
   none-begins i h e =
