@@ -69,11 +69,11 @@ def whole(text):
     return head + text + b"END\n", len(head)
 
 
-def main():
+def modules():
+    """Each example's number, the module around it, and its place there. A
+    section without an example gives none."""
     page = (HERE.parent / "docs" / "RULES.md").read_bytes()
-    seen, wrong = [], 0
     for number, lines in examples(page):
-        seen.append(number)
         if not lines:
             continue
         text, place = marked(lines)
@@ -81,11 +81,19 @@ def main():
             text, name = LONGER[number]
             place = text.index(name)
         module, start = whole(text)
+        yield number, module, start + place
+
+
+def main():
+    page = (HERE.parent / "docs" / "RULES.md").read_bytes()
+    seen = [number for number, lines in examples(page)]
+    wrong = 0
+    for number, module, place in modules():
         answer = reading.read(module)
-        if (answer.number, answer.place) != (number, start + place):
+        if (answer.number, answer.place) != (number, place):
             wrong += 1
             print("example of %d: answered %d at %d, marked at %d" % (
-                number, answer.number, answer.place - start, place))
+                number, answer.number, answer.place, place))
     if seen != list(range(1, 23)):
         wrong += 1
         print("the sections are %s" % seen)

@@ -13,4 +13,11 @@ pub mod Alike
 pub mod Printing
 pub mod Rows
 pub mod Examples
+pub mod RisingHits
+pub mod RisingRun
+pub mod RisingDefinitions
+pub mod RisingSyntax
+pub mod RisingImports
+pub mod Rising
+pub mod RisingNeeded
 pub mod Statements

@@ -1,0 +1,64 @@
+-- Rules whose places are the indices where a test holds: their breaches rise and stay between the bounds.
+-- Assumes nothing.
+use mathlib.Core.Path.{_≡_, refl}
+use mathlib.Core.Bool.{Bool, cond, true, false}
+use Prim.Native.Nat.{ℕ, zero, suc, _≤_, _<_}
+use native.Mathlib.Decide.{decLt}
+use native.Mathlib.Omega.{arith}
+use lib.ListN.{length, getD}
+use Rattle.index.specs.First.{hits}
+use Rattle.index.specs.Rule.{Rule}
+use Rattle.index.proofs.Search.{first-from}
+use Rattle.index.proofs.Hits.{hits-few, hit-inside, next-hit, inside-same}
+use Rattle.statements.specs.Order.{Broken, Rises}
+
+-- a rule of number n whose breaches rise, each with its place from d on, below e
+pub record Confined (n d e : ℕ) (r : Rule) : Type 0 where
+  pub numbered : r .number ≡ n
+  pub rises : Rises r
+  pub inside : (i : ℕ) → Broken r i → (d ≤ r .place i) × (r .place i < e)
+
+-- bounds that hold for each place between others
+pub confined-wider : {n a b d e : ℕ} {r : Rule} → ((p : ℕ) → a ≤ p → p < b → (d ≤ p) × (p < e)) → Confined n a b r → Confined n d e r
+confined-wider {r = r} wider c = record {
+  numbered = c .numbered;
+  rises = c .rises;
+  inside = λ i k. let within = c .inside i k in wider (r .place i) (within .0) (within .1);
+}
+
+-- one of two rules
+pub confined-either : {n d e : ℕ} (b : Bool) {r s : Rule} → Confined n d e r → Confined n d e s → Confined n d e (cond b r s)
+confined-either true p q = p
+confined-either false p q = q
+
+module _ (test : ℕ → Bool) (a b : ℕ) where
+  -- each hit stands before the next
+  next-later : (k : ℕ) → suc k < length (hits test a b) → getD (hits test a b) k 0 < getD (hits test a b) (suc k) 0
+  next-later k h =
+      let next = next-hit test a b k (omega (arith, hits-few test a b)) (omega arith) in
+      let same = inside-same (hits test a b) (suc k) 0 b h in
+      omega (arith, next, same, first-from test (suc (getD (hits test a b) k 0)) b)
+
+  -- and so before all later ones
+  pub hits-rise : (i j : ℕ) → i < j → j < length (hits test a b) → getD (hits test a b) i 0 < getD (hits test a b) j 0
+  hits-rise i zero l h = absurd (omega arith)
+  hits-rise i (suc j) l h = go (decLt i j) (hits-rise i j)
+    where
+      go : Dec (i < j) → (i < j → j < length (hits test a b) → getD (hits test a b) i 0 < getD (hits test a b) j 0)
+          → getD (hits test a b) i 0 < getD (hits test a b) (suc j) 0
+      go (yes m) before = omega (arith, before m (omega arith), next-later j h)
+      go (no m) before = let same : i ≡ j = omega arith in rw same (next-later j h)
+
+  -- a rule whose places are the hits
+  pub hits-confined : (r : Rule) → r .to ≡ length (hits test a b) → ((k : ℕ) → k < length (hits test a b) → r .place k ≡ getD (hits test a b) k 0)
+      → Confined (r .number) a b r
+  hits-confined r counted placed = record {
+    numbered = refl;
+    rises = λ i j l p q.
+        let more : j < length (hits test a b) = omega (arith, q .below) in
+        omega (arith, hits-rise i j l more, placed i (omega arith), placed j more);
+    inside = λ i p.
+        let more : i < length (hits test a b) = omega (arith, p .below) in
+        let within = hit-inside test a b i more in
+        (omega (arith, within .0, placed i more), omega (arith, within .1, placed i more));
+  }

@@ -1,0 +1,86 @@
+#!/usr/bin/env python3
+"""Writes crates/card/data, args and stdout: modules, and the cards that they have.
+
+The whole case of document 01 stands with the lines that the paper prints, and
+each example of docs/RULES.md with the number and the place that the page marks;
+the independent reading has to agree. The other cards are the reading's. With
+--check nothing is written; it says which files are not what they should be.
+"""
+
+import pathlib
+import shutil
+import sys
+
+sys.dont_write_bytecode = True
+HERE = pathlib.Path(__file__).resolve().parent
+CRATE = HERE.parent / "crates" / "card"
+sys.path.insert(0, str(HERE / "reading"))
+sys.path.insert(0, str(HERE))
+
+import reading
+import rule_examples
+
+WHOLE = b"""T DEFINITIONS ::= BEGIN
+IMPORTS MODULE-IDENTITY FROM SNMPv2-SMI;
+t MODULE-IDENTITY LAST-UPDATED "" ORGANIZATION "" CONTACT-INFO "" DESCRIPTION "" ::= { iso 9 }
+a OBJECT IDENTIFIER ::= { t 1 }
+END
+"""
+PRINTED = b"accepted\t2\n1\tt\t1.9\t0\t0\t0\n2\ta\t1.9.1\t0\t0\t0\n"
+
+
+def plain_module(count):
+    """A module of so many definitions, its identity among them."""
+    names = b"".join(rule_examples.plain(b"t%d" % n, [n]) for n in range(1, count))
+    return rule_examples.whole(names)[0]
+
+
+def vectors():
+    """A name, a text, and its card where it is known from elsewhere."""
+    yield "whole", WHOLE, PRINTED
+    example = HERE.parent / "examples" / "QUAY-UPS-MIB"
+    yield example.name, example.read_bytes(), None
+    for number, module, place in rule_examples.modules():
+        yield "rule-%02d" % number, module, b"refused\t%d\t%d\n" % (number, place)
+    yield "definitions-512", plain_module(512), None
+    yield "bytes-65536", WHOLE + b" " * (65536 - len(WHOLE)), PRINTED
+    yield "bytes-65537", WHOLE + b" " * (65537 - len(WHOLE)), b"refused\t2\t0\n"
+    yield "empty", b"", b"refused\t7\t0\n"
+
+
+def card(name, text, known):
+    read = reading.card(text)
+    assert known is None or read == known, (name, read, known)
+    return read
+
+
+def files():
+    """The path below the crate and the bytes of each file."""
+    cases = list(vectors())
+    for name, text, known in cases:
+        yield pathlib.Path("data") / name, text
+    yield pathlib.Path("args"), b"".join(name.encode() + b"\n" for name, _, _ in cases)
+    yield pathlib.Path("stdout"), b"".join(case[0].encode() + b"\n" + card(*case) for case in cases)
+
+
+def check(made):
+    held = {path.relative_to(CRATE): path.read_bytes()
+            for part in ("data/*", "args", "stdout") for path in CRATE.glob(part)}
+    wrong = sorted(path for path in held.keys() | made.keys() if held.get(path) != made.get(path))
+    for path in wrong:
+        print(f"card_vectors: crates/card/{path} is not what it should be; run tests/card_vectors.py", file=sys.stderr)
+    sys.exit(1 if wrong else 0)
+
+
+def main():
+    made = dict(files())
+    if "--check" in sys.argv:
+        check(made)
+    shutil.rmtree(CRATE / "data", ignore_errors=True)
+    (CRATE / "data").mkdir()
+    for path, text in made.items():
+        (CRATE / path).write_bytes(text)
+    print(len(made) - 2, "modules")
+
+
+main()
