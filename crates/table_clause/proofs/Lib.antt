@@ -1,1 +1,2 @@
 pub mod OneRow
+pub mod Faults

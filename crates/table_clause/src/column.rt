@@ -4,7 +4,7 @@ ghost use Prim.Native.Nat.{_<_};
 ghost use Rattle.token.specs.Cut.{meanings-in};
 ghost use Rattle.field_table.specs.Table.{ModuleTable};
 ghost use Rattle.conceptual_table.specs.Held.{ObjectTable, TypeTable};
-ghost use Rattle.table_clause.specs.Clause.{repeating-row, misnaming-row, leaves-out, unlisted-column};
+ghost use Rattle.table_clause.specs.Clause.{repeating-row, misnaming-row, leaves-out};
 use conceptual_table::columns_of;
 use conceptual_table::is_column_of;
 use conceptual_table::is_row;
@@ -104,7 +104,7 @@ pub fn is_misnaming_row(
 }
 
 // Whether row r has definition k as a column that its SEQUENCE type doesn't list.
-fn leaves_out(
+pub fn leaves_out(
     text: &[u8],
     classes: &[u8; 65536],
     starts: &[u32; 65536],
@@ -146,55 +146,4 @@ fn leaves_out(
         columns_of(text, c, fields, classed, firsts, numbers, types, r),
         k,
     )
-}
-
-// Whether it is a column that its row's SEQUENCE type doesn't list.
-pub fn is_unlisted_column(
-    text: &[u8],
-    classes: &[u8; 65536],
-    starts: &[u32; 65536],
-    ends: &[u32; 65536],
-    n: usize,
-    imported: &[u32; 65536],
-    m: usize,
-    defined: &[u32; 512],
-    c: usize,
-    fields: &[usize; 8192],
-    classed: &[u8; 512],
-    firsts: &[usize; 513],
-    numbers: &[u32],
-    types: &[usize; 512],
-    k: RecordIndex,
-) -> bool
-    requires module { ⌜ ModuleTable (now text) (now classes) (now starts) (now ends) n (now imported) m (now defined) c (now fields) ⌝ }
-    requires objects { ⌜ ObjectTable (meanings-in (now text)) c (now fields) (now classed) (now firsts) (now numbers) ⌝ }
-    requires types { ⌜ TypeTable (meanings-in (now text)) (now types) c ⌝ }
-    requires index { ⌜ k .0 < c ⌝ }
-    ensures { λ a. ⌜ a ≡ unlisted-column (meanings-in (now (text .entry))) (k .0) ⌝ }
-{
-    let mut r = 0;
-    while r < c {
-        if leaves_out(
-            text,
-            classes,
-            starts,
-            ends,
-            n,
-            imported,
-            m,
-            defined,
-            c,
-            fields,
-            classed,
-            firsts,
-            numbers,
-            types,
-            k,
-            RecordIndex(r),
-        ) {
-            return true;
-        }
-        r += 1;
-    }
-    false
 }
