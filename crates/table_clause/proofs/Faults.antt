@@ -4,38 +4,24 @@ use mathlib.Core.Path.{_≡_, refl, sym, ap, _∙_}
 use mathlib.Core.Bool.{Bool, true, false, _&&_, _||_}
 use mathlib.Core.List.{List}
 use Prim.Native.Nat.{ℕ, _+_, _≤_, _<_}
-use native.Mathlib.Numerals.{add-one}
 use native.Mathlib.Decide.{ℕ-discrete}
 use native.Mathlib.Omega.{arith}
 use borrow.Author.Count.{below-more}
-use borrow.Author.Tests.{eq-eqb, ne-eqb, eqb-true, lt-ltb, le-ltb}
+use borrow.Author.Tests.{eq-eqb, ne-eqb, eqb-true}
 use lib.Dec.{eqb}
 use lib.ListN.{length, getD, set, length-set}
 use lib.Seq.{getD-set-same, getD-set-other}
-use Rattle.index.specs.First.{first, any}
-use Rattle.index.proofs.Search.{answers, first-hit, first-miss, first-none, any-at, any-index}
+use Rattle.index.specs.First.{any}
+use Rattle.index.proofs.Search.{answers, any-at, any-index}
 use Rattle.index.proofs.Collected.{filled-more}
 use Rattle.token.specs.Token.{Meaning}
 use Rattle.name.specs.Collect.{most-definitions}
 use Rattle.oid.specs.Oid.{count-of}
 use Rattle.conceptual_table.specs.Member.{is-row, is-column-of}
+use Rattle.conceptual_table.proofs.Asking.{any-step, any-empty}
 use Rattle.conceptual_table.proofs.Chain.{both, same-tests}
 use Rattle.table_clause.specs.Clause.{misnaming-row, leaves-out, unlisted-column}
 use Rattle.table_clause.specs.Fault.{is-blamed-by, FaultsFrom, LeftOutMarked, FaultTable}
-
--- ---- searches
-
--- the test at the first index, and the search after it
-any-step : (test : ℕ → Bool) (a b : ℕ) → a < b → any test a b ≡ (test a || any test (a + 1) b)
-unfolding any
-any-step test a b h =
-    answers (test a)
-    (λ e. rw e (lt-ltb (first test a b) b (omega (arith, first-hit test a b h e))))
-    (λ e. rw (e, add-one a, first-miss test a b h e))
-
-any-empty : (test : ℕ → Bool) (a b : ℕ) → b ≤ a → any test a b ≡ false
-unfolding any
-any-empty test a b h = le-ltb (first test a b) b (omega (arith, first-none test a b h))
 
 or-right : (a : Bool) {b : Bool} → b ≡ true → (a || b) ≡ true
 or-right true e = refl

@@ -1,2 +1,3 @@
 pub mod OneRow
 pub mod Faults
+pub mod Misplaced

@@ -1,15 +1,23 @@
 -- The definitions at fault by the names of SEQUENCE types, row by row, and the array that marks them with 1.
 -- Assumes nothing.
 use mathlib.Core.Path.{_≡_}
-use mathlib.Core.Bool.{Bool, _&&_, _||_}
+use mathlib.Core.Bool.{Bool, not, _&&_, _||_}
 use mathlib.Core.List.{List}
-use Prim.Native.Nat.{ℕ, _<_}
+use Prim.Native.Nat.{ℕ, _-_, _<_}
 use lib.Dec.{eqb}
 use lib.ListN.{length, getD}
 use Rattle.index.specs.First.{any}
 use Rattle.token.specs.Token.{Meaning}
 use Rattle.name.specs.Collect.{most-definitions}
+use Rattle.conceptual_table.specs.Member.{columns-of, is-column-of}
+use Rattle.table_list.specs.Listed.{has-number}
 use Rattle.table_clause.specs.Clause.{misnaming-row, leaves-out, unlisted-column}
+
+-- a name of the SEQUENCE type of row r has this number, and it is no column's of r: it is 0, or that of another definition
+unfoldable pub is-misplaced : List Meaning → ℕ → ℕ → Bool
+is-misplaced ms r number =
+    any (has-number ms number) (columns-of ms r .from) (columns-of ms r .to)
+    && not (not (eqb number 0) && is-column-of ms (number - 1) r)
 
 -- the names of row r put definition k at fault: it is the row, and one of them is wrong, or it is a column that is not among them
 unfoldable pub is-blamed-by : List Meaning → ℕ → ℕ → Bool

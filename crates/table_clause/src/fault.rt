@@ -5,39 +5,35 @@ ghost use lib.ListN.{length, getD};
 ghost use Rattle.token.specs.Cut.{meanings-in};
 ghost use Rattle.name.specs.Collect.{most-definitions};
 ghost use Rattle.field_table.specs.Table.{ModuleTable};
+ghost use Rattle.conceptual_table.specs.Member.{columns-of};
 ghost use Rattle.conceptual_table.specs.Held.{ObjectTable, TypeTable};
+ghost use Rattle.table_list.specs.Listed.{NamesMarked};
 ghost use Rattle.table_clause.specs.Fault.{LeftOutMarked, FaultsFrom, FaultTable};
 use crate::column::is_misnaming_row;
 use crate::column::leaves_out;
+use conceptual_table::columns_of;
 use conceptual_table::is_row;
 use index::RecordIndex;
+use table_list::mark_names;
 
 // What stands in the array for a definition that is at fault; for any other, 0 does.
 const AT_FAULT: u8 = 1;
 
-// Marks the columns that row r leaves out.
+// Marks the columns that row r leaves out. The names of its SEQUENCE type are marked.
 fn mark_unlisted(
     text: &[u8],
-    classes: &[u8; 65536],
-    starts: &[u32; 65536],
-    ends: &[u32; 65536],
-    n: usize,
-    imported: &[u32; 65536],
-    m: usize,
-    defined: &[u32; 512],
     c: usize,
     fields: &[usize; 8192],
     classed: &[u8; 512],
     firsts: &[usize; 513],
     numbers: &[u32],
-    types: &[usize; 512],
+    marks: &[u8; 513],
     r: RecordIndex,
     faults: &mut [u8; 512],
 )
-    requires module { ⌜ ModuleTable (now text) (now classes) (now starts) (now ends) n (now imported) m (now defined) c (now fields) ⌝ }
     requires objects { ⌜ ObjectTable (meanings-in (now text)) c (now fields) (now classed) (now firsts) (now numbers) ⌝ }
-    requires types { ⌜ TypeTable (meanings-in (now text)) (now types) c ⌝ }
     requires row { ⌜ r .0 < c ⌝ }
+    requires marks { ⌜ NamesMarked (meanings-in (now text)) (columns-of (meanings-in (now text)) (r .0)) (now marks) c ⌝ }
     requires room { ⌜ length (now faults) ≡ most-definitions ⌝ }
     ensures { λ _. ⌜ LeftOutMarked (meanings-in (now (text .entry))) (now (faults .entry)) (now (faults .exit)) c (r .0) ⌝ }
 {
@@ -45,19 +41,12 @@ fn mark_unlisted(
     while k < c {
         if leaves_out(
             text,
-            classes,
-            starts,
-            ends,
-            n,
-            imported,
-            m,
-            defined,
             c,
             fields,
             classed,
             firsts,
             numbers,
-            types,
+            marks,
             RecordIndex(k),
             r,
         ) {
@@ -67,7 +56,8 @@ fn mark_unlisted(
     }
 }
 
-// Marks row r, if its SEQUENCE type has a wrong name, and the columns that it leaves out, beside those of the rows after it.
+// Marks row r, if its SEQUENCE type has a wrong name, and the columns that it leaves out, beside those that the rows after it mark.
+// Each name is looked up once.
 fn mark_row(
     text: &[u8],
     classes: &[u8; 65536],
@@ -93,7 +83,9 @@ fn mark_row(
     requires faults { ⌜ FaultsFrom (meanings-in (now text)) (now faults) c (r .0 + 1) ⌝ }
     ensures { λ _. ⌜ FaultsFrom (meanings-in (now (text .entry))) (now (faults .exit)) c (r .0) ⌝ }
 {
-    mark_unlisted(
+    let list = columns_of(text, c, fields, classed, firsts, numbers, types, r);
+    let mut marks = [0u8; 513];
+    mark_names(
         text,
         classes,
         starts,
@@ -104,30 +96,11 @@ fn mark_row(
         defined,
         c,
         fields,
-        classed,
-        firsts,
-        numbers,
-        types,
-        r,
-        faults,
+        list,
+        &mut marks,
     );
-    if is_misnaming_row(
-        text,
-        classes,
-        starts,
-        ends,
-        n,
-        imported,
-        m,
-        defined,
-        c,
-        fields,
-        classed,
-        firsts,
-        numbers,
-        types,
-        r,
-    ) {
+    mark_unlisted(text, c, fields, classed, firsts, numbers, &marks, r, faults);
+    if is_misnaming_row(text, c, fields, classed, firsts, numbers, &marks, r) {
         let at = r.0;
         faults[at] = AT_FAULT;
     }

@@ -12,11 +12,11 @@ use Rattle.table_clause.proofs.fault.mark_unlisted.Statement.{statement
 use Rattle.table_clause.proofs.fault.mark_unlisted.Tie as tie
 
 abbrev Inv-loop : tie.InvT-loop
-Inv-loop text classes starts ends n imported m defined c fields classed firsts numbers types r faults₀ k₀ faults k =
+Inv-loop text c fields classed firsts numbers marks r faults₀ k₀ faults k =
     Marking (λ (i : ℕ). leaves-out (meanings-in text) i (r .0)) c faults₀ faults k
 
 abbrev μ-loop : tie.MeasureT-loop
-μ-loop text classes starts ends n imported m defined c fields classed firsts numbers types r faults₀ k₀ faults k =
+μ-loop text c fields classed firsts numbers marks r faults₀ k₀ faults k =
     c - k
 
 abbrev start : tie.In-loop Inv-loop μ-loop → tie.Start Inv-loop μ-loop
@@ -27,13 +27,13 @@ asked : (h : tie.After-leaves-out Inv-loop μ-loop) → (let t = h .before in h 
 asked h = h .leaves-out .ensures
 
 loop-holds : tie.Need-loop-holds Inv-loop μ-loop
-loop-holds c = marking-start _ _ _ (c .before .before .pre .1 .1 .1 .1)
+loop-holds c = marking-start _ _ _ (c .before .before .pre .1 .1 .1)
 
 leaves-out-requires : tie.Need-leaves-out-requires Inv-loop μ-loop
-leaves-out-requires c κs = let s = start c in (s .pre .0, (s .pre .1 .0, (s .pre .1 .1 .0, (c .loop-test .taken, s .pre .1 .1 .1 .0))))
+leaves-out-requires c κs = let s = start c in (s .pre .0, (c .loop-test .taken, (s .pre .1 .0, s .pre .1 .1 .0)))
 
 element-write-faults : tie.Need-element-write-faults Inv-loop μ-loop
-element-write-faults c = let t = c .before .before in small (start t .pre .1 .0) (t .loop-test .taken)
+element-write-faults c = let t = c .before .before in small (start t .pre .0) (t .loop-test .taken)
 
 add-k : tie.Need-add-k Inv-loop μ-loop
 add-k c = omega (arith, c .before .before .loop-test .taken)
@@ -45,7 +45,7 @@ loop-again : tie.Need-loop-again Inv-loop μ-loop
 loop-again c =
     let t = c .before .before in
     ⊎-elim
-    (λ w. rw (w .1) (marking-hit _ _ _ (t .before .loop .inv) (t .loop-test .taken) (start t .pre .1 .0 .numbers-held .few) (sym (asked (c .before)) ∙ w .0 .taken)))
+    (λ w. rw (w .1) (marking-hit _ _ _ (t .before .loop .inv) (t .loop-test .taken) (start t .pre .0 .numbers-held .few) (sym (asked (c .before)) ∙ w .0 .taken)))
     (λ w. rw (w .1) (marking-miss _ _ _ (t .before .loop .inv) (t .loop-test .taken) (sym (asked (c .before)) ∙ w .0 .left)))
     (c .if1 .came)
 
