@@ -1,3 +1,3 @@
 pub mod OneRow
 pub mod Faults
-pub mod Misplaced
+pub mod WrongNumber

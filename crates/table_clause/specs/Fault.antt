@@ -14,8 +14,8 @@ use Rattle.table_list.specs.Listed.{has-number}
 use Rattle.table_clause.specs.Clause.{misnaming-row, leaves-out, unlisted-column}
 
 -- a name of the SEQUENCE type of row r has this number, and it is no column's of r: it is 0, or that of another definition
-unfoldable pub is-misplaced : List Meaning → ℕ → ℕ → Bool
-is-misplaced ms r number =
+unfoldable pub is-wrong-number : List Meaning → ℕ → ℕ → Bool
+is-wrong-number ms r number =
     any (has-number ms number) (columns-of ms r .from) (columns-of ms r .to)
     && not (not (eqb number 0) && is-column-of ms (number - 1) r)
 
@@ -33,7 +33,7 @@ pub record LeftOutMarked (ms : List Meaning) (before faults : List ℕ) (c r : �
   pub long : length faults ≡ most-definitions
   pub entry : (k : ℕ) → k < c → eqb (getD faults k 0) 1 ≡ (leaves-out ms k r || eqb (getD before k 0) 1)
 
--- those at fault by any row
+-- those at fault by any row: what the two clauses say
 pub record FaultTable (ms : List Meaning) (faults : List ℕ) (c : ℕ) : Type 0 where
   pub long : length faults ≡ most-definitions
   pub entry : (k : ℕ) → k < c → eqb (getD faults k 0) 1 ≡ (misnaming-row ms k || unlisted-column ms k)

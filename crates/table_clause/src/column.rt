@@ -7,7 +7,7 @@ ghost use Rattle.conceptual_table.specs.Member.{columns-of};
 ghost use Rattle.conceptual_table.specs.Held.{ObjectTable, TypeTable};
 ghost use Rattle.table_list.specs.Listed.{NamesMarked};
 ghost use Rattle.table_clause.specs.Clause.{repeating-row, misnaming-row, leaves-out};
-ghost use Rattle.table_clause.specs.Fault.{is-misplaced};
+ghost use Rattle.table_clause.specs.Fault.{is-wrong-number};
 use conceptual_table::columns_of;
 use conceptual_table::is_column_of;
 use conceptual_table::is_row;
@@ -58,7 +58,7 @@ pub fn is_repeating_row(
 }
 
 // Whether a name of the SEQUENCE type of row r has this number, and it is no column's of r. Its names are marked.
-fn is_misplaced(
+fn is_wrong_number(
     text: &[u8],
     c: usize,
     fields: &[usize; 8192],
@@ -73,7 +73,7 @@ fn is_misplaced(
     requires row { ⌜ r .0 < c ⌝ }
     requires marks { ⌜ NamesMarked (meanings-in (now text)) (columns-of (meanings-in (now text)) (r .0)) (now marks) c ⌝ }
     requires number { ⌜ number ≤ c ⌝ }
-    ensures { λ a. ⌜ a ≡ is-misplaced (meanings-in (now (text .entry))) (r .0) number ⌝ }
+    ensures { λ a. ⌜ a ≡ is-wrong-number (meanings-in (now (text .entry))) (r .0) number ⌝ }
 {
     if marks[number] != NAMED {
         return false;
@@ -114,7 +114,7 @@ pub fn is_misnaming_row(
     }
     let mut number = 0;
     while number <= c {
-        if is_misplaced(text, c, fields, classed, firsts, numbers, marks, r, number) {
+        if is_wrong_number(text, c, fields, classed, firsts, numbers, marks, r, number) {
             return true;
         }
         number += 1;

@@ -55,7 +55,9 @@ module _ (ms : List Meaning) (c from to : ℕ) where
   module _ {marks : List ℕ} {i : ℕ} (marking : MarkingNames ms c from to marks i) (h : i < to) where
     -- what is to come, by what token i says
     come : (number : ℕ) → number ≤ c → {b : Bool} → has-number ms number i ≡ b → (eqb (getD marks number 0) 1 || (b || any (has-number ms number) (i + 1) to)) ≡ any (has-number ms number) from to
-    come number l e = ap (λ (b : Bool). eqb (getD marks number 0) 1 || b) (sym (any-step (has-number ms number) i to h ∙ ap (λ (b : Bool). b || any (has-number ms number) (i + 1) to) e)) ∙ marking .entry number l
+    come number l e =
+        let here = any-step (has-number ms number) i to h ∙ ap (λ (b : Bool). b || any (has-number ms number) (i + 1) to) e in
+        ap (λ (b : Bool). eqb (getD marks number 0) 1 || b) (sym here) ∙ marking .entry number l
 
     -- no name marks nothing
     pub names-miss : is-name (classes-of ms) i ≡ false → MarkingNames ms c from to marks (i + 1)

@@ -1,4 +1,4 @@
--- `is_misnaming_row` is right by the law of loops that ask: a number is misplaced where a name is wrong.
+-- `is_misnaming_row` is right by the law of loops that ask: a number is wrong where a name is.
 -- Assumes nothing.
 use mathlib.Core.Path.{_≡_, refl, sym, _∙_}
 use Prim.Native.Nat.{_+_, _-_}
@@ -8,13 +8,13 @@ use Rattle.conceptual_table.specs.Member.{is-row}
 use Rattle.conceptual_table.proofs.Asking.{Asking, asking-miss, asking-hit, asking-end}
 use Rattle.conceptual_table.proofs.Chain.{and-refused, and-passed}
 use Rattle.table_clause.specs.Clause.{misnaming-row}
-use Rattle.table_clause.specs.Fault.{is-misplaced}
-use Rattle.table_clause.proofs.Misplaced.{misnaming-asked}
+use Rattle.table_clause.specs.Fault.{is-wrong-number}
+use Rattle.table_clause.proofs.WrongNumber.{misnaming-asked}
 use Rattle.table_clause.proofs.column.is_misnaming_row.Statement.{statement}
 use Rattle.table_clause.proofs.column.is_misnaming_row.Tie as tie
 
 abbrev Inv-loop : tie.InvT-loop
-Inv-loop text c fields classed firsts numbers marks r number₀ number = Asking (is-misplaced (meanings-in text) (r .0)) 0 (c + 1) number
+Inv-loop text c fields classed firsts numbers marks r number₀ number = Asking (is-wrong-number (meanings-in text) (r .0)) 0 (c + 1) number
 
 abbrev μ-loop : tie.MeasureT-loop
 μ-loop text c fields classed firsts numbers marks r number₀ number = c + 1 - number
@@ -28,8 +28,8 @@ row t = t .before .before
 abbrev start : tie.In-loop Inv-loop μ-loop → tie.Start Inv-loop μ-loop
 start t = row t .before .before .before .before
 
-asked : (h : tie.After-is-misplaced Inv-loop μ-loop) → (let t = h .before in h .is-misplaced .result ≡ is-misplaced (meanings-in (start t .args .text .now)) (start t .args .r .0) (t .before .loop .number))
-asked h = h .is-misplaced .ensures
+asked : (h : tie.After-is-wrong-number Inv-loop μ-loop) → (let t = h .before in h .is-wrong-number .result ≡ is-wrong-number (meanings-in (start t .args .text .now)) (start t .args .r .0) (t .before .loop .number))
+asked h = h .is-wrong-number .ensures
 
 is-row-requires : tie.Need-is-row-requires Inv-loop μ-loop
 is-row-requires c κs = let s = c .before .before in (s .pre .0, s .pre .1 .0)
@@ -41,8 +41,8 @@ returns c = and-refused (row-asked (c .before)) _ (c .if1 .taken)
 loop-holds : tie.Need-loop-holds Inv-loop μ-loop
 loop-holds c = refl
 
-is-misplaced-requires : tie.Need-is-misplaced-requires Inv-loop μ-loop
-is-misplaced-requires c κs = let s = start c in (s .pre .0, (s .pre .1 .0, (s .pre .1 .1, c .loop-test .taken)))
+is-wrong-number-requires : tie.Need-is-wrong-number-requires Inv-loop μ-loop
+is-wrong-number-requires c κs = let s = start c in (s .pre .0, (s .pre .1 .0, (s .pre .1 .1, c .loop-test .taken)))
 
 returns-2 : tie.Need-returns-2 Inv-loop μ-loop
 unfolding misnaming-row
@@ -81,7 +81,7 @@ is-misnaming-row-spec =
     is-row-requires
     returns
     loop-holds
-    is-misplaced-requires
+    is-wrong-number-requires
     returns-2
     add-number
     loop-less

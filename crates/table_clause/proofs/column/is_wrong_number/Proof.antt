@@ -1,4 +1,4 @@
--- `is_misplaced` is right because the marks have the numbers of the names.
+-- `is_wrong_number` is right because the marks have the numbers of the names.
 -- Assumes nothing.
 use mathlib.Core.Path.{_≡_, ap}
 use mathlib.Core.Bool.{not}
@@ -11,9 +11,9 @@ use Rattle.token.specs.Cut.{meanings-in}
 use Rattle.conceptual_table.specs.Member.{columns-of}
 use Rattle.conceptual_table.proofs.Chain.{and-failed, and-held}
 use Rattle.table_list.specs.Listed.{has-number}
-use Rattle.table_clause.specs.Fault.{is-misplaced}
-use Rattle.table_clause.proofs.column.is_misplaced.Statement.{statement}
-use Rattle.table_clause.proofs.column.is_misplaced.Tie as tie
+use Rattle.table_clause.specs.Fault.{is-wrong-number}
+use Rattle.table_clause.proofs.column.is_wrong_number.Statement.{statement}
+use Rattle.table_clause.proofs.column.is_wrong_number.Tie as tie
 
 -- what the marks say of the number
 marked : (s : tie.Start)
@@ -27,11 +27,11 @@ element-copy-out-if1 c =
     omega (arith, s .pre .1 .1 .1, s .pre .0 .numbers-held .few)
 
 returns : tie.Need-returns
-unfolding is-misplaced
+unfolding is-wrong-number
 returns c = and-failed (marked (c .before .before .before .before)) _ (ne-eqb _ _ (c .if1 .taken))
 
 returns-2 : tie.Need-returns-2
-unfolding is-misplaced
+unfolding is-wrong-number
 returns-2 c =
     let named = c .before in
     and-held (marked (named .before .before .before .before)) (eq-eqb _ _ (named .if1 .left)) (rw (eq-eqb _ _ (c .if2 .taken)))
@@ -45,15 +45,15 @@ is-column-of-requires c κs =
     (s .pre .0, (omega (arith, c .if2 .left, s .pre .1 .1 .1), s .pre .1 .0))
 
 returns-3 : tie.Need-returns-3
-unfolding is-misplaced
+unfolding is-wrong-number
 returns-3 c =
     let some = c .before in
     let named = some .before in
     and-held (marked (named .before .before .before .before)) (eq-eqb _ _ (named .if1 .left))
     (rw (ne-eqb _ _ (some .if2 .left)) (ap not (c .is-column-of .ensures)))
 
-pub is-misplaced-spec : {M : Type 1} → statement M
-is-misplaced-spec =
+pub is-wrong-number-spec : {M : Type 1} → statement M
+is-wrong-number-spec =
     tie.close
     (tie.spec
     element-copy-out-if1
