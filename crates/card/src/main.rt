@@ -15,6 +15,8 @@ use card_line::write_record;
 use command::Content;
 use libc::STDOUT_FILENO;
 use reader::Answer;
+use reader::NUMBER_WORDS;
+use reader::RECORD_WORDS;
 
 // Once the output holds so many bytes it is written out. Behind them there is room for what comes next, which is a line at most.
 const FULL: usize = 8192;
@@ -95,8 +97,8 @@ fn print_card(text: &[u8], out: &mut [u8], at: usize) -> usize
     requires inside { ⌜ at ≤ output-size ⌝ }
     ensures { λ r. ⌜ r ≤ output-size ⌝ }
 {
-    let mut records = [0u32; 5120];
-    let mut numbers = [0u32; 8192];
+    let mut records = [0u32; RECORD_WORDS];
+    let mut numbers = [0u32; NUMBER_WORDS];
     let answer = reader::read(text, &mut records, &mut numbers);
     let start = make_room(out, at);
     let next = write_head(answer, out, start);

@@ -17,7 +17,7 @@ use index::TokenIndex;
 const IMPORTS_START: usize = 5;
 
 // The most definitions that a module may have.
-const MOST_DEFINITIONS: usize = 512;
+pub const MOST_DEFINITIONS: usize = 512;
 
 // The definitions collected: so many, or the name of the first that is too many.
 pub enum Collected {

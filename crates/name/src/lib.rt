@@ -3,6 +3,7 @@ mod collect;
 mod lookup;
 
 pub use collect::Collected;
+pub use collect::MOST_DEFINITIONS;
 pub use collect::collect_definitions;
 pub use collect::collect_imports;
 pub use collect::imports_end;

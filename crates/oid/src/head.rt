@@ -13,10 +13,8 @@ use definition::class_at;
 use index::RecordIndex;
 use index::TokenIndex;
 use name::Lead;
+use name::MOST_DEFINITIONS;
 use name::leads_to;
-
-// The most definitions that a module may have.
-const MOST_DEFINITIONS: usize = 512;
 
 // The words of the table of heads: for a name that leads nowhere, for `iso`, and the first for a definition and for a symbol.
 const NOTHING: usize = 0;

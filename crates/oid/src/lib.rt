@@ -8,5 +8,6 @@ pub use head::collect_heads;
 pub use head::head_at;
 pub use length::measure;
 pub use reach::judge_reached;
+pub use room::MOST_NUMBERS;
 pub use room::judge_long;
 pub use room::judge_room;

@@ -11,7 +11,7 @@ use index::TokenIndex;
 // The most numbers that an OID may have, and all OIDs together.
 const LONGEST_OID: usize = 128;
 
-const MOST_NUMBERS: usize = 8192;
+pub const MOST_NUMBERS: usize = 8192;
 
 // The first definition whose OID has over 128 numbers.
 pub fn judge_long(

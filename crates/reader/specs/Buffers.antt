@@ -3,14 +3,16 @@
 use mathlib.Core.Path.{_≡_}
 use mathlib.Core.Logic.{_⊎_}
 use mathlib.Core.List.{List, [], _++_}
-use Prim.Native.Nat.{ℕ, _-_, _≤_, _<_}
+use Prim.Native.Nat.{ℕ, _-_, _*_, _≤_, _<_}
 use lib.ListN.{length, drop, replicate}
 use Rattle.token.specs.Table.{longest-text, overlaid}
 use Rattle.index.specs.declared.Judgement.{Judgement}
 use Rattle.index.specs.declared.Judgement.the-variants as judgement
 use Rattle.token.specs.Token.{Tok, meanings}
 use Rattle.oid.specs.Oid.{count-of as definitions-in}
-use Rattle.record.specs.Record.{start-of, records-before}
+use Rattle.name.specs.Collect.{most-definitions}
+use Rattle.oid.specs.Refusal.{most-numbers}
+use Rattle.record.specs.Record.{record-width, start-of, records-before}
 use Rattle.syntax.specs.Parsing.{Parses}
 use Rattle.syntax.specs.declared.Answer.{Answer as Parsing}
 use Rattle.syntax.specs.declared.Answer.the-variants.{Derived, Underived, Uncut}
@@ -31,12 +33,13 @@ abbrev pub count-of : Answer → ℕ
 count-of (Accepted count) = count
 count-of (Refused number place) = 0
 
--- the working parts of the record buffer and of the number buffer
+-- the working parts, in words: of the record buffer, a record for each of the most definitions, 5,120; of the number buffer, the most
+-- numbers that all OIDs may have, 8,192
 abbrev pub record-words : ℕ
-record-words = 5120
+record-words = most-definitions * record-width
 
 abbrev pub number-words : ℕ
-number-words = 8192
+number-words = most-numbers
 
 -- so many zeros
 abbrev pub zeros : ℕ → List ℕ

@@ -10,13 +10,16 @@ mod shape;
 
 use index::Place;
 use module::read_derived;
+use name::MOST_DEFINITIONS;
+use oid::MOST_NUMBERS;
+use record::WIDTH;
 use syntax::Answer as Parsing;
 use syntax::parse;
 
 // How many words the working parts of the record buffer and of the number buffer have.
-const RECORD_WORDS: usize = 5120;
+pub const RECORD_WORDS: usize = MOST_DEFINITIONS * WIDTH;
 
-const NUMBER_WORDS: usize = 8192;
+pub const NUMBER_WORDS: usize = MOST_NUMBERS;
 
 // The most bytes that a text may have.
 const LONGEST_TEXT: usize = 65536;

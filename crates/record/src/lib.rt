@@ -114,7 +114,7 @@ fn record_of(
     firsts: &[usize; 513],
     classed: &[u8; 512],
     k: usize,
-) -> [u32; 10]
+) -> [u32; WIDTH]
     requires module { ⌜ ModuleTable (now text) (now classes) (now starts) (now ends) n (now imported) m (now defined) c (now fields) ⌝ }
     requires runs { ⌜ RunTable (meanings-in (now text)) (now firsts) c ⌝ }
     requires classes { ⌜ ClassTable (meanings-in (now text)) (now classed) c ⌝ }
@@ -155,7 +155,7 @@ fn record_of(
 }
 
 // Writes the words of a record to the start of what is left of the record buffer, and answers how many they are.
-fn write_record(records: &mut [u32], words: [u32; 10]) -> usize
+fn write_record(records: &mut [u32], words: [u32; WIDTH]) -> usize
     requires width { ⌜ length words ≡ record-width ⌝ }
     requires room { ⌜ record-width ≤ length (now records) ⌝ }
     ensures { λ r. ⌜ Written words r (now (records .entry)) (now (records .exit)) ⌝ }
