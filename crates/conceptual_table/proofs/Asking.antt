@@ -1,14 +1,14 @@
 -- The loop that asks whether a test holds at some index from a on, below b, and is at i: nothing passed has a hit. It needs no order of
--- a and b, as `Searched` of the crate `index` does.
+-- a and b, as `Searched` of the crate `index` does. And what is asked, one index at a time.
 -- Assumes nothing.
 use mathlib.Core.Path.{_≡_, sym, _∙_}
-use mathlib.Core.Bool.{Bool, true, false}
+use mathlib.Core.Bool.{Bool, true, false, _||_}
 use Prim.Native.Nat.{ℕ, _+_, _≤_, _<_}
 use native.Mathlib.Numerals.{add-one}
 use native.Mathlib.Omega.{arith}
 use borrow.Author.Tests.{lt-ltb, le-ltb}
 use Rattle.index.specs.First.{first, any}
-use Rattle.index.proofs.Search.{first-hit, first-miss, first-none}
+use Rattle.index.proofs.Search.{answers, first-hit, first-miss, first-none}
 
 module _ (test : ℕ → Bool) (a b i : ℕ) where
   abbrev pub Asking : Type 0
@@ -34,3 +34,16 @@ module _ (test : ℕ → Bool) (a b i : ℕ) where
     pub asking-end : b ≤ i → false ≡ any test a b
     unfolding any
     asking-end h = sym (le-ltb (first test a b) b (omega (arith, none-asked h)))
+
+-- the test at the first index, and the search after it
+pub any-step : (test : ℕ → Bool) (a b : ℕ) → a < b → any test a b ≡ (test a || any test (a + 1) b)
+unfolding any
+any-step test a b h =
+    answers (test a)
+    (λ e. rw e (lt-ltb (first test a b) b (omega (arith, first-hit test a b h e))))
+    (λ e. rw (e, add-one a, first-miss test a b h e))
+
+-- a search of nothing finds nothing
+pub any-empty : (test : ℕ → Bool) (a b : ℕ) → b ≤ a → any test a b ≡ false
+unfolding any
+any-empty test a b h = le-ltb (first test a b) b (omega (arith, first-none test a b h))

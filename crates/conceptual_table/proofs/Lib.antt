@@ -4,3 +4,4 @@ pub mod Objects
 pub mod Filled
 pub mod Types
 pub mod Rows
+pub mod Adding

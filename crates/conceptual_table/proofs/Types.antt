@@ -56,7 +56,7 @@ module _ (ms : List Meaning) where
   number-few (Definition r) inside = omega arith
   number-few Nothing inside = omega arith
 
-  at-few : (i : ℕ) → number-at ms i ≤ count-of ms
+  pub at-few : (i : ℕ) → number-at ms i ≤ count-of ms
   unfolding number-at
   at-few i = go (ltb i (length ms))
     where

@@ -31,6 +31,11 @@ pub record TypeTable (ms : List Meaning) (types : List ℕ) (c : ℕ) : Type 0 w
 abbrev pub row-of : List Meaning → ℕ → ℕ
 row-of ms k = first (is-column-of ms k) 0 (count-of ms)
 
+-- the same among the definitions from r on, for each of the c definitions
+pub record RowsFrom (ms : List Meaning) (rows : List ℕ) (c r : ℕ) : Type 0 where
+  pub long : length rows ≡ most-definitions
+  pub entry : (k : ℕ) → k < c → getD rows k 0 ≡ first (is-column-of ms k) r c
+
 -- the rows of the first c definitions
 pub record RowTable (ms : List Meaning) (rows : List ℕ) (c : ℕ) : Type 0 where
   pub long : length rows ≡ most-definitions

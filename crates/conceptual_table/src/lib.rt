@@ -16,3 +16,4 @@ pub use member::is_row;
 pub use member::is_table;
 pub use row::collect_rows;
 pub use sequence::collect_types;
+pub use sequence::number_at;

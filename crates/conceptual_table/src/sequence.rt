@@ -44,7 +44,7 @@ fn type_token(syntax: Syntax, none: usize) -> usize
 }
 
 // The number of the definition that the name at token i leads to; 0 where the text ends before it.
-fn number_at(
+pub fn number_at(
     text: &[u8],
     classes: &[u8; 65536],
     starts: &[u32; 65536],

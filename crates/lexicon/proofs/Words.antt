@@ -10,7 +10,7 @@ use native.Mathlib.Numerals.{add-one}
 use native.Mathlib.Omega.{arith}
 use lib.Dec.{T, eqb, eqb→eq, ltb, ltb→lt}
 use lib.ListN.{length, getD, take, drop, length-append, length-drop}
-use lib.Seq.{drop-cons, take-append-seam, drop-append-seam, drop-append-add, getD-take, length-take-le}
+use lib.Seq.{take-suc, getD-drop, take-append-seam, drop-append-seam, drop-append-add, getD-take, length-take-le}
 use borrow.Author.Tests.{eq-eqb, ne-eqb, eqb-true}
 use Rattle.terminal.specs.Terminal.{terminals, first-word, word-count}
 use Rattle.lexicon.specs.Word.{words, word-table, word-classes, word, bytes, same, place-in, joined, start-of}
@@ -156,32 +156,53 @@ same-length xs ys h = go (same xs ys) refl
     go true e = absurd (h (ap length (same-equal xs ys e)))
     go false e = e
 
--- of the n bytes of a list from i on, what follows the first k; and its first byte
-abbrev pub part-after : List ℕ → ℕ → ℕ → ℕ → List ℕ
-part-after l i n k = take (n - k) (drop (i + k) l)
+never : (b : Bool) → (b && false) ≡ false
+never true = refl
+never false = refl
 
-pub part-cons : (l : List ℕ) (i n k : ℕ) → i + n ≤ length l → k < n
-    → part-after l i n k ≡ getD l (i + k) 0 ∷ part-after l i n (k + 1)
-part-cons l i n k h q =
-    let a : n - k ≡ suc (n - (k + 1)) = omega arith in
-    let b : suc (i + k) ≡ i + (k + 1) = omega arith in
-    rw (a, drop-cons l (i + k) 0 (omega arith), b)
+both : (p q r : Bool) → (p && (q && r)) ≡ (q && (p && r))
+both true true r = refl
+both true false r = refl
+both false true r = refl
+both false false r = refl
 
--- the loop that compares: one more byte, an end, a difference
-module _ (a b : List ℕ) (i j n k : ℕ) (ha : i + n ≤ length a) (hb : j + n ≤ length b) where
-  pub same-more : k < n → getD a (i + k) 0 ≡ getD b (j + k) 0
-      → same (part-after a i n k) (part-after b j n k) ≡ same (part-after a i n (k + 1)) (part-after b j n (k + 1))
+-- those with a last byte each are the same where the last bytes are, and the bytes before them
+pub same-last : (a b : List ℕ) (x y : ℕ) → same (a ++ (x ∷ [])) (b ++ (y ∷ [])) ≡ (eqb x y && same a b)
+unfolding same
+same-last [] [] x y = refl
+same-last [] (v ∷ []) x y = never (eqb x v) ∙ sym (never (eqb x y))
+same-last [] (v ∷ w ∷ b) x y = never (eqb x v) ∙ sym (never (eqb x y))
+same-last (u ∷ []) [] x y = never (eqb u y) ∙ sym (never (eqb x y))
+same-last (u ∷ v ∷ a) [] x y = never (eqb u y) ∙ sym (never (eqb x y))
+same-last (u ∷ a) (v ∷ b) x y = ap (λ (t : Bool). eqb u v && t) (same-last a b x y) ∙ both (eqb u v) (eqb x y) (same a b)
+
+-- a part of a list is what stands before its last byte, and that byte
+pub part-last : (l : List ℕ) (i n last : ℕ) → n ≡ suc last → i + n ≤ length l → take n (drop i l) ≡ take last (drop i l) ++ (getD l (i + last) 0 ∷ [])
+part-last l i n last e h = rw (e, take-suc (drop i l) last 0 (omega (arith, length-drop i l)), getD-drop)
+
+-- the loop that compares two parts from their last bytes to the first: those passed are equal, so that what is left decides
+abbrev pub Comparing : (a b : List ℕ) (i j n k : ℕ) → Type 0
+Comparing a b i j n k = (k ≤ n) × (same (take n (drop i a)) (take n (drop j b)) ≡ same (take k (drop i a)) (take k (drop j b)))
+
+module _ (a b : List ℕ) (i j n k : ℕ) (ha : i + n ≤ length a) (hb : j + n ≤ length b) (c : Comparing a b i j n k) where
+  module _ (h : 0 < k) where
+    by-last : same (take k (drop i a)) (take k (drop j b))
+        ≡ (eqb (getD a (i + (k - 1)) 0) (getD b (j + (k - 1)) 0) && same (take (k - 1) (drop i a)) (take (k - 1) (drop j b)))
+    by-last =
+        let last : k ≡ suc (k - 1) = omega arith in
+        let short : k ≤ n = c .0 in
+        rw (part-last a i k (k - 1) last (omega arith), part-last b j k (k - 1) last (omega arith))
+        (same-last (take (k - 1) (drop i a)) (take (k - 1) (drop j b)) _ _)
+
+    pub last-agrees : getD a (i + (k - 1)) 0 ≡ getD b (j + (k - 1)) 0 → Comparing a b i j n (k - 1)
+    last-agrees e = (omega (arith, c .0), c .1 ∙ by-last ∙ simp (eq-eqb _ _ e))
+
+    pub last-differs : (getD a (i + (k - 1)) 0 ≡ getD b (j + (k - 1)) 0 → ⊥) → false ≡ same (take n (drop i a)) (take n (drop j b))
+    last-differs e = sym (c .1 ∙ by-last ∙ simp (ne-eqb _ _ e))
+
+  pub all-agree : k ≤ 0 → true ≡ same (take n (drop i a)) (take n (drop j b))
   unfolding same
-  same-more h e = rw (part-cons a i n k ha h, part-cons b j n k hb h) (simp (eq-eqb _ _ e))
-
-  pub same-stops : k < n → (getD a (i + k) 0 ≡ getD b (j + k) 0 → ⊥)
-      → same (part-after a i n k) (part-after b j n k) ≡ false
-  unfolding same
-  same-stops h e = rw (part-cons a i n k ha h, part-cons b j n k hb h) (simp (ne-eqb _ _ e))
-
-  pub same-ends : n ≤ k → same (part-after a i n k) (part-after b j n k) ≡ true
-  unfolding same
-  same-ends h = let z : n - k ≡ 0 = omega arith in rw z
+  all-agree h = let none : k ≡ 0 = omega arith in sym (c .1 ∙ rw none)
 
 -- where they stand among the joined spellings
 module _ (ws : List (List ℕ)) where

@@ -38,17 +38,17 @@ fn spelling_start(starts: &[u16; WORDS + 1], k: usize) -> usize
     wide_u16(starts[k])
 }
 
-// Whether n bytes of a, from its place i on, are those of b from its place j on.
+// Whether n bytes of a, from its place i on, are those of b from its place j on. The names of one module mostly begin alike, so the
+// last bytes are looked at first.
 fn same_part(a: &[u8], i: usize, b: &[u8], j: usize, n: usize) -> bool
     requires in_a { ⌜ i + n ≤ length (now a) ⌝ }
     requires in_b { ⌜ j + n ≤ length (now b) ⌝ }
     ensures { λ r. ⌜ r ≡ same (take n (drop i (now (a .entry)))) (take n (drop j (now (b .entry)))) ⌝ }
 {
-    let mut k = 0;
-    while k < n {
-        if a[i + k] == b[j + k] {
-            k += 1;
-        } else {
+    let mut k = n;
+    while 0 < k {
+        k -= 1;
+        if a[i + k] != b[j + k] {
             return false;
         }
     }

@@ -1,7 +1,7 @@
 -- Refusal 15, test by test.
 -- Assumes nothing.
-use mathlib.Core.Path.{_≡_, sym, ap, _∙_}
-use mathlib.Core.Bool.{Bool, true, false}
+use mathlib.Core.Path.{_≡_, refl, sym, ap, _∙_}
+use mathlib.Core.Bool.{Bool, true, false, _&&_}
 use mathlib.Core.List.{List}
 use Prim.Native.Nat.{ℕ, _≤_, _<_}
 use native.Mathlib.Omega.{arith}
@@ -21,6 +21,15 @@ pub searched-none : (test : ℕ → Bool) (a b i : ℕ) → Searched test a b i 
 unfolding any
 searched-none test a b i s h = sym (le-ltb (first test a b) b (omega (arith, searched-end test a b i s h)))
 
+-- a test joined with one that is told
+and-false : (b : Bool) → (b && false) ≡ false
+and-false true = refl
+and-false false = refl
+
+and-true : (b : Bool) → (b && true) ≡ b
+and-true true = refl
+and-true false = refl
+
 module _ (ms : List Meaning) where
   -- what the code tested of a kind
   pub holder-said : (fields : List ℕ) → FieldTable (classes-of ms) fields (count-of ms) → (k : ℕ) → k < count-of ms
@@ -29,13 +38,13 @@ module _ (ms : List Meaning) where
 
   -- definition j holds the OID of definition k
   module _ (k j : ℕ) where
-    pub holds-not : is-holder (kind-of ms j) ≡ false → false ≡ holds-oid ms k j
+    pub holds-other : same (oid-of ms j) (oid-of ms k) ≡ false → false ≡ holds-oid ms k j
     unfolding holds-oid
-    holds-not e = rw e
+    holds-other e = rw e (sym (and-false (is-holder (kind-of ms j))))
 
-    pub holds-same : is-holder (kind-of ms j) ≡ true → same (oid-of ms j) (oid-of ms k) ≡ holds-oid ms k j
+    pub holds-same : same (oid-of ms j) (oid-of ms k) ≡ true → is-holder (kind-of ms j) ≡ holds-oid ms k j
     unfolding holds-oid
-    holds-same e = rw e
+    holds-same e = rw e (sym (and-true (is-holder (kind-of ms j))))
 
   -- definition k breaks the rule
   module _ (k : ℕ) where

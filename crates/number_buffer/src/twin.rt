@@ -28,7 +28,7 @@ fn is_holder(kind: usize) -> bool
             || (kind == kind::OBJECT as usize || kind == kind::NOTIFICATION as usize))
 }
 
-// Whether definition j holds the OID of definition k.
+// Whether definition j holds the OID of definition k. Most OIDs differ, so they are looked at before the kind.
 fn holds_oid(
     text: &[u8],
     fields: &[usize; 8192],
@@ -43,10 +43,10 @@ fn holds_oid(
     requires earlier { ⌜ j .0 < count-of (meanings-in (now text)) ⌝ }
     ensures { λ r. ⌜ r ≡ holds-oid (meanings-in (now (text .entry))) (k .0) (j .0) ⌝ }
 {
-    if !is_holder(field_table::kind(fields, j)) {
+    if !same_oid(firsts, numbers, j, k) {
         return false;
     }
-    same_oid(firsts, numbers, j, k)
+    is_holder(field_table::kind(fields, j))
 }
 
 // Whether some definition before definition k holds its OID.

@@ -1,4 +1,4 @@
--- The laws of runs of numbers: the tests of `specs/Run.antt` as equations, and how the last numbers decide them.
+-- The laws of runs of numbers: the tests of `specs/Run.antt` as equations, and how lengths and last numbers decide them.
 -- Assumes nothing.
 use mathlib.Core.Path.{_≡_, refl, sym, ap, _∙_}
 use mathlib.Core.Bool.{Bool, true, false, not, _&&_}
@@ -7,10 +7,10 @@ use Prim.Native.Nat.{ℕ, suc, _+_, _≤_, _<_}
 use native.Mathlib.Omega.{arith}
 use lib.Dec.{eqb}
 use lib.ListN.{length, getD, drop, length-append, length-drop}
-use lib.Seq.{take-suc, getD-take, getD-drop, length-take-le}
+use lib.Seq.{getD-take, getD-drop, length-take-le}
 use borrow.Author.Tests.{eq-eqb, ne-eqb, eqb-true, eqb-false, not-true, not-false}
 use Rattle.lexicon.specs.Word.{same}
-use Rattle.lexicon.proofs.Words.{same-equal, same-refl, same-length}
+use Rattle.lexicon.proofs.Words.{same-equal, same-refl, same-length, same-last, part-last}
 use Rattle.number_list.specs.Run.{run, is-below, is-below-by}
 
 -- ---- what the tests say: as for `same`, of which the crate `lexicon` has `same-equal` and `same-refl`
@@ -40,28 +40,6 @@ equal-below a b number e =
     let there : getD b (length a) 0 ≡ number = ap (λ (l : List ℕ). getD l (length a) 0) e ∙ after-all a number in
     rw there (equal-below-by number a b e)
 
--- ---- lists with a last number each
-
-never : (b : Bool) → (b && false) ≡ false
-never true = refl
-never false = refl
-
-both : (p q r : Bool) → (p && (q && r)) ≡ (q && (p && r))
-both true true r = refl
-both true false r = refl
-both false true r = refl
-both false false r = refl
-
--- they are the same where the last numbers are, and the numbers before them
-same-last : (a b : List ℕ) (x y : ℕ) → same (a ++ (x ∷ [])) (b ++ (y ∷ [])) ≡ (eqb x y && same a b)
-unfolding same
-same-last [] [] x y = refl
-same-last [] (v ∷ []) x y = never (eqb x v) ∙ sym (never (eqb x y))
-same-last [] (v ∷ w ∷ b) x y = never (eqb x v) ∙ sym (never (eqb x y))
-same-last (u ∷ []) [] x y = never (eqb u y) ∙ sym (never (eqb x y))
-same-last (u ∷ v ∷ a) [] x y = never (eqb u y) ∙ sym (never (eqb x y))
-same-last (u ∷ a) (v ∷ b) x y = ap (λ (t : Bool). eqb u v && t) (same-last a b x y) ∙ both (eqb u v) (eqb x y) (same a b)
-
 -- ---- runs
 
 module _ (numbers : List ℕ) (from count : ℕ) (h : from + count ≤ length numbers) where
@@ -70,25 +48,6 @@ module _ (numbers : List ℕ) (from count : ℕ) (h : from + count ≤ length nu
 
   pub run-number : (k : ℕ) → k < count → getD (run numbers from count) k 0 ≡ getD numbers (from + k) 0
   run-number k l = rw (getD-take, getD-drop)
-
-  -- a run is what stands before its last number, and that number
-  pub run-last : (last : ℕ) → count ≡ suc last → run numbers from count ≡ run numbers from last ++ (getD numbers (from + last) 0 ∷ [])
-  run-last last e =
-      rw (e, take-suc (drop from numbers) last 0 (omega (arith, length-drop from numbers)), getD-drop)
-
--- two runs of as many numbers
-module _ (numbers : List ℕ) (i j n last : ℕ) (some : n ≡ suc last) (h : i + n ≤ length numbers) (l : j + n ≤ length numbers) where
-  by-last : same (run numbers i n) (run numbers j n)
-      ≡ (eqb (getD numbers (i + last) 0) (getD numbers (j + last) 0) && same (run numbers i last) (run numbers j last))
-  by-last = rw (run-last numbers i n h last some, run-last numbers j n l last some) (same-last (run numbers i last) (run numbers j last) _ _)
-
-  -- other last numbers: they differ
-  pub last-differs : (getD numbers (i + last) 0 ≡ getD numbers (j + last) 0 → ⊥) → same (run numbers i n) (run numbers j n) ≡ false
-  last-differs e = by-last ∙ simp (ne-eqb _ _ e)
-
-  -- one last number: what stands before it decides
-  pub last-agrees : getD numbers (i + last) 0 ≡ getD numbers (j + last) 0 → same (run numbers i n) (run numbers j n) ≡ same (run numbers i last) (run numbers j last)
-  last-agrees e = by-last ∙ simp (eq-eqb _ _ e)
 
 -- what the test that a count is one more than another says
 module _ (m n : ℕ) {r : Bool} (is : r ≡ eqb n (m + 1)) where
@@ -119,7 +78,7 @@ module _ (numbers : List ℕ) (i m j n : ℕ) (h : i + m ≤ length numbers) (l 
   module _ (longer : n ≡ suc m) where
     by-number : (number : ℕ) → is-below-by number (run numbers i m) (run numbers j n) ≡ (eqb number (getD numbers (j + m) 0) && same (run numbers i m) (run numbers j m))
     unfolding is-below-by
-    by-number number = rw (run-last numbers j n l m longer) (same-last (run numbers i m) (run numbers j m) number _)
+    by-number number = rw (part-last numbers j n m longer l) (same-last (run numbers i m) (run numbers j m) number _)
 
     pub other-number : (number : ℕ) → (getD numbers (j + m) 0 ≡ number → ⊥) → is-below-by number (run numbers i m) (run numbers j n) ≡ false
     other-number number e = by-number number ∙ simp (ne-eqb number (getD numbers (j + m) 0) (λ q. e (sym q)))

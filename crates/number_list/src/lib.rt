@@ -14,41 +14,22 @@ pub struct Run {
     pub count: usize,
 }
 
-// Whether n numbers from a on are those from b on, looked at from the left.
-fn agree_from_left(numbers: &[u32], a: NumberIndex, b: NumberIndex, n: usize) -> bool
-    requires in_a { ⌜ a .0 + n ≤ length (now numbers) ⌝ }
-    requires in_b { ⌜ b .0 + n ≤ length (now numbers) ⌝ }
-    ensures { λ r. ⌜ r ≡ same (run (now (numbers .entry)) (a .0) n) (run (now (numbers .entry)) (b .0) n) ⌝ }
-{
-    let i = a.0;
-    let j = b.0;
-    let mut k = 0;
-    while k < n {
-        if numbers[i + k] == numbers[j + k] {
-            k += 1;
-        } else {
-            return false;
-        }
-    }
-    true
-}
-
-// Whether n numbers from a on are those from b on, the last ones looked at first.
+// Whether n numbers from a on are those from b on, looked at from the last to the first.
 fn agree(numbers: &[u32], a: NumberIndex, b: NumberIndex, n: usize) -> bool
     requires in_a { ⌜ a .0 + n ≤ length (now numbers) ⌝ }
     requires in_b { ⌜ b .0 + n ≤ length (now numbers) ⌝ }
     ensures { λ r. ⌜ r ≡ same (run (now (numbers .entry)) (a .0) n) (run (now (numbers .entry)) (b .0) n) ⌝ }
 {
-    if n == 0 {
-        return true;
-    }
     let i = a.0;
     let j = b.0;
-    let last = n - 1;
-    if numbers[i + last] != numbers[j + last] {
-        return false;
+    let mut k = n;
+    while 0 < k {
+        k -= 1;
+        if numbers[i + k] != numbers[j + k] {
+            return false;
+        }
     }
-    agree_from_left(numbers, a, b, last)
+    true
 }
 
 // Whether two runs are the same, number by number.

@@ -1,1 +1,3 @@
 pub mod OneRow
+pub mod Faults
+pub mod WrongNumber

@@ -1,19 +1,22 @@
 -- The names of a list, by what they lead to: what each is wanted to be, and whether a definition is among them.
 -- Assumes nothing.
+use mathlib.Core.Path.{_≡_}
 use mathlib.Core.Bool.{Bool, false, not, _&&_}
 use mathlib.Core.List.{List}
-use Prim.Native.Nat.{ℕ, _<_}
+use Prim.Native.Nat.{ℕ, suc, _≤_, _<_}
 use lib.Dec.{eqb}
+use lib.ListN.{length, getD}
 use Rattle.index.specs.First.{any}
 use Rattle.lexicon.specs.Word.{same}
 use Rattle.token.specs.Token.{Meaning}
 use Rattle.definition.specs.Members.{is-name}
 use Rattle.definition.specs.declared.Span.{Span}
 use Rattle.name.specs.Import.{classes-of, spelled}
+use Rattle.name.specs.Collect.{most-definitions}
 use Rattle.name.specs.declared.Lead.{Lead}
 use Rattle.name.specs.declared.Lead.the-variants.{Iso, Import, Definition, Nothing}
 use Rattle.syntax_class.specs.Class.{lead-of}
-use Rattle.conceptual_table.specs.Member.{is-row, is-column-of, access-of, has-index, not-accessible}
+use Rattle.conceptual_table.specs.Member.{is-row, number-at, is-column-of, access-of, has-index, not-accessible}
 use Rattle.table_list.specs.declared.Wanted.{Wanted}
 use Rattle.table_list.specs.declared.Wanted.the-variants.{ColumnOf, IndexedRow, Visible}
 
@@ -52,6 +55,15 @@ is-name-of ms k i = is-name (classes-of ms) i && leads-there k (lead-of ms i)
 -- a list lists definition k: some name of it leads there
 unfoldable pub lists : List Meaning → Span → ℕ → Bool
 lists ms s k = any (is-name-of ms k) (s .from) (s .to)
+
+-- token i is a name of this number: that of the definition that it leads to, counted from 1; 0 where it leads to none
+unfoldable pub has-number : List Meaning → ℕ → ℕ → Bool
+has-number ms number i = is-name (classes-of ms) i && eqb (number-at ms i) number
+
+-- the numbers that the names of a list have, marked with 1: of 0, and of the c definitions
+pub record NamesMarked (ms : List Meaning) (list : Span) (marks : List ℕ) (c : ℕ) : Type 0 where
+  pub long : length marks ≡ suc most-definitions
+  pub entry : (number : ℕ) → number ≤ c → eqb (getD marks number 0) 1 ≡ any (has-number ms number) (list .from) (list .to)
 
 -- token j is a name, spelled as token i
 unfoldable pub is-same-name : List Meaning → ℕ → ℕ → Bool

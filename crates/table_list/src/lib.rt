@@ -1,12 +1,13 @@
-// The names of a list, by what they lead to: whether each is what is wanted there, whether a definition is among them, and whether
-// they differ.
+// The names of a list, by what they lead to: whether each is what is wanted there, which definitions are among them, and whether they
+// differ.
 mod listing;
 mod name_at;
 mod repeated;
 mod unwanted;
 
 use index::RecordIndex;
-pub use listing::lists;
+pub use listing::NAMED;
+pub use listing::mark_names;
 pub use repeated::repeats;
 pub use unwanted::some_unwanted;
 

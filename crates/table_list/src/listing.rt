@@ -1,101 +1,22 @@
-// Whether a definition is among the names of a list.
+// The definitions that a list names, marked by their numbers: each name is looked up once, and then a mark tells whether the list has
+// a definition.
 ghost use mathlib.Core.Path.{_≡_};
-ghost use Prim.Native.Nat.{_<_};
+ghost use Prim.Native.Nat.{ℕ, suc, _≤_};
+ghost use lib.ListN.{length, getD};
 ghost use Rattle.token.specs.Cut.{meanings-in};
+ghost use Rattle.name.specs.Collect.{most-definitions};
 ghost use Rattle.field_table.specs.Table.{ModuleTable};
-ghost use Rattle.table_list.specs.Listed.{leads-there, is-name-of, lists};
+ghost use Rattle.table_list.specs.Listed.{NamesMarked};
 use crate::name_at::is_name;
+use conceptual_table::number_at;
 use definition::Span;
-use index::RecordIndex;
-use index::TokenIndex;
-use name::Lead;
-use name::leads_to;
-use token::entry::same_name;
 
-// Whether a name leads to definition k.
-fn leads_there(lead: Lead, k: RecordIndex) -> bool
-    ensures { λ r. ⌜ r ≡ leads-there (k .0) lead ⌝ }
-{
-    match lead {
-        Lead::Iso => false,
-        Lead::Import(_) => false,
-        Lead::Definition(d) => d.0 == k.0,
-        Lead::Nothing => false,
-    }
-}
+// The mark of a number that some name of the list has; any other has 0.
+pub const NAMED: u8 = 1;
 
-// The token that an entry of the list of definitions stands for.
-fn token_of(entry: u32) -> TokenIndex
-    ensures { λ r. ⌜ r .0 ≡ entry ⌝ }
-{
-    TokenIndex(entry as usize)
-}
-
-// Whether token i is a name that leads to definition k. One that is spelled otherwise doesn't, and needs no look-up.
-fn is_name_of(
-    text: &[u8],
-    classes: &[u8; 65536],
-    starts: &[u32; 65536],
-    ends: &[u32; 65536],
-    n: usize,
-    imported: &[u32; 65536],
-    m: usize,
-    defined: &[u32; 512],
-    c: usize,
-    fields: &[usize; 8192],
-    k: RecordIndex,
-    i: usize,
-) -> bool
-    requires module { ⌜ ModuleTable (now text) (now classes) (now starts) (now ends) n (now imported) m (now defined) c (now fields) ⌝ }
-    requires index { ⌜ k .0 < c ⌝ }
-    ensures { λ r. ⌜ r ≡ is-name-of (meanings-in (now (text .entry))) (k .0) i ⌝ }
-{
-    if !is_name(
-        text,
-        classes,
-        starts,
-        ends,
-        n,
-        imported,
-        m,
-        defined,
-        c,
-        fields,
-        i,
-    ) {
-        return false;
-    }
-    let at = k.0;
-    if !same_name(
-        text,
-        classes,
-        starts,
-        ends,
-        n,
-        token_of(defined[at]),
-        TokenIndex(i),
-    ) {
-        return false;
-    }
-    leads_there(
-        leads_to(
-            text,
-            classes,
-            starts,
-            ends,
-            n,
-            imported,
-            m,
-            defined,
-            c,
-            TokenIndex(i),
-        ),
-        k,
-    )
-}
-
-// Whether some name of a list leads to definition k.
-pub fn lists(
+// Marks the numbers of the definitions that the names of a list lead to, in an array of zeros. A name that leads to none has the
+// number 0.
+pub fn mark_names(
     text: &[u8],
     classes: &[u8; 65536],
     starts: &[u32; 65536],
@@ -107,16 +28,17 @@ pub fn lists(
     c: usize,
     fields: &[usize; 8192],
     list: Span,
-    k: RecordIndex,
-) -> bool
+    marks: &mut [u8; 513],
+)
     requires module { ⌜ ModuleTable (now text) (now classes) (now starts) (now ends) n (now imported) m (now defined) c (now fields) ⌝ }
-    requires index { ⌜ k .0 < c ⌝ }
-    ensures { λ r. ⌜ r ≡ lists (meanings-in (now (text .entry))) list (k .0) ⌝ }
+    requires room { ⌜ length (now marks) ≡ suc most-definitions ⌝ }
+    requires clear { ⌜ ((number : ℕ) → number ≤ c → getD (now marks) number 0 ≡ 0) ⌝ }
+    ensures { λ _. ⌜ NamesMarked (meanings-in (now (text .entry))) list (now (marks .exit)) c ⌝ }
 {
     let to = list.to;
     let mut i = list.from;
     while i < to {
-        if is_name_of(
+        if is_name(
             text,
             classes,
             starts,
@@ -127,12 +49,23 @@ pub fn lists(
             defined,
             c,
             fields,
-            k,
             i,
         ) {
-            return true;
+            let number = number_at(
+                text,
+                classes,
+                starts,
+                ends,
+                n,
+                imported,
+                m,
+                defined,
+                c,
+                fields,
+                i,
+            );
+            marks[number] = NAMED;
         }
         i += 1;
     }
-    false
 }

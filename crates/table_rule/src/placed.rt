@@ -5,22 +5,25 @@ ghost use Rattle.index.specs.Rule.{judge-one};
 ghost use Rattle.token.specs.Cut.{meanings-in};
 ghost use Rattle.field_table.specs.Table.{ModuleTable};
 ghost use Rattle.conceptual_table.specs.Held.{ObjectTable, TypeTable};
+ghost use Rattle.table_clause.specs.Fault.{FaultTable};
 ghost use Rattle.table_rule.specs.Refusal.{has-wrong-row, has-wrong-names, table-broken};
 use conceptual_table::is_object;
 use index::Judgement;
 use index::RecordIndex;
 use index::TokenIndex;
+use table_clause::collect_faults;
 use table_clause::has_unfounded_augments;
 use table_clause::is_indexed_object;
-use table_clause::is_misnaming_row;
 use table_clause::is_repeating_row;
 use table_clause::is_rowless_table;
 use table_clause::is_stray_row;
 use table_clause::is_unindexed_row;
-use table_clause::is_unlisted_column;
 
 // The number of the refusal.
 const TABLE_BROKEN: u8 = 20;
+
+// The mark of a definition that is at fault by the names of a SEQUENCE type.
+const AT_FAULT: u8 = 1;
 
 // Whether definition k is at fault by a clause on tables, rows and their INDEX.
 fn has_wrong_row(
@@ -66,11 +69,13 @@ fn has_wrong_names(
     firsts: &[usize; 513],
     numbers: &[u32],
     types: &[usize; 512],
+    faults: &[u8; 512],
     k: RecordIndex,
 ) -> bool
     requires module { ⌜ ModuleTable (now text) (now classes) (now starts) (now ends) n (now imported) m (now defined) c (now fields) ⌝ }
     requires objects { ⌜ ObjectTable (meanings-in (now text)) c (now fields) (now classed) (now firsts) (now numbers) ⌝ }
     requires types { ⌜ TypeTable (meanings-in (now text)) (now types) c ⌝ }
+    requires faults { ⌜ FaultTable (meanings-in (now text)) (now faults) c ⌝ }
     requires index { ⌜ k .0 < c ⌝ }
     ensures { λ r. ⌜ r ≡ has-wrong-names (meanings-in (now (text .entry))) (k .0) ⌝ }
 {
@@ -93,42 +98,8 @@ fn has_wrong_names(
     ) {
         return true;
     }
-    if is_misnaming_row(
-        text,
-        classes,
-        starts,
-        ends,
-        n,
-        imported,
-        m,
-        defined,
-        c,
-        fields,
-        classed,
-        firsts,
-        numbers,
-        types,
-        k,
-    ) {
-        return true;
-    }
-    if is_unlisted_column(
-        text,
-        classes,
-        starts,
-        ends,
-        n,
-        imported,
-        m,
-        defined,
-        c,
-        fields,
-        classed,
-        firsts,
-        numbers,
-        types,
-        k,
-    ) {
+    let at = k.0;
+    if faults[at] == AT_FAULT {
         return true;
     }
     has_unfounded_augments(
@@ -165,11 +136,13 @@ fn is_at_fault(
     firsts: &[usize; 513],
     numbers: &[u32],
     types: &[usize; 512],
+    faults: &[u8; 512],
     k: RecordIndex,
 ) -> bool
     requires module { ⌜ ModuleTable (now text) (now classes) (now starts) (now ends) n (now imported) m (now defined) c (now fields) ⌝ }
     requires objects { ⌜ ObjectTable (meanings-in (now text)) c (now fields) (now classed) (now firsts) (now numbers) ⌝ }
     requires types { ⌜ TypeTable (meanings-in (now text)) (now types) c ⌝ }
+    requires faults { ⌜ FaultTable (meanings-in (now text)) (now faults) c ⌝ }
     requires index { ⌜ k .0 < c ⌝ }
     ensures { λ r. ⌜ r ≡ table-broken (meanings-in (now (text .entry))) .breach (k .0) ⌝ }
 {
@@ -194,6 +167,7 @@ fn is_at_fault(
         firsts,
         numbers,
         types,
+        faults,
         k,
     )
 }
@@ -220,6 +194,24 @@ pub fn judge_rows(
     requires types { ⌜ TypeTable (meanings-in (now text)) (now types) c ⌝ }
     ensures { λ r. ⌜ r ≡ judge-one (table-broken (meanings-in (now (text .entry)))) ⌝ }
 {
+    let mut faults = [0u8; 512];
+    collect_faults(
+        text,
+        classes,
+        starts,
+        ends,
+        n,
+        imported,
+        m,
+        defined,
+        c,
+        fields,
+        classed,
+        firsts,
+        numbers,
+        types,
+        &mut faults,
+    );
     let mut k = 0;
     while k < c {
         if is_at_fault(
@@ -237,6 +229,7 @@ pub fn judge_rows(
             firsts,
             numbers,
             types,
+            &faults,
             RecordIndex(k),
         ) {
             return Judgement::Broken(TABLE_BROKEN, TokenIndex(defined[k] as usize));

@@ -1,69 +1,79 @@
--- `agree` is right because runs with other last numbers differ, and with one last number what stands before it decides.
+-- `agree` is right because the numbers passed are equal, so that what is left decides.
 -- Assumes nothing.
-use mathlib.Core.Path.{_≡_, sym}
-use Prim.Native.Nat.{suc, _-_}
+use mathlib.Core.Path.{refl}
 use native.Mathlib.Omega.{arith}
-use borrow.Author.Needs.{needs}
-use Rattle.lexicon.specs.Word.{same}
-use Rattle.number_list.proofs.Runs.{last-differs, last-agrees}
+use Rattle.lexicon.proofs.Words.{Comparing, last-agrees, last-differs, all-agree}
 use Rattle.number_list.proofs.agree.Statement.{statement}
 use Rattle.number_list.proofs.agree.Tie as tie
 
-returns : tie.Need-returns
-unfolding same
-returns c = search needs
+abbrev Inv-loop : tie.InvT-loop
+Inv-loop numbers n i j k₀ k = Comparing numbers numbers i j n k
 
-sub-last : tie.Need-sub-last
-sub-last c = search needs
+abbrev μ-loop : tie.MeasureT-loop
+μ-loop numbers n i j k₀ k = k
 
-add-if2 : tie.Need-add-if2
-add-if2 c = search needs
+loop-holds : tie.Need-loop-holds Inv-loop μ-loop
+loop-holds c = (omega arith, refl)
 
-mul-if2 : tie.Need-mul-if2
-mul-if2 c = search needs
+sub-k : tie.Need-sub-k Inv-loop μ-loop
+sub-k c = omega arith
 
-shared-slice-read-if2 : tie.Need-shared-slice-read-if2
-shared-slice-read-if2 c = search needs
+add-if1 : tie.Need-add-if1 Inv-loop μ-loop
+add-if1 c = omega arith
 
-add-if2-2 : tie.Need-add-if2-2
-add-if2-2 c = search needs
+mul-if1 : tie.Need-mul-if1 Inv-loop μ-loop
+mul-if1 c = omega arith
 
-mul-if2-2 : tie.Need-mul-if2-2
-mul-if2-2 c = search needs
+shared-slice-read-if1 : tie.Need-shared-slice-read-if1 Inv-loop μ-loop
+shared-slice-read-if1 c = omega arith
 
-shared-slice-read-if2-2 : tie.Need-shared-slice-read-if2-2
-shared-slice-read-if2-2 c = search needs
+add-if1-2 : tie.Need-add-if1-2 Inv-loop μ-loop
+add-if1-2 c = omega arith
 
-returns-2 : tie.Need-returns-2
+mul-if1-2 : tie.Need-mul-if1-2 Inv-loop μ-loop
+mul-if1-2 c = omega arith
+
+shared-slice-read-if1-2 : tie.Need-shared-slice-read-if1-2 Inv-loop μ-loop
+shared-slice-read-if1-2 c = omega arith
+
+returns : tie.Need-returns Inv-loop μ-loop
+returns c =
+    let turn = c .before .before .before in
+    let l = turn .before in
+    let s = l .before in
+    last-differs _ _ _ _ _ _ (s .pre .0) (s .pre .1) (l .loop .inv) (turn .loop-test .taken) (c .if1 .taken)
+
+loop-less : tie.Need-loop-less Inv-loop μ-loop
+loop-less c = omega arith
+
+loop-again : tie.Need-loop-again Inv-loop μ-loop
+loop-again c =
+    let turn = c .before .before .before in
+    let l = turn .before in
+    let s = l .before in
+    last-agrees _ _ _ _ _ _ (s .pre .0) (s .pre .1) (l .loop .inv) (turn .loop-test .taken) (c .if1 .left)
+
+returns-2 : tie.Need-returns-2 Inv-loop μ-loop
 returns-2 c =
-    let some = c .before .before .before in
-    let s = some .before .before in
-    let more : s .args .n ≡ suc (s .args .n - 1) = omega arith in
-    sym (last-differs _ _ _ _ _ more (s .pre .0) (s .pre .1) (c .if2 .taken))
-
-agree-from-left-requires : tie.Need-agree-from-left-requires
-agree-from-left-requires c κs = search needs
-
-returns-3 : tie.Need-returns-3
-returns-3 c =
-    let alike = c .before in
-    let some = alike .before .before .before in
-    let s = some .before .before in
-    let more : s .args .n ≡ suc (s .args .n - 1) = omega arith in
-    rw (last-agrees _ _ _ _ _ more (s .pre .0) (s .pre .1) (alike .if2 .left)) (c .agree-from-left .ensures)
+    let l = c .before in
+    let s = l .before in
+    all-agree _ _ _ _ _ _ (s .pre .0) (s .pre .1) (l .loop .inv) (c .loop-test .left)
 
 pub agree-spec : {M : Type 1} → statement M
 agree-spec =
     tie.close
     (tie.spec
+    Inv-loop
+    μ-loop
+    loop-holds
+    sub-k
+    add-if1
+    mul-if1
+    shared-slice-read-if1
+    add-if1-2
+    mul-if1-2
+    shared-slice-read-if1-2
     returns
-    sub-last
-    add-if2
-    mul-if2
-    shared-slice-read-if2
-    add-if2-2
-    mul-if2-2
-    shared-slice-read-if2-2
-    returns-2
-    agree-from-left-requires
-    returns-3)
+    loop-less
+    loop-again
+    returns-2)

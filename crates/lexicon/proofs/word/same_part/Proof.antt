@@ -1,25 +1,22 @@
 -- `same_part` is right because the bytes passed are equal, so that what is left decides.
 -- Assumes nothing.
-use mathlib.Core.Path.{_≡_, sym, _∙_}
-use Prim.Native.Nat.{_-_, _≤_}
-use native.Mathlib.Nat.{add-zero, sub-zero}
+use mathlib.Core.Path.{refl}
 use native.Mathlib.Omega.{arith}
-use lib.ListN.{take, drop}
-use Rattle.lexicon.specs.Word.{same}
-use Rattle.lexicon.proofs.Words.{part-after, same-more, same-stops, same-ends}
+use Rattle.lexicon.proofs.Words.{Comparing, last-agrees, last-differs, all-agree}
 use Rattle.lexicon.proofs.word.same_part.Statement.{statement}
 use Rattle.lexicon.proofs.word.same_part.Tie as tie
 
 abbrev Inv-loop : tie.InvT-loop
-Inv-loop a i b j n k₀ k =
-    (k ≤ n)
-    × (same (take n (drop i a)) (take n (drop j b)) ≡ same (part-after a i n k) (part-after b j n k))
+Inv-loop a i b j n k₀ k = Comparing a b i j n k
 
 abbrev μ-loop : tie.MeasureT-loop
-μ-loop a i b j n k₀ k = n - k
+μ-loop a i b j n k₀ k = k
 
 loop-holds : tie.Need-loop-holds Inv-loop μ-loop
-loop-holds c = (omega arith, simp (add-zero, sub-zero))
+loop-holds c = (omega arith, refl)
+
+sub-k : tie.Need-sub-k Inv-loop μ-loop
+sub-k c = omega arith
 
 add-if1 : tie.Need-add-if1 Inv-loop μ-loop
 add-if1 c = omega arith
@@ -33,8 +30,12 @@ add-if1-2 c = omega arith
 shared-slice-read-if1-2 : tie.Need-shared-slice-read-if1-2 Inv-loop μ-loop
 shared-slice-read-if1-2 c = omega arith
 
-add-k : tie.Need-add-k Inv-loop μ-loop
-add-k c = omega arith
+returns : tie.Need-returns Inv-loop μ-loop
+returns c =
+    let turn = c .before .before .before in
+    let l = turn .before in
+    let s = l .before in
+    last-differs _ _ _ _ _ _ (s .pre .0) (s .pre .1) (l .loop .inv) (turn .loop-test .taken) (c .if1 .taken)
 
 loop-less : tie.Need-loop-less Inv-loop μ-loop
 loop-less c = omega arith
@@ -44,20 +45,13 @@ loop-again c =
     let turn = c .before .before .before in
     let l = turn .before in
     let s = l .before in
-    (omega arith, l .loop .inv .1 ∙ same-more _ _ _ _ _ _ (s .pre .0) (s .pre .1) (turn .loop-test .taken) (c .if1 .taken))
-
-returns : tie.Need-returns Inv-loop μ-loop
-returns c =
-    let turn = c .before .before .before in
-    let l = turn .before in
-    let s = l .before in
-    sym (l .loop .inv .1 ∙ same-stops _ _ _ _ _ _ (s .pre .0) (s .pre .1) (turn .loop-test .taken) (c .if1 .left))
+    last-agrees _ _ _ _ _ _ (s .pre .0) (s .pre .1) (l .loop .inv) (turn .loop-test .taken) (c .if1 .left)
 
 returns-2 : tie.Need-returns-2 Inv-loop μ-loop
 returns-2 c =
     let l = c .before in
     let s = l .before in
-    sym (l .loop .inv .1 ∙ same-ends _ _ _ _ _ _ (s .pre .0) (s .pre .1) (c .loop-test .left))
+    all-agree _ _ _ _ _ _ (s .pre .0) (s .pre .1) (l .loop .inv) (c .loop-test .left)
 
 pub same-part-spec : {M : Type 1} → statement M
 same-part-spec =
@@ -66,12 +60,12 @@ same-part-spec =
     Inv-loop
     μ-loop
     loop-holds
+    sub-k
     add-if1
     shared-slice-read-if1
     add-if1-2
     shared-slice-read-if1-2
-    add-k
+    returns
     loop-less
     loop-again
-    returns
     returns-2)

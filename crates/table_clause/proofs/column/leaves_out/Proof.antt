@@ -1,41 +1,66 @@
--- `leaves_out` is right because what it asks in turn are the parts of its statement.
+-- `leaves_out` is right because the marks have the numbers of the names.
 -- Assumes nothing.
-use mathlib.Core.Path.{_≡_, ap, _∙_}
+use mathlib.Core.Path.{_≡_, refl, sym, _∙_}
+use mathlib.Core.Bool.{Bool, true, false, _&&_}
+use mathlib.Core.List.{List}
+use Prim.Native.Nat.{ℕ, _+_}
+use native.Mathlib.Omega.{arith}
+use borrow.Author.Tests.{eq-eqb, ne-eqb}
+use lib.Dec.{eqb}
+use lib.ListN.{getD}
+use Rattle.token.specs.Token.{Meaning}
 use Rattle.token.specs.Cut.{meanings-in}
-use mathlib.Core.Bool.{not}
-use Rattle.definition.specs.declared.Span.{Span}
-use Rattle.conceptual_table.specs.Member.{is-column-of}
-use Rattle.conceptual_table.proofs.Chain.{and-refused, and-passed}
+use Rattle.conceptual_table.specs.Member.{columns-of, is-column-of}
 use Rattle.table_list.specs.Listed.{lists}
+use Rattle.table_list.proofs.Marks.{listed-numbered}
 use Rattle.table_clause.specs.Clause.{leaves-out}
-use borrow.Author.Needs.{needs}
 use Rattle.table_clause.proofs.column.leaves_out.Statement.{statement}
 use Rattle.table_clause.proofs.column.leaves_out.Tie as tie
 
-column-asked : (c : tie.After-is-column-of) → (let s = c .before .before .before in c .is-column-of .result ≡ is-column-of (meanings-in (s .args .text .now)) (s .args .k .0) (s .args .r .0))
-column-asked c = c .is-column-of .ensures
+-- a column that is listed is not left out, and one that is not listed is
+module _ (ms : List Meaning) (k r : ℕ) where
+  listed : lists ms (columns-of ms r) k ≡ true → false ≡ leaves-out ms k r
+  unfolding leaves-out
+  listed e = rw e (go (is-column-of ms k r))
+    where
+      go : (b : Bool) → false ≡ (b && false)
+      go true = refl
+      go false = refl
 
-is-column-of-requires : tie.Need-is-column-of-requires
-is-column-of-requires c κs = search needs
+  unlisted : lists ms (columns-of ms r) k ≡ false → is-column-of ms k r ≡ leaves-out ms k r
+  unfolding leaves-out
+  unlisted e = rw e (go (is-column-of ms k r))
+    where
+      go : (b : Bool) → b ≡ (b && true)
+      go true = refl
+      go false = refl
+
+-- what the marks say of definition k
+marked : (s : tie.Start)
+    → (let ms = meanings-in (s .args .text .now) in
+    eqb (getD (s .args .marks .now) (s .args .k .0 + 1) 0) 1 ≡ lists ms (columns-of ms (s .args .r .0)) (s .args .k .0))
+marked s =
+    s .pre .1 .1 .1 .entry _ (omega (arith, s .pre .1 .0)) ∙ listed-numbered (meanings-in (s .args .text .now)) _ (s .args .k .0)
+
+add-if1 : tie.Need-add-if1
+add-if1 c = let s = c .before .before in omega (arith, s .pre .1 .0, s .pre .0 .numbers-held .few)
+
+element-copy-out-if1 : tie.Need-element-copy-out-if1
+element-copy-out-if1 c = let s = c .before .before in omega (arith, s .pre .1 .0, s .pre .0 .numbers-held .few)
 
 returns : tie.Need-returns
-unfolding leaves-out
-returns c = and-refused (column-asked (c .before)) _ (c .if1 .taken)
+returns c = listed _ _ _ (sym (marked (c .before .before .before .before)) ∙ eq-eqb _ _ (c .if1 .taken))
 
-columns-of-requires : tie.Need-columns-of-requires
-columns-of-requires c κs = search needs
-
-lists-requires : tie.Need-lists-requires
-lists-requires c κs = search needs
+is-column-of-requires : tie.Need-is-column-of-requires
+is-column-of-requires c κs =
+    let s = c .before .before .before .before in
+    (s .pre .0, (s .pre .1 .0, s .pre .1 .1 .0))
 
 returns-2 : tie.Need-returns-2
-unfolding leaves-out
 returns-2 c =
-    let left = c .before .before in
-    let s = left .before .before .before .before in
-    and-passed (column-asked (left .before)) (left .if1 .left)
-    (ap not (c .lists .ensures ∙ ap (λ (x : Span). lists (meanings-in (s .args .text .now)) x (s .args .k .0)) (c .before .columns-of .ensures)))
+    c .is-column-of .ensures ∙ unlisted _ _ _ (sym (marked (c .before .before .before .before .before)) ∙ ne-eqb _ _ (c .before .if1 .left))
 
 pub leaves-out-spec : {M : Type 1} → statement M
 leaves-out-spec =
-    tie.close (tie.spec is-column-of-requires returns columns-of-requires lists-requires returns-2)
+    tie.close
+    (tie.spec add-if1 element-copy-out-if1 returns is-column-of-requires returns-2)
