@@ -8,7 +8,7 @@ use native.Mathlib.Decide.{decLt, ℕ-discrete}
 use native.Mathlib.Numerals.{add-one}
 use native.Mathlib.Omega.{arith}
 use lib.Dec.{eqb}
-use lib.ListN.{length, getD, set, length-set}
+use lib.ListN.{getD, set, replicate, length-set, length-replicate, getD-replicate}
 use lib.Seq.{getD-set-same, getD-set-other}
 use borrow.Author.Tests.{eq-eqb, ne-eqb, eqb-true}
 use Rattle.index.specs.First.{any}
@@ -79,13 +79,12 @@ none-passed t p k found =
 -- ---- how chains start and grow
 
 -- no entries are chained by zeros
-pub chained-none : (key : ℕ → ℕ) (heads links : List ℕ) → length heads ≡ key-count → length links ≡ most-entries → ((h : ℕ) → getD heads h 0 ≡ 0)
-    → Chained key 0 heads links
+pub chained-none : (key : ℕ → ℕ) → Chained key 0 (replicate key-count 0) (replicate most-entries 0)
 unfolding last-before
-chained-none key heads links p q zeros = record {
-  heads-long = p;
-  links-long = q;
-  head = λ h _. zeros h;
+chained-none key = record {
+  heads-long = length-replicate {A = ℕ} key-count 0;
+  links-long = length-replicate {A = ℕ} most-entries 0;
+  head = λ h l. getD-replicate key-count h 0 0 l;
   link = λ j h. absurd (omega arith);
 }
 

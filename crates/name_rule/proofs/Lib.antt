@@ -1,3 +1,4 @@
+pub mod Keyed
 pub mod Twice
 pub mod Offered
 pub mod Unique
