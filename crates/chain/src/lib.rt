@@ -3,6 +3,14 @@ ghost use mathlib.Core.Path.{_≡_};
 ghost use Prim.Native.Nat.{ℕ, _+_, _<_};
 ghost use lib.ListN.{length};
 ghost use Rattle.chain.specs.Chain.{Chained, key-count, most-entries};
+ghost use Rattle.chain.specs.Key.{key};
+
+// The key of a list of this length with these last three entries.
+pub fn key(size: usize, third: usize, second: usize, last: usize) -> usize
+    ensures { λ r. ⌜ r ≡ key size third second last ⌝ }
+{
+    (last % 256 + 16 * (second % 256) + 37 * (third % 256) + size % 256) % 256
+}
 
 // Chains entry k, of this key, before the others of the key.
 pub fn insert(heads: &mut [usize; 256], links: &mut [usize; 512], k: usize, key: usize)

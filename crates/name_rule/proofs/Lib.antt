@@ -1,4 +1,3 @@
-pub mod Keyed
 pub mod Twice
 pub mod Offered
 pub mod Unique

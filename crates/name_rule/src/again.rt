@@ -4,11 +4,12 @@ ghost use Prim.Native.Nat.{_<_};
 ghost use lib.ListN.{take};
 ghost use Rattle.index.specs.Rule.{judge-one};
 ghost use Rattle.chain.specs.Chain.{Chained};
+ghost use Rattle.chain.specs.Key.{list-key};
 ghost use Rattle.token.specs.Cut.{cut, meanings-in};
 ghost use Rattle.token.specs.Table.{TokenTable};
 ghost use Rattle.name.specs.Import.{spelled};
 ghost use Rattle.name.specs.Collect.{NameTable, TokensIn};
-ghost use Rattle.name_rule.specs.Key.{name-key, key-at};
+ghost use Rattle.name_rule.specs.Key.{key-at};
 ghost use Rattle.name_rule.specs.Refusal.{stands-in, imported-again, defined-again};
 use crate::key::name_key;
 use crate::token_at;
@@ -86,7 +87,7 @@ fn is_named_before(
     requires table { ⌜ TokenTable (now text) (cut (now text) .tokens) (now classes) (now starts) (now ends) n ⌝ }
     requires list { ⌜ TokensIn (now defined) k n ⌝ }
     requires chains { ⌜ Chained (key-at (meanings-in (now text)) (now defined)) k (now heads) (now links) ⌝ }
-    requires key { ⌜ key ≡ name-key (spelled (meanings-in (now text)) (i .0)) ⌝ }
+    requires key { ⌜ key ≡ list-key (spelled (meanings-in (now text)) (i .0)) ⌝ }
     requires index { ⌜ i .0 < n ⌝ }
     ensures { λ r. ⌜ r ≡ stands-in (meanings-in (now (text .entry))) (now (defined .entry)) k (spelled (meanings-in (now (text .entry))) (i .0)) ⌝ }
 {

@@ -1,32 +1,36 @@
 // The key of a name, by which definitions are chained.
 ghost use mathlib.Core.Path.{_≡_};
 ghost use Prim.Native.Nat.{_<_};
+ghost use Rattle.chain.specs.Key.{list-key};
 ghost use Rattle.lexicon.specs.Word.{between, Within};
 ghost use Rattle.token.specs.Cut.{cut, meanings-in};
 ghost use Rattle.token.specs.Table.{TokenTable};
 ghost use Rattle.name.specs.Import.{spelled};
-ghost use Rattle.name_rule.specs.Key.{name-key};
 use index::TokenIndex;
 use token::entry::spelling;
 
 // The same number in a wider type.
 fn wide(byte: u8) -> usize
-    ensures same { λ r. ⌜ r ≡ byte ⌝ }
-    ensures few { λ r. ⌜ r < 256 ⌝ }
+    ensures { λ r. ⌜ r ≡ byte ⌝ }
 {
     byte as usize
 }
 
-// The key of the name from start to end of the text. Names of a module often start alike, so it's made of the end.
+// The key of the name from start to end of the text.
 fn part_key(text: &[u8], start: usize, end: usize) -> usize
     requires { ⌜ Within (now text) start end ⌝ }
-    ensures { λ r. ⌜ r ≡ name-key (between (now (text .entry)) start end) ⌝ }
+    ensures { λ r. ⌜ r ≡ list-key (between (now (text .entry)) start end) ⌝ }
 {
     let size = end - start;
-    if size < 2 {
+    if size < 3 {
         return size;
     }
-    (wide(text[end - 1]) + 8 * wide(text[end - 2]) + size % 256) % 256
+    chain::key(
+        size,
+        wide(text[end - 3]),
+        wide(text[end - 2]),
+        wide(text[end - 1]),
+    )
 }
 
 // The key of the name of token i.
@@ -40,7 +44,7 @@ pub fn name_key(
 ) -> usize
     requires table { ⌜ TokenTable (now text) (cut (now text) .tokens) (now classes) (now starts) (now ends) n ⌝ }
     requires index { ⌜ i .0 < n ⌝ }
-    ensures { λ r. ⌜ r ≡ name-key (spelled (meanings-in (now (text .entry))) (i .0)) ⌝ }
+    ensures { λ r. ⌜ r ≡ list-key (spelled (meanings-in (now (text .entry))) (i .0)) ⌝ }
 {
     let name = spelling(text, classes, starts, ends, n, i);
     part_key(text, name.start, name.end)

@@ -10,7 +10,7 @@ use Rattle.token.specs.Cut.{meanings-in}
 use Rattle.name.specs.Import.{classes-of, spelled}
 use Rattle.name.specs.Collect.{NameTable}
 use Rattle.name.proofs.Names.{names-said, imports-in, definitions-in}
-use Rattle.name_rule.specs.Key.{name-key}
+use Rattle.chain.specs.Key.{list-key}
 use Rattle.name_rule.proofs.Twice.{definition-is-iso, definition-imported, definition-stands, first-tokens}
 use Rattle.name_rule.proofs.again.is_defined_again.Statement.{statement}
 use Rattle.name_rule.proofs.again.is_defined_again.Tie as tie
@@ -65,7 +65,7 @@ is-named-before-requires c κs =
         first-tokens _ _ _ _ (definitions-in _ _ _ _ _ _ (s .pre .0) _ _ _ _ (s .pre .1 .0)) (omega (arith, s .pre .1 .1 .0)),
         (
           s .pre .1 .1 .1 .0,
-          (s .pre .1 .1 .1 .1 ∙ ap (λ (x : ℕ). name-key (spelled (said-by s) x)) (sym (t .token-at .ensures)), inside t),
+          (s .pre .1 .1 .1 .1 ∙ ap (λ (x : ℕ). list-key (spelled (said-by s) x)) (sym (t .token-at .ensures)), inside t),
         ),
       ),
     )

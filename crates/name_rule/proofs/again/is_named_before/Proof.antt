@@ -13,7 +13,9 @@ use Rattle.lexicon.specs.Word.{same}
 use Rattle.token.specs.Cut.{meanings-in}
 use Rattle.name.specs.Import.{spelled}
 use Rattle.name_rule.specs.Key.{key-at}
-use Rattle.name_rule.proofs.Keyed.{key-few, same-key}
+use Rattle.chain.specs.Key.{list-key}
+use Rattle.chain.proofs.Keyed.{key-few}
+use Rattle.lexicon.proofs.Words.{same-equal}
 use Rattle.name_rule.proofs.again.is_named_before.Statement.{statement}
 use Rattle.name_rule.proofs.again.is_named_before.Tie as tie
 
@@ -42,7 +44,7 @@ key-inside s = omega (arith, s .pre .1 .1 .1 .0, key-few (spelled (meanings-in (
 
 -- a definition of the name is of its key
 alike : (s : tie.Start Inv-loop μ-loop) (j : ℕ) → j < s .args .k → tests s j ≡ true → keys s j ≡ s .args .key
-alike s j h e = same-key _ _ e ∙ sym (s .pre .1 .1 .1 .0)
+alike s j h e = ap list-key (same-equal _ _ e) ∙ sym (s .pre .1 .1 .1 .0)
 
 -- the definition that the walk is at
 here : (t : tie.In-loop Inv-loop μ-loop) → t .before .loop .at ≡ suc (t .before .loop .at - 1)
@@ -52,8 +54,11 @@ below : (t : tie.In-loop Inv-loop μ-loop) → t .before .loop .at - 1 < start-o
 below t = omega (arith, t .loop-test .taken, t .before .loop .inv .inside)
 
 -- what was asked of it
-asked : (c : tie.After-same-name Inv-loop μ-loop) → c .same-name .result ≡ tests (start-of (c .before .before .before)) (c .before .before .before .before .loop .at - 1)
-asked c = c .same-name .ensures ∙ ap (λ (x : ℕ). same (spelled (meanings-in (start-of (c .before .before .before) .args .text .now)) x) (spelled (meanings-in (start-of (c .before .before .before) .args .text .now)) (start-of (c .before .before .before) .args .i .0))) (c .before .token-at .ensures)
+abbrev turn-of : tie.After-same-name Inv-loop μ-loop → tie.In-loop Inv-loop μ-loop
+turn-of c = c .before .before .before
+
+asked : (c : tie.After-same-name Inv-loop μ-loop) → c .same-name .result ≡ tests (start-of (turn-of c)) (turn-of c .before .loop .at - 1)
+asked c = rw (← (c .before .token-at .ensures)) (c .same-name .ensures)
 
 mul-at : tie.Need-mul-at Inv-loop μ-loop
 mul-at c = omega (arith, key-inside (c .before))

@@ -13,9 +13,10 @@ use Rattle.token.specs.Token.{Meaning}
 use Rattle.token.specs.Cut.{meanings-in}
 use Rattle.name.specs.Import.{spelled}
 use Rattle.name.proofs.Names.{names-said, definitions-in}
-use Rattle.name_rule.specs.Key.{name-key, key-at}
+use Rattle.chain.specs.Key.{list-key}
+use Rattle.name_rule.specs.Key.{key-at}
 use Rattle.name_rule.specs.Refusal.{defined-again}
-use Rattle.name_rule.proofs.Keyed.{key-few}
+use Rattle.chain.proofs.Keyed.{key-few}
 use Rattle.name_rule.proofs.Judging.{judging-definitions}
 use Rattle.name_rule.proofs.again.judge_definitions.Statement.{statement}
 use Rattle.name_rule.proofs.again.judge_definitions.Tie as tie
@@ -40,7 +41,7 @@ turn-of c = c .before .before .before
 -- it is the key of the turn's definition
 key-is : (c : tie.After-name-key Inv-loop μ-loop)
     → c .name-key .result ≡ key-at (said-by (start-of (turn-of c))) (start-of (turn-of c) .args .defined .now) (turn-of c .before .loop .k)
-key-is c = c .name-key .ensures ∙ ap (λ (i : ℕ). name-key (spelled (said-by (start-of (turn-of c))) i)) (c .before .token-at .ensures)
+key-is c = c .name-key .ensures ∙ ap (λ (i : ℕ). list-key (spelled (said-by (start-of (turn-of c))) i)) (c .before .token-at .ensures)
 
 loop-holds : tie.Need-loop-holds Inv-loop μ-loop
 loop-holds c =

@@ -1,6 +1,9 @@
--- `part_key` is right by the law of the key of a part of a text.
+-- `part_key` is right by the laws of the key of a part of a list.
 -- Assumes nothing.
-use Rattle.name_rule.proofs.Keyed.{short-key, long-key}
+use mathlib.Core.Path.{_∙_}
+use Prim.Native.Nat.{_-_}
+use native.Mathlib.Omega.{arith}
+use Rattle.chain.proofs.Keyed.{short-key, long-key}
 use borrow.Author.Needs.{needs}
 use Rattle.name_rule.proofs.key.part_key.Statement.{statement}
 use Rattle.name_rule.proofs.key.part_key.Tie as tie
@@ -9,7 +12,9 @@ sub-size : tie.Need-sub-size
 sub-size c = search needs
 
 returns : tie.Need-returns
-returns c = let s = c .before .before in short-key _ _ _ (s .pre) (c .if1 .taken)
+returns c =
+    let s = c .before .before in
+    short-key _ (s .args .start) (s .args .end - s .args .start) (omega arith) (c .if1 .taken)
 
 sub-wide : tie.Need-sub-wide
 sub-wide c = search needs
@@ -29,20 +34,26 @@ shared-slice-read-wide-2 c = search needs
 wide-requires-2 : tie.Need-wide-requires-2
 wide-requires-2 c κs = search needs
 
-mul-result : tie.Need-mul-result
-mul-result c = search needs
+sub-wide-3 : tie.Need-sub-wide-3
+sub-wide-3 c = search needs
 
-add-result : tie.Need-add-result
-add-result c = search needs
+shared-slice-read-wide-3 : tie.Need-shared-slice-read-wide-3
+shared-slice-read-wide-3 c = search needs
 
-add-result-2 : tie.Need-add-result-2
-add-result-2 c = search needs
+wide-requires-3 : tie.Need-wide-requires-3
+wide-requires-3 c κs = search needs
+
+key-requires : tie.Need-key-requires
+key-requires c κs = search needs
 
 returns-2 : tie.Need-returns-2
 returns-2 c =
-    let first = c .before .before in
-    let s = first .before .before .before .before in
-    long-key _ _ _ (s .pre) (first .before .before .if1 .left) (c .wide2 .ensures .0) (first .wide .ensures .0)
+    let last = c .before in
+    let second = last .before .before in
+    let third = second .before .before in
+    let s = third .before .before .before .before in
+    c .key .ensures ∙ rw (third .wide .ensures, second .wide2 .ensures, last .wide3 .ensures)
+    (long-key _ (s .args .start) (s .args .end - s .args .start) (omega arith) (third .before .before .if1 .left) (s .args .end) (omega arith))
 
 pub part-key-spec : {M : Type 1} → statement M
 part-key-spec =
@@ -56,7 +67,8 @@ part-key-spec =
     sub-wide-2
     shared-slice-read-wide-2
     wide-requires-2
-    mul-result
-    add-result
-    add-result-2
+    sub-wide-3
+    shared-slice-read-wide-3
+    wide-requires-3
+    key-requires
     returns-2)
