@@ -18,9 +18,9 @@ use Rattle.name.specs.Import.{classes-of, spelled, imports}
 use Rattle.name.specs.Collect.{NameTable, TokensIn}
 use Rattle.name_rule.specs.Refusal.{stands-in, imported-again, defined-again}
 
--- a look-up among the first entries of an array says whether the name stands in the list
+-- a name stands among the first entries of an array where it stands among those of the list that the array holds
 pub stands : (ms : List Meaning) (list array : List ℕ) (m k : ℕ) (s : List ℕ) → Listed list array m → k ≤ m
-    → ltb (first (λ (j : ℕ). same (spelled ms (getD array j 0)) s) 0 k) k ≡ stands-in ms list k s
+    → stands-in ms array k s ≡ stands-in ms list k s
 unfolding any
 stands ms list array m k s l h =
     ap (λ (r : ℕ). ltb r k)
@@ -45,7 +45,7 @@ module _ (ms : List Meaning) {imported : List ℕ} {m : ℕ} {defined : List ℕ
     import-is-iso e = rw (← the-import) (or-true _ _ e)
 
     pub import-stands : same (spelled ms i) iso-name ≡ false → (r : ℕ) → r ≡ first (λ (j : ℕ). same (spelled ms (getD imported j 0)) (spelled ms i)) 0 k → ltb r k ≡ imported-again ms .breach k
-    unfolding imported-again
+    unfolding imported-again any
     import-stands e r q =
         rw (← the-import)
         (or-false _ _ _ e (ap (λ (x : ℕ). ltb x k) q ∙ stands ms (imports (classes-of ms)) imported m k (spelled ms i) (names .import-list) (omega arith)))
@@ -60,6 +60,7 @@ module _ (ms : List Meaning) {imported : List ℕ} {m : ℕ} {defined : List ℕ
     definition-is-iso e = rw (← the-definition) (or-true _ _ e)
 
     in-imports : (r : ℕ) → r ≡ first (λ (j : ℕ). same (spelled ms (getD imported j 0)) (spelled ms i)) 0 m → ltb r m ≡ stands-in ms (imports (classes-of ms)) (length (imports (classes-of ms))) (spelled ms i)
+    unfolding any
     in-imports r q =
         ap (λ (x : ℕ). ltb x m) q
         ∙ stands ms (imports (classes-of ms)) imported m m (spelled ms i) (names .import-list) (omega arith)
@@ -70,13 +71,13 @@ module _ (ms : List Meaning) {imported : List ℕ} {m : ℕ} {defined : List ℕ
     definition-imported e r q l = rw (← the-definition) (or-false _ _ _ e (or-true _ _ (sym (in-imports r q) ∙ lt-ltb r m l)))
 
     pub definition-stands : same (spelled ms i) iso-name ≡ false → (r : ℕ) → r ≡ first (λ (j : ℕ). same (spelled ms (getD imported j 0)) (spelled ms i)) 0 m → m ≤ r
-        → (d : ℕ) → d ≡ first (λ (j : ℕ). same (spelled ms (getD defined j 0)) (spelled ms i)) 0 k → ltb d k ≡ defined-again ms .breach k
+        → (d : Bool) → d ≡ stands-in ms defined k (spelled ms i) → d ≡ defined-again ms .breach k
     unfolding defined-again
     definition-stands e r q l d p =
         rw (← the-definition)
         (or-false _ _ _ e
         (or-false _ _ _ (sym (in-imports r q) ∙ le-ltb r m l)
-        (ap (λ (x : ℕ). ltb x k) p ∙ stands ms (definitions (classes-of ms)) defined c k (spelled ms i) (names .definition-list) (omega arith))))
+        (p ∙ stands ms (definitions (classes-of ms)) defined c k (spelled ms i) (names .definition-list) (omega arith))))
 
 -- the first entries of an array of tokens
 pub first-tokens : (array : List ℕ) (m k n : ℕ) → TokensIn array m n → k ≤ m → TokensIn array k n

@@ -11,6 +11,7 @@ ghost use Rattle.name_rule.specs.Refusal.{names-judged};
 ghost use Rattle.name_rule.specs.Judged.{judgement, refusal-of, count-judged, after-count, Holds};
 
 mod again;
+mod key;
 mod offer;
 mod unknown;
 

@@ -3,23 +3,17 @@
 use mathlib.Core.Path.{_≡_, refl, sym, ap, _∙_}
 use mathlib.Core.Bool.{Bool, true, false, _&&_}
 use mathlib.Core.List.{List}
-use Prim.Native.Nat.{ℕ, _≤_, _<_}
-use native.Mathlib.Omega.{arith}
-use borrow.Author.Tests.{le-ltb}
-use Rattle.index.specs.First.{first, any}
-use Rattle.index.proofs.Search.{Searched, searched-end}
+use Prim.Native.Nat.{ℕ, _<_}
+use Rattle.index.specs.First.{any}
+use Rattle.index.proofs.Search.{true-false}
 use Rattle.lexicon.specs.Word.{same}
+use Rattle.lexicon.proofs.Words.{same-equal}
 use Rattle.token.specs.Token.{Meaning}
 use Rattle.name.specs.Import.{classes-of}
 use Rattle.field_table.specs.Table.{word-in, FieldTable}
 use Rattle.field_table.proofs.Held.{kind-held}
 use Rattle.oid.specs.Oid.{count-of, kind-of, oid-of}
 use Rattle.number_buffer.specs.Refusal.{is-holder, holds-oid, held-twice}
-
--- a search that has come to its end found none
-pub searched-none : (test : ℕ → Bool) (a b i : ℕ) → Searched test a b i → b ≤ i → false ≡ any test a b
-unfolding any
-searched-none test a b i s h = sym (le-ltb (first test a b) b (omega (arith, searched-end test a b i s h)))
 
 -- a test joined with one that is told
 and-false : (b : Bool) → (b && false) ≡ false
@@ -29,6 +23,10 @@ and-false false = refl
 and-true : (b : Bool) → (b && true) ≡ b
 and-true true = refl
 and-true false = refl
+
+and-right : (a b : Bool) → (a && b) ≡ true → b ≡ true
+and-right true b e = e
+and-right false b e = absurd (true-false refl (sym e))
 
 module _ (ms : List Meaning) where
   -- what the code tested of a kind
@@ -45,6 +43,10 @@ module _ (ms : List Meaning) where
     pub holds-same : same (oid-of ms j) (oid-of ms k) ≡ true → is-holder (kind-of ms j) ≡ holds-oid ms k j
     unfolding holds-oid
     holds-same e = rw e (sym (and-true (is-holder (kind-of ms j))))
+
+    pub holds-alike : holds-oid ms k j ≡ true → oid-of ms j ≡ oid-of ms k
+    unfolding holds-oid
+    holds-alike e = same-equal _ _ (and-right (is-holder (kind-of ms j)) _ e)
 
   -- definition k breaks the rule
   module _ (k : ℕ) where

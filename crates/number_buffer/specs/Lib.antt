@@ -1,3 +1,4 @@
 pub mod Writing
 pub mod Held
+pub mod Key
 pub mod Refusal

@@ -1,6 +1,7 @@
 // The number buffer, which holds the sub-identifiers of all definitions: each definition's fill the next free words. And the OIDs
 // that it holds, compared.
 mod built_in;
+mod key;
 mod part;
 mod run;
 mod twin;

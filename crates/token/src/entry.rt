@@ -1,4 +1,5 @@
-// What the layers above read of the token table: a token's value, and whether its name is another's or a given one.
+// What the layers above read of the token table: a token's value, where its name stands, and whether that is another's or a given
+// one.
 ghost use mathlib.Core.Path.{_≡_};
 ghost use Prim.Native.Nat.{_<_};
 ghost use Rattle.lexicon.specs.Word.{same, between, Within};
@@ -64,13 +65,13 @@ pub fn number_value(
 }
 
 // A part of the text, from start up to end.
-struct Part {
-    start: usize,
-    end: usize,
+pub struct Part {
+    pub start: usize,
+    pub end: usize,
 }
 
 // Where the spelling of token i stands in the text. A token that is no name has none, so its part is empty.
-fn spelling(
+pub fn spelling(
     text: &[u8],
     classes: &[u8; 65536],
     starts: &[u32; 65536],

@@ -1,15 +1,16 @@
--- `is_defined_again` is right because its look-ups say whether the name stands among the imports or the definitions before it.
+-- `is_defined_again` is right because its look-up and the walk say whether the name stands among the imports or the definitions before it.
 -- Assumes nothing.
-use mathlib.Core.Path.{sym, _∙_}
+use mathlib.Core.Path.{sym, ap, _∙_}
 use mathlib.Core.List.{List}
-use Prim.Native.Nat.{_<_}
+use Prim.Native.Nat.{ℕ, _<_}
 use native.Mathlib.Omega.{arith}
 use borrow.Author.Needs.{needs}
 use Rattle.token.specs.Token.{Meaning}
 use Rattle.token.specs.Cut.{meanings-in}
-use Rattle.name.specs.Import.{classes-of}
+use Rattle.name.specs.Import.{classes-of, spelled}
 use Rattle.name.specs.Collect.{NameTable}
 use Rattle.name.proofs.Names.{names-said, imports-in, definitions-in}
+use Rattle.chain.specs.Key.{list-key}
 use Rattle.name_rule.proofs.Twice.{definition-is-iso, definition-imported, definition-stands, first-tokens}
 use Rattle.name_rule.proofs.again.is_defined_again.Statement.{statement}
 use Rattle.name_rule.proofs.again.is_defined_again.Tie as tie
@@ -27,7 +28,7 @@ start-of t = t .before .before .before
 inside : (t : tie.After-token-at) → t .token-at .result .0 < start-of t .args .n
 inside t =
     let s = start-of t in
-    omega (arith, t .token-at .ensures, definitions-in _ _ _ _ _ _ (s .pre .0) _ _ _ _ (s .pre .1 .0) .each (s .args .k) (s .pre .1 .1))
+    omega (arith, t .token-at .ensures, definitions-in _ _ _ _ _ _ (s .pre .0) _ _ _ _ (s .pre .1 .0) .each (s .args .k) (s .pre .1 .1 .0))
 
 token-at-requires : tie.Need-token-at-requires
 token-at-requires c κs = search needs
@@ -39,7 +40,7 @@ returns : tie.Need-returns
 returns c =
     let iso = c .before in
     let s = start-of (iso .before) in
-    definition-is-iso (said-by s) (names s) _ (s .pre .1 .1) (iso .before .token-at .ensures) (sym (iso .is-iso .ensures) ∙ c .if1 .taken)
+    definition-is-iso (said-by s) (names s) _ (s .pre .1 .1 .0) (iso .before .token-at .ensures) (sym (iso .is-iso .ensures) ∙ c .if1 .taken)
 
 named-requires : tie.Need-named-requires
 named-requires c κs =
@@ -52,23 +53,31 @@ returns-2 c =
     let other = c .before .before .before in
     let iso = other .before in
     let s = start-of (iso .before) in
-    definition-imported (said-by s) (names s) _ (s .pre .1 .1) (iso .before .token-at .ensures) (sym (iso .is-iso .ensures) ∙ other .if1 .left)
+    definition-imported (said-by s) (names s) _ (s .pre .1 .1 .0) (iso .before .token-at .ensures) (sym (iso .is-iso .ensures) ∙ other .if1 .left)
     _ (c .before .named .ensures) (c .if2 .taken)
 
-named-requires-2 : tie.Need-named-requires-2
-named-requires-2 c κs =
-    let t = c .before .before .before .before .before .before in
-    let s = start-of t in
-    (s .pre .0, (first-tokens _ _ _ _ (definitions-in _ _ _ _ _ _ (s .pre .0) _ _ _ _ (s .pre .1 .0)) (omega (arith, s .pre .1 .1)), inside t))
+is-named-before-requires : tie.Need-is-named-before-requires
+is-named-before-requires c κs =
+    let t = c .before .before .before .before .before in
+    let s = start-of t in (
+      s .pre .0,
+      (
+        first-tokens _ _ _ _ (definitions-in _ _ _ _ _ _ (s .pre .0) _ _ _ _ (s .pre .1 .0)) (omega (arith, s .pre .1 .1 .0)),
+        (
+          s .pre .1 .1 .1 .0,
+          (s .pre .1 .1 .1 .1 ∙ ap (λ (x : ℕ). list-key (spelled (said-by s) x)) (sym (t .token-at .ensures)), inside t),
+        ),
+      ),
+    )
 
 returns-3 : tie.Need-returns-3
 returns-3 c =
-    let found = c .before .before .before in
+    let found = c .before .before in
     let other = found .before .before in
     let iso = other .before in
     let s = start-of (iso .before) in
-    definition-stands (said-by s) (names s) _ (s .pre .1 .1) (iso .before .token-at .ensures) (sym (iso .is-iso .ensures) ∙ other .if1 .left)
-    _ (found .named .ensures) (c .before .before .if2 .left) _ (c .named2 .ensures)
+    definition-stands (said-by s) (names s) _ (s .pre .1 .1 .0) (iso .before .token-at .ensures) (sym (iso .is-iso .ensures) ∙ other .if1 .left)
+    _ (found .named .ensures) (c .before .if2 .left) _ (c .is-named-before .ensures)
 
 pub is-defined-again-spec : {M : Type 1} → statement M
 is-defined-again-spec =
@@ -79,5 +88,5 @@ is-defined-again-spec =
     returns
     named-requires
     returns-2
-    named-requires-2
+    is-named-before-requires
     returns-3)

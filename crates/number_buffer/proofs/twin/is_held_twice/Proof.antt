@@ -24,12 +24,12 @@ said s = meanings-in (s .args .text .now)
 holder-is : (h : tie.After-is-holder) → h .is-holder .result ≡ is-holder (kind-of (said (start h)) (start h .args .k .0))
 holder-is h =
     let s = start h in
-    holder-said (said s) _ (s .pre .0) _ (s .pre .1 .1) (h .before .kind .ensures) (h .is-holder .ensures)
+    holder-said (said s) _ (s .pre .0) _ (s .pre .1 .1 .0) (h .before .kind .ensures) (h .is-holder .ensures)
 
 kind-requires : tie.Need-kind-requires
 kind-requires c κs =
     let s = c .before .before in
-    omega (arith, s .pre .1 .1, s .pre .1 .0 .few)
+    omega (arith, s .pre .1 .1 .0, s .pre .1 .0 .few)
 
 is-holder-requires : tie.Need-is-holder-requires
 is-holder-requires c κs = search needs
