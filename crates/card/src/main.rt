@@ -33,8 +33,7 @@ fn main() {
     let mut at = 0;
     let mut i = 1;
     while i < count {
-        let n = os::arg(i, &mut name);
-        at = print_file(&name[..n], 2 < count, &mut text, &mut out, at);
+        at = print_argument(i, &mut name, 2 < count, &mut text, &mut out, at);
         i += 1;
     }
     write_out(&out, at);
@@ -57,6 +56,29 @@ fn make_room(out: &[u8], at: usize) -> usize
     }
     write_out(out, at);
     0
+}
+
+// The card of the file that argument i names; or says that the name is too long for a file's.
+fn print_argument(
+    i: usize,
+    name: &mut [u8],
+    named: bool,
+    buf: &mut [u8],
+    out: &mut [u8],
+    at: usize,
+) -> usize
+    requires name { ⌜ length (now name) ≤ longest-path ⌝ }
+    requires size { ⌜ length (now out) ≡ output-size ⌝ }
+    requires inside { ⌜ at ≤ output-size ⌝ }
+    ensures { λ r. ⌜ r ≤ output-size ⌝ }
+{
+    let n = os::arg(i, name);
+    if os::errno() != 0 {
+        write_out(out, at);
+        os::fail(name);
+        return 0;
+    }
+    print_file(&name[..n], named, buf, out, at)
 }
 
 // Lays the card of one file into the output, behind a line with its name where it is named; or says why the file cannot be read. The

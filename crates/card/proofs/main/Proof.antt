@@ -41,26 +41,17 @@ buffer-requires c κs = search needs
 loop-holds : tie.Need-loop-holds Inv-loop μ-loop
 loop-holds c = search needs
 
-slice-aggregate-arg : tie.Need-slice-aggregate-arg Inv-loop μ-loop
-slice-aggregate-arg c = search needs
+slice-aggregate-print-argument : tie.Need-slice-aggregate-print-argument Inv-loop μ-loop
+slice-aggregate-print-argument c = search needs
 
-arg-requires : tie.Need-arg-requires Inv-loop μ-loop
-arg-requires c κs = search needs
+slice-aggregate-print-argument-2 : tie.Need-slice-aggregate-print-argument-2 Inv-loop μ-loop
+slice-aggregate-print-argument-2 c = search needs
 
-array-share-prefix-name : tie.Need-array-share-prefix-name Inv-loop μ-loop
-array-share-prefix-name c = search needs
+slice-aggregate-print-argument-3 : tie.Need-slice-aggregate-print-argument-3 Inv-loop μ-loop
+slice-aggregate-print-argument-3 c = search needs
 
-slice-aggregate-print-file : tie.Need-slice-aggregate-print-file Inv-loop μ-loop
-slice-aggregate-print-file c = search needs
-
-slice-aggregate-print-file-2 : tie.Need-slice-aggregate-print-file-2 Inv-loop μ-loop
-slice-aggregate-print-file-2 c = search needs
-
-slice-aggregate-print-file-3 : tie.Need-slice-aggregate-print-file-3 Inv-loop μ-loop
-slice-aggregate-print-file-3 c = search needs
-
-print-file-requires : tie.Need-print-file-requires Inv-loop μ-loop
-print-file-requires c κs = search needs
+print-argument-requires : tie.Need-print-argument-requires Inv-loop μ-loop
+print-argument-requires c κs = search needs
 
 add-i : tie.Need-add-i Inv-loop μ-loop
 add-i c = search needs
@@ -95,13 +86,10 @@ main-spec =
     returns
     buffer-requires
     loop-holds
-    slice-aggregate-arg
-    arg-requires
-    array-share-prefix-name
-    slice-aggregate-print-file
-    slice-aggregate-print-file-2
-    slice-aggregate-print-file-3
-    print-file-requires
+    slice-aggregate-print-argument
+    slice-aggregate-print-argument-2
+    slice-aggregate-print-argument-3
+    print-argument-requires
     add-i
     loop-less
     loop-again
