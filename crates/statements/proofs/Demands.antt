@@ -2,50 +2,50 @@
 -- Assumes nothing.
 use mathlib.Core.Path.{_≡_, refl, sym, ap, _∙_}
 use mathlib.Core.Logic.{_⊎_, ⊎-elim}
+use mathlib.Core.Bool.{true, false}
 use mathlib.Core.List.{List, []}
 use Prim.Native.Nat.{ℕ, _-_, _*_, _≤_, _<_}
 use native.Mathlib.Omega.{arith}
 use lib.ListN.{length, take, drop}
 use Rattle.index.specs.Rule.{judge}
-use Rattle.index.specs.declared.Judgement.{Judgement}
-use Rattle.index.specs.declared.Judgement.the-variants.{Kept, Broken}
+use Rattle.index.specs.declared.Judgement.the-variants.{Kept}
+use Rattle.index.proofs.Judged.{AllKept, judged-kept}
+use Rattle.token.specs.Token.{Meaning}
 use Rattle.token.specs.Cut.{cut, meanings-in}
 use Rattle.syntax.specs.declared.Answer.{Answer as Parsing}
-use Rattle.syntax.specs.declared.Answer.the-variants.{Derived, Underived, Uncut}
-use Rattle.oid.specs.Oid.{first-number}
+use Rattle.definition.specs.Landmark.{has-oid}
+use Rattle.name_rule.specs.Refusal.{name-rules}
+use Rattle.oid.specs.Oid.{first-number, kind-of, oid-of}
+use Rattle.oid.specs.Refusal.{unreached}
+use Rattle.oid.proofs.Unreached.{kept-has-oid, kept-one-oid}
+use Rattle.oid_rule.specs.Rules.{oid-rules}
 use Rattle.oid.specs.Oid.{count-of as definitions-in}
 use Rattle.record.specs.Record.{record-width}
 use Rattle.record.proofs.Words.{before-long}
-use Rattle.reader.specs.Reading.{Outcome, accepted, refused, rules, judged, outcome}
+use Rattle.reader.specs.Reading.{Outcome, accepted, refused, rules, later-rules, judged, outcome}
 use Rattle.reader.specs.Buffers.{number-of, place-of, count-of, record-words, number-words, filled, answer-to, records-in, numbers-in, Left, Reads}
 use Rattle.reader.specs.declared.Answer.{Answer}
 use Rattle.reader.specs.declared.Answer.the-variants.{Accepted, Refused}
+use Rattle.reader.proofs.Kept.{accepted-kept}
 use Rattle.statements.specs.Order.{InOrder, Placed}
 use Rattle.statements.specs.Breach.{WithinLimits, Derives}
-use Rattle.statements.specs.Statements.{FirstDemand, SecondDemand}
+use Rattle.statements.specs.Statements.{OidIs, FirstDemand, SecondDemand}
 use Rattle.statements.proofs.Limits.{Lent, short, long, within, lent}
 use Rattle.statements.proofs.Filled.{filled-beyond, filled-unused}
-use Rattle.statements.proofs.Room.{words-fit}
+use Rattle.statements.proofs.Room.{kept-rest, words-fit}
 use Rattle.statements.proofs.Right.{refused-exactly, accepted-exactly, accepted-is, later-refusal}
+
+-- where all rules are kept, each definition of a kind with an OID has the numbers recorded, and no others
+resolved-of : (ms : List Meaning) → AllKept (rules ms) → (k : ℕ) → k < definitions-in ms → has-oid (kind-of ms k) ≡ true → OidIs ms k (oid-of ms k)
+unfolding rules later-rules oid-rules unreached
+resolved-of ms kept k h has =
+    let reached : unreached ms .breach k ≡ false = kept-rest (name-rules ms) (later-rules ms) kept .0 k (omega arith) h in
+    (kept-has-oid ms k h reached has, kept-one-oid ms k h reached has)
 
 -- after a refusal no word is read
 none-read : (o : Outcome) → 0 < number-of (answer-to o) → (records-in o ≡ []) × (numbers-in o ≡ [])
 none-read (accepted count records numbers) some = absurd (omega arith)
 none-read (refused number place) some = (refl, refl)
-
--- a text is accepted where all rules are kept
-all-kept : (text : List ℕ) (p : Parsing) (count : ℕ) → answer-to (outcome text p) ≡ Accepted count → outcome text p ≡ judged (cut text .tokens) Kept
-all-kept text (Derived n) count e = go (judge (rules (meanings-in text))) refl
-  where
-    go : (j : Judgement) → judge (rules (meanings-in text)) ≡ j → judged (cut text .tokens) (judge (rules (meanings-in text))) ≡ judged (cut text .tokens) Kept
-    go Kept is = ap (judged (cut text .tokens)) is
-    go (Broken number token) is =
-        let same : answer-to (judged (cut text .tokens) (Broken number token)) ≡ Accepted count =
-        sym (ap (λ (j : Judgement). answer-to (judged (cut text .tokens) j)) is) ∙ e in
-        let z : _≡_ {A = ℕ} 0 1 = cc in
-        absurd (omega arith)
-all-kept text (Underived n at) count e = let z : _≡_ {A = ℕ} 0 1 = cc in absurd (omega arith)
-all-kept text (Uncut number at) count e = let z : _≡_ {A = ℕ} 0 1 = cc in absurd (omega arith)
 
 module _ (text : List ℕ) (order : Derives text → InOrder (rules (meanings-in text))) (placed : Placed (length (meanings-in text)) (rules (meanings-in text)))
     (answer : Answer) (records records′ numbers numbers′ : List ℕ) (reads : Reads text answer records records′ numbers numbers′) where
@@ -78,10 +78,13 @@ module _ (text : List ℕ) (order : Derives text → InOrder (rules (meanings-in
 
     -- where it is accepted
     module _ (zero : number-of answer ≡ 0) where
-      found-all : found ≡ judged (cut text .tokens) Kept
-      found-all =
+      all-kept : (judge (rules (meanings-in text)) ≡ Kept) × (found ≡ judged (cut text .tokens) Kept)
+      all-kept =
           let c = accepted-is text order placed answer records records′ numbers numbers′ reads zero in
-          all-kept text parsing (c .0) (sym (left .answered) ∙ c .1)
+          accepted-kept text parsing (c .0) (sym (left .answered) ∙ c .1)
+
+      found-all : found ≡ judged (cut text .tokens) Kept
+      found-all = all-kept .1
 
       all-counted : count-of answer ≡ definitions-in (meanings-in text)
       all-counted = ap count-of (left .answered) ∙ ap (λ (o : Outcome). count-of (answer-to o)) found-all
@@ -155,4 +158,5 @@ module _ (text : List ℕ) (order : Derives text → InOrder (rules (meanings-in
     numbered = λ zero.
         let limits = accepted-within zero in
         left limits .numbers-left ∙ ap (λ (o : Outcome). filled number-words (numbers-in o) numbers) (found-all limits zero);
+    resolved = λ zero k h has. resolved-of (meanings-in text) (judged-kept (rules (meanings-in text)) (all-kept (accepted-within zero) zero .0)) k h has;
   }

@@ -2,21 +2,18 @@
 -- Assumes nothing.
 use mathlib.Core.Path.{_≡_, refl}
 use mathlib.Core.List.{List, [], _∷_, _++_}
-use Prim.Native.Nat.{ℕ, _≤_, _<_}
-use native.Mathlib.Decide.{decLt}
+use Prim.Native.Nat.{ℕ, _≤_}
 use native.Mathlib.Omega.{arith}
 use lib.ListN.{length}
-use borrow.Author.Tests.{leb-false}
 use Rattle.index.specs.Rule.{Rule, judge}
 use Rattle.index.specs.declared.Judgement.{Judgement}
 use Rattle.index.specs.declared.Judgement.the-variants.{Kept, Broken}
-use Rattle.index.proofs.Judged.{NeverBroken, AllKept, judged-kept}
+use Rattle.index.proofs.Judged.{AllKept, judged-kept}
 use Rattle.token.specs.Token.{Meaning}
 use Rattle.token.specs.Cut.{cut, meanings-in}
 use Rattle.syntax.specs.declared.Answer.{Answer as Parsing}
 use Rattle.syntax.specs.declared.Answer.the-variants.{Derived, Underived, Uncut}
-use Rattle.name.specs.Collect.{most-definitions}
-use Rattle.name_rule.specs.Refusal.{too-many, name-rules}
+use Rattle.name_rule.specs.Refusal.{name-rules}
 use Rattle.oid.specs.Oid.{count-of, first-number}
 use Rattle.oid.specs.Refusal.{most-numbers}
 use Rattle.oid_rule.specs.Rules.{oid-rules}
@@ -24,30 +21,17 @@ use Rattle.oid_rule.proofs.Judging.{room-kept}
 use Rattle.record.proofs.Words.{before-long}
 use Rattle.reader.specs.Reading.{rules, later-rules, judged, outcome}
 use Rattle.reader.specs.Buffers.{record-words, number-words, records-in, numbers-in}
+use Rattle.reader.proofs.Kept.{few-definitions}
 
-module _ (ms : List Meaning) where
-  -- where refusal 8 is kept
-  few-definitions : NeverBroken (too-many ms) → count-of ms ≤ most-definitions
-  unfolding too-many
-  few-definitions never = go (decLt most-definitions (count-of ms))
-    where
-      go : Dec (most-definitions < count-of ms) → count-of ms ≤ most-definitions
-      go (yes more) = absurd (omega (arith, leb-false most-definitions most-definitions (never most-definitions (omega arith) more)))
-      go (no e) = omega arith
+-- of rules that are kept, the later ones are
+pub kept-rest : (rs ss : List Rule) → AllKept (rs ++ ss) → AllKept ss
+kept-rest [] ss kept = kept
+kept-rest (r ∷ rs) ss kept = kept-rest rs ss (kept .1)
 
-  -- of rules that are kept, the later ones are
-  kept-rest : (rs ss : List Rule) → AllKept (rs ++ ss) → AllKept ss
-  kept-rest [] ss kept = kept
-  kept-rest (r ∷ rs) ss kept = kept-rest rs ss (kept .1)
-
-  module _ (kept : AllKept (rules ms)) where
-    definitions-kept : count-of ms ≤ most-definitions
-    unfolding rules name-rules
-    definitions-kept = few-definitions (kept .0)
-
-    numbers-kept : first-number ms (count-of ms) ≤ most-numbers
-    unfolding rules later-rules oid-rules
-    numbers-kept = room-kept ms (kept-rest (name-rules ms) (later-rules ms) kept .1 .1 .0)
+-- there are at most 8,192 sub-identifiers where refusal 14 is kept
+numbers-kept : (ms : List Meaning) → AllKept (rules ms) → first-number ms (count-of ms) ≤ most-numbers
+unfolding rules later-rules oid-rules
+numbers-kept ms kept = room-kept ms (kept-rest (name-rules ms) (later-rules ms) kept .1 .1 .0)
 
 -- the words of an outcome fit
 pub words-fit : (text : List ℕ) (p : Parsing)
@@ -61,7 +45,7 @@ words-fit text (Derived n) = go (judge (rules ms)) refl
         → (length (records-in (judged (cut text .tokens) j)) ≤ record-words) × (length (numbers-in (judged (cut text .tokens) j)) ≤ number-words)
     go Kept is =
         let kept = judged-kept (rules ms) is in
-        (omega (arith, before-long (cut text .tokens) (count-of ms), definitions-kept ms kept), omega (arith, numbers-kept ms kept))
+        (omega (arith, before-long (cut text .tokens) (count-of ms), few-definitions ms kept), omega (arith, numbers-kept ms kept))
     go (Broken number token) is = omega arith
 words-fit text (Underived n at) = omega arith
 words-fit text (Uncut number at) = omega arith

@@ -7,20 +7,22 @@
 -- Assumes nothing.
 use mathlib.Core.Path.{_≡_}
 use mathlib.Core.Logic.{_⊎_, _↔_}
-use mathlib.Core.Bool.{Bool}
+use mathlib.Core.Bool.{Bool, true}
 use mathlib.Core.List.{List, [], _∷_, _++_}
 use Prim.Native.Nat.{ℕ, _-_, _*_, _<_, _≤_}
 use lib.IntN.{ℤ, negsuc}
 use lib.ListN.{length, getD, take, drop}
 use Rattle.terminal.specs.Terminal.{lower}
 use Rattle.lexicon.specs.Word.{bytes}
-use Rattle.token.specs.Token.{class-of-token, tok}
+use Rattle.token.specs.Token.{Meaning, class-of-token, tok}
 use Rattle.token.specs.Cut.{cut, whole, refused, meanings-in}
 use Rattle.token.specs.Law.{QuotedChange}
 use Rattle.grammar.specs.Grammar.{smi-module}
 use Rattle.grammar.specs.Derivation.{Derivation, tokens-of}
 use Rattle.syntax.specs.Parsing.{Fault}
-use Rattle.oid.specs.Oid.{numbers-before, first-number}
+use Rattle.definition.specs.Landmark.{has-oid}
+use Rattle.name.specs.declared.Lead.the-variants.{Definition}
+use Rattle.oid.specs.Oid.{HasOid, kind-of, oid-of, numbers-before, first-number}
 use Rattle.oid.specs.Oid.{count-of as definitions-in}
 use Rattle.record.specs.Record.{records-before, record-width}
 use Rattle.reader.specs.Buffers.{number-of, place-of, count-of, record-words, number-words, zeros, filled, Reads}
@@ -56,6 +58,10 @@ pub record FirstDemand (text : List ℕ) (answer : Answer) (records records′ n
       × (drop (first-number (meanings-in text) (count-of answer)) (take number-words numbers′)
       ≡ zeros (number-words - first-number (meanings-in text) (count-of answer)))
 
+-- Definition k has this OID, and no other, by the relation that follows heads however far they lead.
+abbrev pub OidIs : List Meaning → ℕ → List ℕ → Type 0
+OidIs ms k oid = HasOid ms (Definition (record { 0 = k })) oid × ((other : List ℕ) → HasOid ms (Definition (record { 0 = k })) other → other ≡ oid)
+
 -- The second demand: the first broken rule, or the records and sub-identifiers of all definitions.
 pub record SecondDemand (text : List ℕ) (answer : Answer) (records records′ numbers numbers′ : List ℕ) : Type 0 where
   -- "Given when the condition holds and no smaller number applies (3 to 6 together: the leftmost token), with the earliest place in
@@ -73,6 +79,9 @@ pub record SecondDemand (text : List ℕ) (answer : Answer) (records records′ 
   -- "Each definition's sub-identifiers fill the next free words, without gaps", and then zeros; the words beyond as they were
   pub numbered : number-of answer ≡ 0
       → numbers′ ≡ filled number-words (numbers-before (meanings-in text) (definitions-in (meanings-in text))) numbers
+  -- "An OID is the head's OID followed by the parts' numbers": these are the sub-identifiers of each definition of a kind that has any
+  pub resolved : number-of answer ≡ 0 → (k : ℕ) → k < definitions-in (meanings-in text) → has-oid (kind-of (meanings-in text) k) ≡ true
+      → OidIs (meanings-in text) k (oid-of (meanings-in text) k)
 
 -- The third demand, of a text within the limits that cuts into tokens: refusal 7 exactly when the grammar derives no such token
 -- sequence; its place is the start of the first token after which no derived sequence, however long, can begin so, or the text's
