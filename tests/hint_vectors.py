@@ -77,7 +77,9 @@ def octets_text(pieces, value):
 
 
 def octets(hint, hexed):
-    value = bytes.fromhex(hexed)
+    # one blank or one colon may stand behind each pair of digits
+    assert re.fullmatch('(?:[0-9A-Fa-f]{2}[ :]?)*', hexed)
+    value = bytes.fromhex(re.sub('[ :]', '', hexed))
     if len(value) > 1024:
         return b'refused\t31\t0'
     pieces = pieces_of(hint)
@@ -298,8 +300,19 @@ CASES = [
     ('integer', 'a', '5', refused(32)),
 ]
 
-# words that are none of these: a message on standard error alone, and the list goes on
-NO_CASE = ['', 'octets', 'octets\t1x', 'octets\t1x\t0', 'octets\t1x\t0g', 'octets\t1x\t01\tmore', 'integer\td\t', 'integer\td\t+5', 'integer\td\t1.5', 'bytes\t1x\t01']
+# octets as tools of SNMP print them
+CASES += [
+    ('octets', '1x:', '07 E6 0B', T + '7:e6:b'),
+    ('octets', '1x:', '07 E6 0B ', T + '7:e6:b'),
+    ('octets', '1x:', '07:e6:0b', T + '7:e6:b'),
+    ('octets', '1x:', '07:e6:0b:', T + '7:e6:b'),
+    ('octets', '1x:', '07e6 0b:0c', T + '7:e6:b:c'),
+    ('octets', '1d.1d.1d.1d', 'C0 A8 00 01', T + '192.168.0.1'),
+]
+
+# words that are none of these: the line `misfit` beside a message on standard error, and the list goes on
+NO_CASE = ['', 'octets', 'octets\t1x', 'octets\t1x\t0', 'octets\t1x\t0g', 'octets\t1x\t01\tmore', 'integer\td\t', 'integer\td\t+5', 'integer\td\t1.5', 'bytes\t1x\t01',
+           'octets\t1x\t07  e6', 'octets\t1x\t07::e6', 'octets\t1x\t:07', 'octets\t1x\t 07', 'octets\t1x\t0 7', 'octets\t1x\t07-e6', 'octets\t1x\t07:e']
 
 
 def encoded(text):
@@ -318,6 +331,8 @@ def build():
         wanted.append(read)
     middle = len(given) // 2
     given[middle:middle] = [w.encode() for w in NO_CASE]
+    wanted[middle:middle] = [b'misfit'] * len(NO_CASE)
+    given[3] += b'\r'   # a line end of two bytes
     return b'\n'.join(given) + b'\n', b'\n'.join(wanted) + b'\n', wrong
 
 

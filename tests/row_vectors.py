@@ -20,7 +20,7 @@ TABLE = {
     3: ["complete ? 1 : inconsistent", "complete ? 2 : inconsistent", "wrong", "inconsistent",                "inconsistent",                              "0"],
 }
 
-# one value each: a value without a name, a value below zero, a state over 3 with each kind of value, large numbers
+# one value each: a value without a name, a value below zero, a state over 3 with each kind of value, numbers of any length
 SINGLE = [
     ("1", "yes", "yes", "7", "-", 10, 1),
     ("1", "yes", "yes", "0", "-", 10, 1),
@@ -33,11 +33,14 @@ SINGLE = [
     ("4", "yes", "yes", "6", "destroy", 40, 4),
     ("4", "yes", "yes", "9", "-", 40, 4),
     ("999999999999999999", "no", "no", "-999999999999999999", "-", 40, 999999999999999999),
+    ("1000000000000000000", "yes", "yes", "6", "destroy", 40, 1000000000000000000),
+    ("2", "yes", "yes", "1" + "0" * 40, "-", 10, 2),
+    ("2", "yes", "yes", "-1" + "0" * 40, "-", 10, 2),
+    ("1" + "0" * 40, "no", "no", "1" + "0" * 40, "-", 40, 10 ** 40),
 ]
 
-# words that do not fit: nothing on standard output, and the list goes on
-BAD = ["x\tyes\tyes", "-1\tyes\tyes", "1\tYes\tyes", "1\tyes\t", "1\tyes\tyes\tactive", "1\tyes", "1\tyes\tyes\t1\t1", "", "1 yes yes",
-       "1000000000000000000\tyes\tyes"]
+# words that do not fit: the line `misfit`, and the list goes on
+BAD = ["x\tyes\tyes", "-1\tyes\tyes", "1\tYes\tyes", "1\tyes\t", "1\tyes\tyes\tactive", "1\tyes", "1\tyes\tyes\t1\t1", "", "1 yes yes"]
 
 
 def cell(state, value, complete, willing):
@@ -67,7 +70,13 @@ def vectors():
         cases.append(f"{state}\t{complete}\t{willing}\t{value}")
         lines.append(f"{value}\t{name}\t{number}\t{following}")
     cases[3:3] = BAD[:5]
+    lines[18:18] = ["misfit"] * 5   # behind the six lines of each of the first three cases
     cases += BAD[5:]
+    lines += ["misfit"] * len(BAD[5:])
+    cases += ["0\tyes\tyes\t4\r", "0\tyes\r\tyes\t4"]   # a line end of two bytes; a carriage return elsewhere
+    lines += ["4\tcreateAndGo\t0\t1", "misfit"]
+    cases.append("10" + "0" * 40 + "\tno\tyes")   # each value of a long state
+    lines += [f"{value}\t{NAMES[value]}\t40\t10{'0' * 40}" for value in range(1, 7)]
     cases.append("0\tyes\tyes\t4")   # a last line, with no line end
     lines.append("4\tcreateAndGo\t0\t1")
     return "\n".join(cases), "".join(line + "\n" for line in lines)
@@ -79,10 +88,10 @@ def main():
     for name, text in zip(("stdin", "stdout"), vectors()):
         path = os.path.join(folder, name)
         if "--check" not in sys.argv:
-            with open(path, "w", encoding="ascii") as file:
+            with open(path, "w", encoding="ascii", newline="") as file:
                 file.write(text)
             continue
-        with open(path, encoding="ascii") as file:
+        with open(path, encoding="ascii", newline="") as file:
             if file.read() != text:
                 print(f"row_vectors: crates/row/{name} is not what the table gives; run tests/row_vectors.py", file=sys.stderr)
                 same = False

@@ -9,53 +9,101 @@ ghost use lib.ListN.{length};
 ghost use Rattle.token.specs.Table.{longest-text};
 ghost use Rattle.record.specs.Record.{record-width};
 ghost use Rattle.reader.specs.Buffers.{number-words};
-ghost use Rattle.card.specs.Output.{longest-path, output-size, full};
+ghost use Rattle.card.specs.Page.{longest-path, page-size, full};
 use card_line::write_head;
 use card_line::write_record;
-use command::Content;
-use libc::STDOUT_FILENO;
+use output::Output;
 use reader::Answer;
 use reader::NUMBER_WORDS;
 use reader::RECORD_WORDS;
 
-// Once the output holds so many bytes it is written out. Behind them there is room for what comes next, which is a line at most.
+// Once the page holds so many bytes it is written out. Behind them there is room for what comes next, which is a line at most.
 const FULL: usize = 8192;
+
+// How many bytes are laid into the page and not written out yet, and how the output went so far.
+struct Laid {
+    at: usize,
+    out: Output,
+}
 
 fn main() {
     let count = os::arg_count();
+    let mut laid = Laid {
+        at: 0,
+        out: output::start(),
+    };
     if count <= 1 {
-        command::complain(b"card", 0, b"", b"is no file", b"./mib card FILE...");
+        output::finish(complain_none(output::start()));
         return;
     }
     let mut text = [0u8; 65537];
-    let mut out = [0u8; 196608];
+    let mut page = [0u8; 196608];
     let mut name = io::buffer();
-    let mut at = 0;
     let mut i = 1;
     while i < count {
-        at = print_argument(i, &mut name, 2 < count, &mut text, &mut out, at);
+        laid = print_argument(i, &mut name, 2 < count, &mut text, &mut page, laid);
         i += 1;
     }
-    write_out(&out, at);
+    let done = write_out(&page, laid);
+    output::finish(done.out);
 }
 
-// Writes out the first bytes of the output.
-fn write_out(out: &[u8], at: usize)
-    requires { ⌜ at ≤ length (now out) ⌝ }
+// More is laid, up to this place.
+fn laid_to(laid: Laid, at: usize) -> Laid
+    ensures { λ r. ⌜ r .at ≡ at ⌝ }
 {
-    io::write_all(STDOUT_FILENO, &out[..at]);
+    let out = laid.out;
+    Laid { at, out }
 }
 
-// Writes the output out where it is full, and answers how many bytes it holds then.
-fn make_room(out: &[u8], at: usize) -> usize
-    requires { ⌜ at ≤ length (now out) ⌝ }
-    ensures { λ r. ⌜ r < full ⌝ }
+// Something was refused.
+fn refuse(laid: Laid) -> Laid
+    ensures { λ r. ⌜ r .at ≡ laid .at ⌝ }
 {
-    if at < FULL {
-        return at;
+    let out = laid.out;
+    Laid {
+        at: laid.at,
+        out: output::refuse(out),
     }
-    write_out(out, at);
-    0
+}
+
+fn complain_none(out: Output) -> Output {
+    output::complain(out, b"mib card", 0, b"", b"is no file", b"mib card FILE...")
+}
+
+// Writes out what is laid into the page.
+fn write_out(page: &[u8], laid: Laid) -> Laid
+    requires { ⌜ laid .at ≤ length (now page) ⌝ }
+    ensures { λ r. ⌜ r .at ≡ 0 ⌝ }
+{
+    let at = laid.at;
+    Laid {
+        at: 0,
+        out: output::print(laid.out, &page[..at]),
+    }
+}
+
+// Writes the page out where it is full.
+fn make_room(page: &[u8], laid: Laid) -> Laid
+    requires { ⌜ laid .at ≤ length (now page) ⌝ }
+    ensures { λ r. ⌜ r .at < full ⌝ }
+{
+    if laid.at < FULL {
+        return laid;
+    }
+    write_out(page, laid)
+}
+
+// Says why a file cannot be read. What is laid is written out first, so that the two stand in order on a terminal.
+fn fail(page: &[u8], laid: Laid, name: &[u8]) -> Laid
+    requires { ⌜ laid .at ≤ length (now page) ⌝ }
+    ensures { λ r. ⌜ r .at ≡ 0 ⌝ }
+{
+    let done = write_out(page, laid);
+    Laid {
+        at: 0,
+        out: output::fail(done.out, name),
+    }
 }
 
 // The card of the file that argument i names; or says that the name is too long for a file's.
@@ -64,70 +112,68 @@ fn print_argument(
     name: &mut [u8],
     named: bool,
     buf: &mut [u8],
-    out: &mut [u8],
-    at: usize,
-) -> usize
+    page: &mut [u8],
+    laid: Laid,
+) -> Laid
     requires name { ⌜ length (now name) ≤ longest-path ⌝ }
-    requires size { ⌜ length (now out) ≡ output-size ⌝ }
-    requires inside { ⌜ at ≤ output-size ⌝ }
-    ensures { λ r. ⌜ r ≤ output-size ⌝ }
+    requires size { ⌜ length (now page) ≡ page-size ⌝ }
+    requires inside { ⌜ laid .at ≤ page-size ⌝ }
+    ensures { λ r. ⌜ r .at ≤ page-size ⌝ }
 {
     let n = os::arg(i, name);
     if os::errno() != 0 {
-        write_out(out, at);
-        os::fail(name);
-        return 0;
+        return fail(page, laid, name);
     }
-    print_file(&name[..n], named, buf, out, at)
+    print_file(&name[..n], named, buf, page, laid)
 }
 
-// Lays the card of one file into the output, behind a line with its name where it is named; or says why the file cannot be read. The
+// Lays the card of one file into the page, behind a line with its name where it is named; or says why the file cannot be read. The
 // buffer for the text has a byte more than a text may have, to tell a longer file.
-fn print_file(name: &[u8], named: bool, buf: &mut [u8], out: &mut [u8], at: usize) -> usize
+fn print_file(name: &[u8], named: bool, buf: &mut [u8], page: &mut [u8], laid: Laid) -> Laid
     requires name { ⌜ length (now name) ≤ longest-path ⌝ }
-    requires size { ⌜ length (now out) ≡ output-size ⌝ }
-    requires inside { ⌜ at ≤ output-size ⌝ }
-    ensures { λ r. ⌜ r ≤ output-size ⌝ }
+    requires size { ⌜ length (now page) ≡ page-size ⌝ }
+    requires inside { ⌜ laid .at ≤ page-size ⌝ }
+    ensures { λ r. ⌜ r .at ≤ page-size ⌝ }
 {
-    let Content::Bytes(n) = command::read_file(name, buf) else {
-        write_out(out, at);
-        os::fail(name);
-        return 0;
-    };
-    if named {
-        let next = write_name(name, out, at);
-        return print_card(&buf[..n], out, next);
+    let content = command::read_file(name, buf);
+    if content.failed {
+        return fail(page, laid, name);
     }
-    print_card(&buf[..n], out, at)
+    let n = content.count;
+    if named {
+        let next = write_name(name, page, laid);
+        return print_card(&buf[..n], page, next);
+    }
+    print_card(&buf[..n], page, laid)
 }
 
 // A line with a file's name.
-fn write_name(name: &[u8], out: &mut [u8], at: usize) -> usize
+fn write_name(name: &[u8], page: &mut [u8], laid: Laid) -> Laid
     requires name { ⌜ length (now name) ≤ longest-path ⌝ }
-    requires size { ⌜ length (now out) ≡ output-size ⌝ }
-    requires inside { ⌜ at ≤ output-size ⌝ }
-    ensures { λ r. ⌜ r ≤ output-size ⌝ }
+    requires size { ⌜ length (now page) ≡ page-size ⌝ }
+    requires inside { ⌜ laid .at ≤ page-size ⌝ }
+    ensures { λ r. ⌜ r .at ≤ page-size ⌝ }
 {
-    let start = make_room(out, at);
-    let next = buffer::copy(name, out, start);
-    buffer::put(out, next, b'\n')
+    let start = make_room(page, laid);
+    let next = buffer::copy(name, page, start.at);
+    laid_to(start, buffer::put(page, next, b'\n'))
 }
 
-// Lays the card of a text into the output.
-fn print_card(text: &[u8], out: &mut [u8], at: usize) -> usize
-    requires size { ⌜ length (now out) ≡ output-size ⌝ }
-    requires inside { ⌜ at ≤ output-size ⌝ }
-    ensures { λ r. ⌜ r ≤ output-size ⌝ }
+// Lays the card of a text into the page.
+fn print_card(text: &[u8], page: &mut [u8], laid: Laid) -> Laid
+    requires size { ⌜ length (now page) ≡ page-size ⌝ }
+    requires inside { ⌜ laid .at ≤ page-size ⌝ }
+    ensures { λ r. ⌜ r .at ≤ page-size ⌝ }
 {
     let mut records = [0u32; RECORD_WORDS];
     let mut numbers = [0u32; NUMBER_WORDS];
     let answer = reader::read(text, &mut records, &mut numbers);
-    let start = make_room(out, at);
-    let next = write_head(answer, out, start);
+    let start = make_room(page, laid);
+    let next = write_head(answer, page, start.at);
     let Answer::Accepted(count) = answer else {
-        return next;
+        return refuse(laid_to(start, next));
     };
-    write_records(text, &records, count, &numbers, out, next)
+    write_records(text, &records, count, &numbers, page, laid_to(start, next))
 }
 
 // A line for each of the records.
@@ -136,23 +182,24 @@ fn write_records(
     records: &[u32],
     count: usize,
     numbers: &[u32],
-    out: &mut [u8],
-    at: usize,
-) -> usize
+    page: &mut [u8],
+    laid: Laid,
+) -> Laid
     requires text { ⌜ length (now text) ≤ longest-text ⌝ }
     requires records { ⌜ record-width * count ≤ length (now records) ⌝ }
     requires numbers { ⌜ length (now numbers) ≤ number-words ⌝ }
-    requires size { ⌜ length (now out) ≡ output-size ⌝ }
-    requires inside { ⌜ at ≤ output-size ⌝ }
-    ensures { λ r. ⌜ r ≤ output-size ⌝ }
+    requires size { ⌜ length (now page) ≡ page-size ⌝ }
+    requires inside { ⌜ laid .at ≤ page-size ⌝ }
+    ensures { λ r. ⌜ r .at ≤ page-size ⌝ }
 {
-    let mut next = at;
+    let mut next = laid;
     let mut k = 0;
     while k < count {
         let from = record::WIDTH * k;
         let words = &records[from..from + record::WIDTH];
-        next = make_room(out, next);
-        next = write_record(text, words, numbers, out, next);
+        let start = make_room(page, next);
+        let end = write_record(text, words, numbers, page, start.at);
+        next = laid_to(start, end);
         k += 1;
     }
     next

@@ -3,8 +3,6 @@ use Prim.Native.Nat.{ℕ, _≤_}
 use Rattle.command.specs.declared.line.Lines.{Lines}
 use Rattle.command.specs.declared.line.Line.{Line}
 use Rattle.command.specs.declared.line.Line.the-variants as line
-use Rattle.command.specs.declared.file.Content.{Content}
-use Rattle.command.specs.declared.file.Content.the-variants as content
 
 -- the bytes read and not used yet stand in a buffer of that length
 pub record LinesWithin (lines : Lines) (size : ℕ) : Type 0 where
@@ -20,9 +18,5 @@ pub record PartWithin (from to size : ℕ) : Type 0 where
 abbrev pub LineWithin : Line → ℕ → Type 0
 LineWithin (line.At from to rest) size = PartWithin from to size × LinesWithin rest size
 LineWithin (line.TooLong rest) size = LinesWithin rest size
+LineWithin line.Failed size = Unit {0}
 LineWithin line.End size = Unit {0}
-
--- what a file holds stands in a buffer of that length
-abbrev pub ContentWithin : Content → ℕ → Type 0
-ContentWithin (content.Bytes n) size = n ≤ size
-ContentWithin content.Failed size = Unit {0}

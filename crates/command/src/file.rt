@@ -1,20 +1,22 @@
 // The bytes of a file.
-ghost use lib.ListN.{length};
-ghost use Rattle.command.specs.Within.{ContentWithin};
+ghost use Rattle.io.specs.Counts.{Counts};
 
 // What a file holds: so many bytes, at the start of the buffer; or it cannot be opened or read, and errno says why.
-pub enum Content {
-    Bytes(usize),
-    Failed,
+pub struct Content {
+    pub count: usize,
+    pub failed: bool,
 }
 
 // Reads the file of that name until it ends or buf is full.
 pub fn read_file(name: &[u8], buf: &mut [u8]) -> Content
-    ensures { λ r. ⌜ ContentWithin r (length (now (buf .entry))) ⌝ }
+    ensures { λ r. ⌜ Counts (r .count) (now (buf .exit)) ⌝ }
 {
     let fd = os::open_read(name);
     if fd < 0 {
-        return Content::Failed;
+        return Content {
+            count: 0,
+            failed: true,
+        };
     }
     let content = read_all(fd, buf);
     libc::close(fd);
@@ -23,20 +25,29 @@ pub fn read_file(name: &[u8], buf: &mut [u8]) -> Content
 
 // Reads until the input ends or buf is full.
 fn read_all(fd: i32, buf: &mut [u8]) -> Content
-    ensures { λ r. ⌜ ContentWithin r (length (now (buf .entry))) ⌝ }
+    ensures { λ r. ⌜ Counts (r .count) (now (buf .exit)) ⌝ }
 {
     let mut n = 0;
     while n < buf.len() {
         let rest = &mut buf[n..];
         let got = libc::read(fd, rest);
         if got < 0 {
-            return Content::Failed;
+            return Content {
+                count: 0,
+                failed: true,
+            };
         }
         let more = io::count(got, rest);
         if more == 0 {
-            return Content::Bytes(n);
+            return Content {
+                count: n,
+                failed: false,
+            };
         }
         n += more;
     }
-    Content::Bytes(n)
+    Content {
+        count: n,
+        failed: false,
+    }
 }

@@ -2,7 +2,7 @@
 ghost use mathlib.Core.Path.{_≡_};
 ghost use Prim.Native.Nat.{ℕ, _+_, _≤_};
 ghost use lib.ListN.{length};
-ghost use Rattle.command.specs.Within.{LineWithin, LinesWithin};
+ghost use Rattle.command.specs.Within.{LineWithin, LinesWithin, PartWithin};
 
 // The bytes of the buffer that are read and not used yet: from `from` up to, not including, `to`.
 pub struct Lines {
@@ -16,12 +16,28 @@ pub enum Line {
     At(usize, usize, Lines),
     // A line that the buffer cannot hold. It is passed over.
     TooLong(Lines),
-    // The input has ended, or cannot be read.
+    // The input cannot be read, and errno says why.
+    Failed,
+    // The input has ended.
     End,
 }
 
+// Where a line ends that runs up to `end`: before a carriage return, where one ends it.
+fn before_return(buf: &[u8], from: usize, end: usize) -> usize
+    requires { ⌜ PartWithin from end (length (now buf)) ⌝ }
+    ensures { λ r. ⌜ PartWithin from r end ⌝ }
+{
+    if from == end {
+        return end;
+    }
+    if buf[end - 1] == b'\r' {
+        return end - 1;
+    }
+    end
+}
+
 // The next line of the input. It is in the buffer already, or what the buffer holds is moved to its front and more is
-// read behind it. A last line needs no line end.
+// read behind it. A last line needs no line end, and one of two bytes, as CRLF, is one.
 pub fn next_line(fd: i32, buf: &mut [u8], lines: Lines) -> Line
     requires { ⌜ LinesWithin lines (length (now buf)) ⌝ }
     ensures { λ r. ⌜ LineWithin r (length (now (buf .entry))) ⌝ }
@@ -30,7 +46,8 @@ pub fn next_line(fd: i32, buf: &mut [u8], lines: Lines) -> Line
     let to = lines.to;
     let end = bytes::scan::find(buf, from, to, b'\n');
     if end < to {
-        return Line::At(from, end, Lines { from: end + 1, to });
+        let last = before_return(buf, from, end);
+        return Line::At(from, last, Lines { from: end + 1, to });
     }
     let held = to - from;
     move_to_front(buf, from, held);
@@ -62,48 +79,64 @@ fn read_line(fd: i32, buf: &mut [u8], held: usize) -> Line
         if to == buf.len() {
             return Line::TooLong(skip_line(fd, buf));
         }
-        let more = read_more(fd, buf, to);
+        let came = read_more(fd, buf, to);
+        if came.failed {
+            return Line::Failed;
+        }
+        let more = came.count;
         if more == 0 {
-            return last_line(to);
+            return last_line(buf, to);
         }
         let end = bytes::scan::find(buf, to, to + more, b'\n');
         to += more;
         if end < to {
-            return Line::At(0, end, Lines { from: end + 1, to });
+            let last = before_return(buf, 0, end);
+            return Line::At(0, last, Lines { from: end + 1, to });
         }
     }
     Line::End
 }
 
 // What the end of the input leaves: a last line without a line end, or nothing.
-fn last_line(to: usize) -> Line
+fn last_line(buf: &[u8], to: usize) -> Line
+    requires { ⌜ to ≤ length (now buf) ⌝ }
     ensures { λ r. ⌜ ((size : ℕ) → to ≤ size → LineWithin r size) ⌝ }
 {
     if to == 0 {
         return Line::End;
     }
-    Line::At(0, to, Lines { from: to, to })
+    let last = before_return(buf, 0, to);
+    Line::At(0, last, Lines { from: to, to })
 }
 
-// Reads once into the buffer behind its first `held` bytes, and answers how many came: 0 at the end of the input.
-fn read_more(fd: i32, buf: &mut [u8], held: usize) -> usize
+// How many bytes came in: none at the end of the input, and where it cannot be read.
+struct More {
+    count: usize,
+    failed: bool,
+}
+
+// Reads once into the buffer behind its first `held` bytes.
+fn read_more(fd: i32, buf: &mut [u8], held: usize) -> More
     requires { ⌜ held ≤ length (now buf) ⌝ }
-    ensures inside { λ r. ⌜ held + r ≤ length (now (buf .entry)) ⌝ }
+    ensures inside { λ r. ⌜ held + r .count ≤ length (now (buf .entry)) ⌝ }
     ensures size { λ _. ⌜ length (now (buf .exit)) ≡ length (now (buf .entry)) ⌝ }
 {
     let rest = &mut buf[held..];
     let got = libc::read(fd, rest);
-    io::count(got, rest)
+    More {
+        count: io::count(got, rest),
+        failed: got < 0,
+    }
 }
 
-// Reads on to the end of a line, and answers what stands behind it.
+// Reads on to the end of a line, and answers what stands behind it. Where the input cannot be read, the next line says so.
 fn skip_line(fd: i32, buf: &mut [u8]) -> Lines
     ensures { λ r. ⌜ LinesWithin r (length (now (buf .entry))) ⌝ }
 {
     let mut turns = u64::MAX;
     while turns > 0 {
         turns -= 1;
-        let to = read_more(fd, buf, 0);
+        let to = read_more(fd, buf, 0).count;
         if to == 0 {
             break;
         }

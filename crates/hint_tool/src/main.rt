@@ -7,7 +7,9 @@ use command::Line;
 use command::Lines;
 use hint::Answer;
 use libc::STDIN_FILENO;
-use libc::STDOUT_FILENO;
+use output::Output;
+use output::print;
+use output::print_number;
 use words::Number;
 use words::Octets;
 ghost use Prim.Native.Nat.{_≤_};
@@ -17,128 +19,151 @@ ghost use Rattle.hint.specs.Answer.{length-of};
 fn main() {
     let mut space = io::large_buffer();
     if os::arg_count() <= 1 {
-        read_list(&mut space);
+        let out = read_list(&mut space, output::start());
+        output::finish(out);
         return;
     }
     let n = command::arguments(&mut space);
     if space.len() < n {
-        complain_long(0);
+        let out = complain_long(output::start(), 0);
+        output::finish(out);
         return;
     }
-    answer_case(&space[..n], 0, 0);
+    let out = answer_case(&space[..n], 0, 0, output::start());
+    output::finish(out);
 }
 
 // Answers each line of standard input. The lines are counted in 64 bits, which no run uses up.
-fn read_list(buf: &mut [u8]) {
+fn read_list(space: &mut [u8], out: Output) -> Output {
+    output::say_waiting(
+        b"mib hint: waiting for cases, a line each, tabs between the words: octets HINT HEX, or integer HINT NUMBER; Ctrl-D ends them\n",
+    );
     let mut lines = Lines { from: 0, to: 0 };
     let mut line: u64 = 0;
+    let mut next = out;
     while line < u64::MAX {
         line += 1;
-        match command::next_line(STDIN_FILENO, buf, lines) {
+        match command::next_line(STDIN_FILENO, space, lines) {
             Line::At(from, to, rest) => {
-                answer_case(&buf[from..to], b'\t', line);
+                next = answer_case(&space[from..to], b'\t', line, next);
                 lines = rest;
             }
             Line::TooLong(rest) => {
-                complain_long(line);
+                next = complain_long(next, line);
                 lines = rest;
             }
+            Line::Failed => {
+                return output::fail(next, b"mib hint: standard input");
+            }
             Line::End => {
-                return;
+                return next;
             }
         }
     }
+    next
 }
 
 // Answers one case, or says which of its words does not fit.
-fn answer_case(case: &[u8], separator: u8, line: u64) {
+fn answer_case(case: &[u8], separator: u8, line: u64, out: Output) -> Output {
     let count = words::count_words(case, separator);
     if count < 3 {
-        complain(
-            line,
-            words::part(case, separator, count - 1),
-            b"is the last word, and a case has three",
-        );
-        return;
+        let last = words::part(case, separator, count - 1);
+        return complain(out, line, last, b"is the last word, and a case has three");
     }
     if 3 < count {
-        complain(line, words::part(case, separator, 3), b"is a word too many");
-        return;
+        let extra = words::part(case, separator, 3);
+        return complain(out, line, extra, b"is a word too many");
     }
     let kind = words::part(case, separator, 0);
     let hint_word = words::part(case, separator, 1);
     let value_word = words::part(case, separator, 2);
     if words::same(kind, b"octets") {
-        answer_octets(hint_word, value_word, line);
-        return;
+        return answer_octets(hint_word, value_word, line, out);
     }
     if words::same(kind, b"integer") {
-        answer_integer(hint_word, value_word, line);
-        return;
+        return answer_integer(hint_word, value_word, line, out);
     }
-    complain(line, kind, b"is neither octets nor integer");
+    complain(out, line, kind, b"is neither octets nor integer")
 }
 
-// Prints octets, which are written in hexadecimal, by a hint.
-fn answer_octets(hint_word: &[u8], hex: &[u8], line: u64) {
+// Prints octets, which are written in hexadecimal, by a hint. A blank or a colon may stand between two pairs of digits.
+fn answer_octets(hint_word: &[u8], hex: &[u8], line: u64, out: Output) -> Output {
+    let mut digits = io::large_buffer();
+    if digits.len() < hex.len() {
+        return complain_long(out, line);
+    }
+    let n = words::join_pairs(hex, &mut digits);
+    answer_digits(hint_word, hex, &digits[..n], line, out)
+}
+
+// The same of the digits alone, which `hex` holds.
+fn answer_digits(hint_word: &[u8], hex: &[u8], digits: &[u8], line: u64, out: Output) -> Output {
     let mut space = io::large_buffer();
-    let Octets::Are(n) = words::read_hex(hex, &mut space) else {
-        complain(line, hex, b"is not pairs of hex digits");
-        return;
+    let Octets::Are(n) = words::read_hex(digits, &mut space) else {
+        return complain(
+            out,
+            line,
+            hex,
+            b"is not pairs of hex digits, each with a blank or a colon behind it or none",
+        );
     };
-    print_octets(hint_word, &space[..n]);
+    print_octets(hint_word, &space[..n], out)
 }
 
-fn print_octets(hint_word: &[u8], octets: &[u8]) {
-    let mut out = io::buffer();
-    let answer = hint::octets(hint_word, octets, &mut out);
-    print_answer(answer, &out);
+fn print_octets(hint_word: &[u8], octets: &[u8], out: Output) -> Output {
+    let mut text = io::buffer();
+    let answer = hint::octets(hint_word, octets, &mut text);
+    print_answer(answer, &text, out)
 }
 
 // Prints an integer by a hint. One of more than 18 digits is out of range whatever it is, and goes as one that is.
-fn answer_integer(hint_word: &[u8], number: &[u8], line: u64) {
+fn answer_integer(hint_word: &[u8], number: &[u8], line: u64, out: Output) -> Output {
     match words::read_number(number) {
-        Number::Is(value) => print_integer(hint_word, value),
-        Number::Beyond(_) => print_integer(hint_word, 4294967296),
-        Number::IsNot => complain(line, number, b"is no number"),
+        Number::Is(value) => print_integer(hint_word, value, out),
+        Number::Beyond(_) => print_integer(hint_word, 4294967296, out),
+        Number::IsNot => complain(out, line, number, b"is no number"),
     }
 }
 
-fn print_integer(hint_word: &[u8], value: i64) {
-    let mut out = io::buffer();
-    let answer = hint::integer(hint_word, value, &mut out);
-    print_answer(answer, &out);
+fn print_integer(hint_word: &[u8], value: i64, out: Output) -> Output {
+    let mut text = io::buffer();
+    let answer = hint::integer(hint_word, value, &mut text);
+    print_answer(answer, &text, out)
 }
 
 // Prints the text that was printed, or the refusal.
-fn print_answer(answer: Answer, out: &[u8])
-    requires { ⌜ length-of answer ≤ length (now out) ⌝ }
+fn print_answer(answer: Answer, text: &[u8], out: Output) -> Output
+    requires { ⌜ length-of answer ≤ length (now text) ⌝ }
 {
     let n = answer.length();
     if answer.number() == 0 {
-        io::write_all(STDOUT_FILENO, b"printed\t");
-        io::write_all(STDOUT_FILENO, &out[..n]);
-        command::end_line();
-        return;
+        let out = print(out, b"printed\t");
+        let out = print(out, &text[..n]);
+        return output::end_line(out);
     }
-    io::write_all(STDOUT_FILENO, b"refused\t");
-    io::print_decimal(STDOUT_FILENO, answer.number());
-    command::print_tab();
-    io::print_decimal(STDOUT_FILENO, answer.place() as u64);
-    command::end_line();
+    print_refusal(answer, output::refuse(out))
+}
+
+fn print_refusal(answer: Answer, out: Output) -> Output {
+    let out = print(out, b"refused\t");
+    let out = print_number(out, answer.number());
+    let out = output::print_tab(out);
+    let out = print_number(out, answer.place() as u64);
+    output::end_line(out)
 }
 
 // The message for a line, or for arguments, that the buffer cannot hold.
-fn complain_long(line: u64) {
-    complain(line, b"..", b"is too long");
+fn complain_long(out: Output, line: u64) -> Output {
+    complain(out, line, b"..", b"is too long")
 }
 
-fn complain(line: u64, word: &[u8], why: &[u8]) {
-    command::complain(
-        b"hint",
+fn complain(out: Output, line: u64, word: &[u8], why: &[u8]) -> Output {
+    output::misfit(
+        out,
+        b"mib hint",
         line,
         word,
         why,
-        b"./mib hint octets HINT HEX, or ./mib hint integer HINT NUMBER",
-    );
+        b"mib hint octets HINT HEX, or mib hint integer HINT NUMBER",
+    )
 }

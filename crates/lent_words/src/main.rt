@@ -47,12 +47,16 @@ fn show_call(text: &[u8], records: &mut [u32], m: usize, numbers: &mut [u32], n:
     print_answer(answer);
     print_words(records);
     print_words(numbers);
-    command::end_line();
+    end_line();
+}
+
+fn end_line() {
+    io::write_all(STDOUT_FILENO, b"\n");
 }
 
 fn print(n: usize) {
     io::print_decimal(STDOUT_FILENO, n as u64);
-    command::print_tab();
+    io::write_all(STDOUT_FILENO, b"\t");
 }
 
 // Number, place and count.

@@ -5,137 +5,254 @@
 use command::Line;
 use command::Lines;
 use libc::STDIN_FILENO;
-use libc::STDOUT_FILENO;
+use output::Output;
+use output::print;
+use output::print_number;
+use output::print_tab;
+use row_status::Answer;
 use words::Flag;
 use words::Natural;
 use words::Number;
 
+// What stands for a state of more digits than a number here can have: a state over 3, as it is.
+const LONG_STATE: u64 = u64::MAX;
+
+// What stands for such a set value: one without a name, as it is.
+const LONG_VALUE: i64 = 0;
+
 fn main() {
     let mut space = io::large_buffer();
     if os::arg_count() <= 1 {
-        read_list(&mut space);
+        let out = read_list(&mut space, output::start());
+        output::finish(out);
         return;
     }
     let n = command::arguments(&mut space);
     if space.len() < n {
-        complain_long(0);
+        let out = complain_long(output::start(), 0);
+        output::finish(out);
         return;
     }
-    answer_case(&space[..n], 0, 0);
+    let out = answer_case(&space[..n], 0, 0, output::start());
+    output::finish(out);
 }
 
 // Answers each line of standard input. The lines are counted in 64 bits, which no run uses up.
-fn read_list(buf: &mut [u8]) {
+fn read_list(space: &mut [u8], out: Output) -> Output {
+    output::say_waiting(
+        b"mib row: waiting for cases, a line each, tabs between the words: STATE yes|no yes|no [VALUE]; Ctrl-D ends them\n",
+    );
     let mut lines = Lines { from: 0, to: 0 };
     let mut line: u64 = 0;
+    let mut next = out;
     while line < u64::MAX {
         line += 1;
-        match command::next_line(STDIN_FILENO, buf, lines) {
+        match command::next_line(STDIN_FILENO, space, lines) {
             Line::At(from, to, rest) => {
-                answer_case(&buf[from..to], b'\t', line);
+                next = answer_case(&space[from..to], b'\t', line, next);
                 lines = rest;
             }
             Line::TooLong(rest) => {
-                complain_long(line);
+                next = complain_long(next, line);
                 lines = rest;
             }
+            Line::Failed => {
+                return output::fail(next, b"mib row: standard input");
+            }
             Line::End => {
-                return;
+                return next;
             }
         }
     }
+    next
 }
 
 // Answers one case, or says which of its words does not fit.
-fn answer_case(case: &[u8], separator: u8, line: u64) {
+fn answer_case(case: &[u8], separator: u8, line: u64, out: Output) -> Output {
     let count = words::count_words(case, separator);
     if count < 3 {
-        complain(
-            line,
-            words::part(case, separator, count - 1),
-            b"is the last word, and a case has three or four",
-        );
-        return;
+        let last = words::part(case, separator, count - 1);
+        return complain(out, line, last, b"is the last word, and a case has three or four");
     }
     if 4 < count {
-        complain(line, words::part(case, separator, 4), b"is a word too many");
-        return;
+        let extra = words::part(case, separator, 4);
+        return complain(out, line, extra, b"is a word too many");
     }
-    let state_word = words::part(case, separator, 0);
-    let Natural::Is(state) = words::read_natural(state_word) else {
-        complain(line, state_word, b"is no state number");
-        return;
-    };
     let complete_word = words::part(case, separator, 1);
     let Flag::Is(complete) = words::read_flag(complete_word) else {
-        complain(line, complete_word, b"is neither yes nor no");
-        return;
+        return complain_flag(out, line, complete_word);
     };
     let willing_word = words::part(case, separator, 2);
     let Flag::Is(willing) = words::read_flag(willing_word) else {
-        complain(line, willing_word, b"is neither yes nor no");
-        return;
+        return complain_flag(out, line, willing_word);
     };
+    let state_word = words::part(case, separator, 0);
     if count == 3 {
-        print_each(state, complete, willing);
-        return;
+        return answer_each(state_word, complete, willing, line, out);
     }
     let value_word = words::part(case, separator, 3);
-    let Number::Is(value) = words::read_number(value_word) else {
-        complain(line, value_word, b"is no number");
-        return;
-    };
-    print_answer(value_word, value, state, complete, willing);
+    answer_one(state_word, value_word, complete, willing, line, out)
 }
 
-// Prints a line for each set value that RFC 2579 names.
-fn print_each(state: u64, complete: bool, willing: bool) {
-    print_answer(b"1", 1, state, complete, willing);
-    print_answer(b"2", 2, state, complete, willing);
-    print_answer(b"3", 3, state, complete, willing);
-    print_answer(b"4", 4, state, complete, willing);
-    print_answer(b"5", 5, state, complete, willing);
-    print_answer(b"6", 6, state, complete, willing);
-}
-
-// Prints the set value as it was given, its name, the answer's number and the next state.
-fn print_answer(word: &[u8], value: i64, state: u64, complete: bool, willing: bool) {
-    let answer = row_status::set(state, value, complete, willing);
-    io::write_all(STDOUT_FILENO, word);
-    command::print_tab();
-    print_name(value);
-    command::print_tab();
-    io::print_decimal(STDOUT_FILENO, answer.number());
-    command::print_tab();
-    io::print_decimal(STDOUT_FILENO, answer.next(state));
-    command::end_line();
-}
-
-// Prints the name that RFC 2579 gives a set value, or a hyphen.
-fn print_name(value: i64) {
-    match value {
-        1 => io::write_all(STDOUT_FILENO, b"active"),
-        2 => io::write_all(STDOUT_FILENO, b"notInService"),
-        3 => io::write_all(STDOUT_FILENO, b"notReady"),
-        4 => io::write_all(STDOUT_FILENO, b"createAndGo"),
-        5 => io::write_all(STDOUT_FILENO, b"createAndWait"),
-        6 => io::write_all(STDOUT_FILENO, b"destroy"),
-        _ => io::write_all(STDOUT_FILENO, b"-"),
+// Answers each set value that RFC 2579 names. What is refused is part of the answer then; only a state that does not exist is not.
+fn answer_each(
+    state_word: &[u8],
+    complete: bool,
+    willing: bool,
+    line: u64,
+    out: Output,
+) -> Output {
+    match words::read_natural(state_word) {
+        Natural::Is(state) => print_each(state_word, state, complete, willing, out),
+        Natural::Beyond => print_each(state_word, LONG_STATE, complete, willing, out),
+        Natural::IsNot => complain_state(out, line, state_word),
     }
-    ;
+}
+
+fn print_each(
+    state_word: &[u8],
+    state: u64,
+    complete: bool,
+    willing: bool,
+    out: Output,
+) -> Output {
+    let out = print_set(state_word, state, b"1", 1, complete, willing, out);
+    let out = print_set(state_word, state, b"2", 2, complete, willing, out);
+    let out = print_set(state_word, state, b"3", 3, complete, willing, out);
+    let out = print_set(state_word, state, b"4", 4, complete, willing, out);
+    let out = print_set(state_word, state, b"5", 5, complete, willing, out);
+    let out = print_set(state_word, state, b"6", 6, complete, willing, out);
+    if row_status::NOT_READY < state {
+        return output::refuse(out);
+    }
+    out
+}
+
+// Answers one set value.
+fn answer_one(
+    state_word: &[u8],
+    value_word: &[u8],
+    complete: bool,
+    willing: bool,
+    line: u64,
+    out: Output,
+) -> Output {
+    match words::read_natural(state_word) {
+        Natural::Is(state) => answer_value(state_word, state, value_word, complete, willing, line, out),
+        Natural::Beyond => answer_value(
+            state_word,
+            LONG_STATE,
+            value_word,
+            complete,
+            willing,
+            line,
+            out,
+        ),
+        Natural::IsNot => complain_state(out, line, state_word),
+    }
+}
+
+fn answer_value(
+    state_word: &[u8],
+    state: u64,
+    value_word: &[u8],
+    complete: bool,
+    willing: bool,
+    line: u64,
+    out: Output,
+) -> Output {
+    match words::read_number(value_word) {
+        Number::Is(value) => print_one(state_word, state, value_word, value, complete, willing, out),
+        Number::Beyond(_) => print_one(
+            state_word,
+            state,
+            value_word,
+            LONG_VALUE,
+            complete,
+            willing,
+            out,
+        ),
+        Number::IsNot => complain(out, line, value_word, b"is no number"),
+    }
+}
+
+// The line of one set value, which is refused unless the set succeeds.
+fn print_one(
+    state_word: &[u8],
+    state: u64,
+    value_word: &[u8],
+    value: i64,
+    complete: bool,
+    willing: bool,
+    out: Output,
+) -> Output {
+    let out = print_set(state_word, state, value_word, value, complete, willing, out);
+    if row_status::set(state, value, complete, willing).number() != 0 {
+        return output::refuse(out);
+    }
+    out
+}
+
+// The line of a set value: as it was given, its name, the answer's number and the next state.
+fn print_set(
+    state_word: &[u8],
+    state: u64,
+    value_word: &[u8],
+    value: i64,
+    complete: bool,
+    willing: bool,
+    out: Output,
+) -> Output {
+    let answer = row_status::set(state, value, complete, willing);
+    let out = print(out, value_word);
+    let out = print_name(value, out);
+    let out = print_number(out, answer.number());
+    let out = print_tab(out);
+    let out = print_next(answer, state_word, state, out);
+    output::end_line(out)
+}
+
+// The next state; a state that does not exist is printed as it was given.
+fn print_next(answer: Answer, state_word: &[u8], state: u64, out: Output) -> Output {
+    if row_status::NOT_READY < state {
+        return print(out, state_word);
+    }
+    print_number(out, answer.next(state))
+}
+
+// Prints the name that RFC 2579 gives a set value, or a hyphen, between tabs.
+fn print_name(value: i64, out: Output) -> Output {
+    match value {
+        1 => print(out, b"\tactive\t"),
+        2 => print(out, b"\tnotInService\t"),
+        3 => print(out, b"\tnotReady\t"),
+        4 => print(out, b"\tcreateAndGo\t"),
+        5 => print(out, b"\tcreateAndWait\t"),
+        6 => print(out, b"\tdestroy\t"),
+        _ => print(out, b"\t-\t"),
+    }
+}
+
+fn complain_flag(out: Output, line: u64, word: &[u8]) -> Output {
+    complain(out, line, word, b"is neither yes nor no")
+}
+
+fn complain_state(out: Output, line: u64, word: &[u8]) -> Output {
+    complain(out, line, word, b"is no state number")
 }
 
 // The message for a line, or for arguments, that the buffer cannot hold.
-fn complain_long(line: u64) {
-    complain(line, b"..", b"is too long");
+fn complain_long(out: Output, line: u64) -> Output {
+    complain(out, line, b"..", b"is too long")
 }
 
-fn complain(line: u64, word: &[u8], why: &[u8]) {
-    command::complain(
-        b"row",
+fn complain(out: Output, line: u64, word: &[u8], why: &[u8]) -> Output {
+    output::misfit(
+        out,
+        b"mib row",
         line,
         word,
         why,
-        b"./mib row STATE yes|no yes|no [VALUE]",
-    );
+        b"mib row STATE yes|no yes|no [VALUE]",
+    )
 }

@@ -8,71 +8,82 @@ ghost use lib.ListN.{length};
 ghost use Rattle.lexicon.specs.Word.{Within};
 ghost use Rattle.token.specs.Cut.{cut};
 ghost use Rattle.token.specs.Table.{longest-text, TokenTable};
-use command::Content;
-use libc::STDOUT_FILENO;
+use output::Output;
+use output::print;
+use output::print_number;
+use output::print_tab;
 use syntax::Answer;
 
-// A text may have this many bytes. One byte more is read, to tell a longer file.
+// A text may have this many bytes. The buffer for it has one more, to tell a longer file.
 const LONGEST: usize = 65536;
 
 fn main() {
-    let mut space = io::large_buffer();
-    let n = command::arguments(&mut space);
-    if space.len() < n {
-        command::complain(b"tokens", 0, b"..", b"is too long", b"./mib tokens FILE...");
+    let count = os::arg_count();
+    let mut out = output::start();
+    if count <= 1 {
+        output::finish(complain_none(out));
         return;
     }
-    if os::arg_count() <= 1 {
-        command::complain(b"tokens", 0, b"", b"is no file", b"./mib tokens FILE...");
-        return;
+    let mut name = io::buffer();
+    let mut buf = [0u8; 65537];
+    let mut i = 1;
+    while i < count {
+        out = list_argument(i, &mut name, 2 < count, &mut buf, out);
+        i += 1;
     }
-    list_files(&space[..n]);
+    output::finish(out);
 }
 
-// Lists the files whose names stand in `names` with a byte 0 between them.
-fn list_files(names: &[u8]) {
-    let count = words::count_words(names, 0);
-    let mut k = 0;
-    while k < count {
-        let name = words::part(names, 0, k);
-        if 1 < count {
-            print_line(name);
-        }
-        list_file(name);
-        k += 1;
+fn complain_none(out: Output) -> Output {
+    output::complain(out, b"mib tokens", 0, b"", b"is no file", b"mib tokens FILE...")
+}
+
+// Lists the file that argument i names; or says that the name is too long for a file's.
+fn list_argument(i: usize, name: &mut [u8], named: bool, buf: &mut [u8], out: Output) -> Output {
+    let n = os::arg(i, name);
+    if os::errno() != 0 {
+        return output::fail(out, name);
     }
+    list_file(&name[..n], named, buf, out)
 }
 
-fn print_line(line: &[u8]) {
-    io::write_all(STDOUT_FILENO, line);
-    command::end_line();
-}
-
-// Lists one file, or says why it cannot be opened or read.
-fn list_file(name: &[u8]) {
-    let mut space = [0u8; 65537];
-    let Content::Bytes(n) = command::read_file(name, &mut space) else {
-        os::fail(name);
-        return;
-    };
-    if LONGEST < n {
-        print_refusal(2, 0);
-        return;
+// Lists one file, behind a line with its name where it is named; or says why it cannot be opened or read.
+fn list_file(name: &[u8], named: bool, buf: &mut [u8], out: Output) -> Output {
+    let content = command::read_file(name, buf);
+    if content.failed {
+        return output::fail(out, name);
     }
-    list_text(&space[..n]);
+    let n = content.count;
+    if named {
+        return list_bytes(&buf[..n], print_line(name, out));
+    }
+    list_bytes(&buf[..n], out)
 }
 
-fn print_refusal(number: u64, place: u64) {
-    io::write_all(STDOUT_FILENO, b"refused\t");
-    io::print_decimal(STDOUT_FILENO, number);
-    command::print_tab();
-    io::print_decimal(STDOUT_FILENO, place);
-    command::end_line();
+fn print_line(line: &[u8], out: Output) -> Output {
+    let out = print(out, line);
+    output::end_line(out)
+}
+
+// Lists a text, or refuses it where it is too long.
+fn list_bytes(text: &[u8], out: Output) -> Output {
+    if LONGEST < text.len() {
+        return print_refusal(2, 0, out);
+    }
+    list_text(text, out)
+}
+
+fn print_refusal(number: u64, place: u64, out: Output) -> Output {
+    let out = print(output::refuse(out), b"refused\t");
+    let out = print_number(out, number);
+    let out = print_tab(out);
+    let out = print_number(out, place);
+    output::end_line(out)
 }
 
 // Lists the tokens of a text and says whether the grammar derives them, or prints the refusal of a text that does not cut
 // into tokens.
-fn list_text(text: &[u8])
+fn list_text(text: &[u8], out: Output) -> Output
     requires { ⌜ length (now text) ≤ longest-text ⌝ }
 {
     let mut classes = [0u8; 65536];
@@ -81,14 +92,14 @@ fn list_text(text: &[u8])
     let answer = syntax::parse(text, &mut classes, &mut starts, &mut ends);
     match answer {
         Answer::Derived(count) => {
-            list_tokens(text, &classes, &starts, &ends, count);
-            print_line(b"derived");
+            let out = list_tokens(text, &classes, &starts, &ends, count, out);
+            print_line(b"derived", out)
         }
         Answer::Underived(count, place) => {
-            list_tokens(text, &classes, &starts, &ends, count);
-            print_refusal(7, place.0 as u64);
+            let out = list_tokens(text, &classes, &starts, &ends, count, out);
+            print_refusal(7, place.0 as u64, out)
         }
-        Answer::Uncut(number, place) => print_refusal(number as u64, place.0 as u64),
+        Answer::Uncut(number, place) => print_refusal(number as u64, place.0 as u64, out),
     }
 }
 
@@ -99,44 +110,47 @@ fn list_tokens(
     starts: &[u32; 65536],
     ends: &[u32; 65536],
     count: usize,
-)
+    out: Output,
+) -> Output
     requires { ⌜ TokenTable (now text) (cut (now text) .tokens) (now classes) (now starts) (now ends) count ⌝ }
 {
+    let mut next = out;
     let mut i = 0;
     while i < count {
-        print_token(text, classes[i], starts[i] as usize, ends[i] as usize);
+        next = print_token(text, classes[i], starts[i] as usize, ends[i] as usize, next);
         i += 1;
     }
+    next
 }
 
-fn print_token(text: &[u8], class: u8, start: usize, end: usize)
+fn print_token(text: &[u8], class: u8, start: usize, end: usize, out: Output) -> Output
     requires { ⌜ Within (now text) start end ⌝ }
 {
-    io::print_decimal(STDOUT_FILENO, start as u64);
-    command::print_tab();
-    io::print_decimal(STDOUT_FILENO, end as u64);
-    command::print_tab();
-    print_class(text, class, start, end);
-    command::end_line();
+    let out = print_number(out, start as u64);
+    let out = print_tab(out);
+    let out = print_number(out, end as u64);
+    let out = print_tab(out);
+    let out = print_class(text, class, start, end, out);
+    output::end_line(out)
 }
 
 // A capital word or a mark as itself, and any other token by its class; the status and access words are lower too.
-fn print_class(text: &[u8], class: u8, start: usize, end: usize)
+fn print_class(text: &[u8], class: u8, start: usize, end: usize, out: Output) -> Output
     requires { ⌜ Within (now text) start end ⌝ }
 {
     if terminal::READ_CREATE < class {
-        io::write_all(STDOUT_FILENO, &text[start..end]);
+        print(out, &text[start..end])
     } else if class == terminal::UPPER {
-        io::write_all(STDOUT_FILENO, b"Upper");
+        print(out, b"Upper")
     } else if terminal::LOWER <= class {
-        io::write_all(STDOUT_FILENO, b"lower");
+        print(out, b"lower")
     } else if class <= terminal::NEGATIVE {
-        io::write_all(STDOUT_FILENO, b"number");
+        print(out, b"number")
     } else if class == terminal::TEXT {
-        io::write_all(STDOUT_FILENO, b"text");
+        print(out, b"text")
     } else if class == terminal::HEX {
-        io::write_all(STDOUT_FILENO, b"hex");
+        print(out, b"hex")
     } else {
-        io::write_all(STDOUT_FILENO, &text[start..end]);
+        print(out, &text[start..end])
     }
 }

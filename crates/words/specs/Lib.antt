@@ -1,4 +1,5 @@
 pub mod Decimal
 pub mod Flag
 pub mod Hex
+pub mod Pairs
 pub mod Words

@@ -2,6 +2,7 @@
 mod flag;
 mod hex;
 mod number;
+mod pairs;
 mod word;
 
 pub use flag::Flag;
@@ -12,6 +13,7 @@ pub use number::Natural;
 pub use number::Number;
 pub use number::read_natural;
 pub use number::read_number;
+pub use pairs::join_pairs;
 pub use word::Word;
 pub use word::count_words;
 pub use word::part;

@@ -1,36 +1,33 @@
--- `main` is safe: the output never holds more than its size.
+-- `main` is safe: the page never holds more than its size.
 -- Assumes nothing.
-use borrow.Author.Needs.{needs}
-use mathlib.Core.Path.{_≡_}
-use Prim.Native.Nat.{_-_, _≤_}
+use Rattle.card.specs.Page.{page-size}
 use lib.ListN.{length}
-use Rattle.card.specs.Output.{output-size}
+use Prim.Native.Nat.{_-_, _≤_}
+use mathlib.Core.Path.{_≡_}
+use borrow.Author.Needs.{needs}
 use Rattle.card.proofs.main.Statement.{statement}
 use Rattle.card.proofs.main.Tie as tie
 
 abbrev Inv-loop : tie.InvT-loop
-Inv-loop count text₀ out₀ name₀ at₀ i₀ text out name at i = (at ≤ output-size) × (length text ≡ 65537) × (length out ≡ output-size) × (length name ≡ 4096)
+Inv-loop count laid₀ text₀ page₀ name₀ i₀ laid text page name i = (laid .at ≤ page-size) × (length text ≡ 65537) × (length page ≡ page-size) × (length name ≡ 4096)
 
 abbrev μ-loop : tie.MeasureT-loop
-μ-loop count text₀ out₀ name₀ at₀ i₀ text out name at i = count - i
+μ-loop count laid₀ text₀ page₀ name₀ i₀ laid text page name i = count - i
 
 arg-count-requires : tie.Need-arg-count-requires Inv-loop μ-loop
 arg-count-requires c κs = search needs
 
-slice-aggregate-complain : tie.Need-slice-aggregate-complain Inv-loop μ-loop
-slice-aggregate-complain c = search needs
+start-requires : tie.Need-start-requires Inv-loop μ-loop
+start-requires c κs = search needs
 
-slice-aggregate-complain-2 : tie.Need-slice-aggregate-complain-2 Inv-loop μ-loop
-slice-aggregate-complain-2 c = search needs
+start-requires-2 : tie.Need-start-requires-2 Inv-loop μ-loop
+start-requires-2 c κs = search needs
 
-slice-aggregate-complain-3 : tie.Need-slice-aggregate-complain-3 Inv-loop μ-loop
-slice-aggregate-complain-3 c = search needs
+complain-none-requires : tie.Need-complain-none-requires Inv-loop μ-loop
+complain-none-requires c κs = search needs
 
-slice-aggregate-complain-4 : tie.Need-slice-aggregate-complain-4 Inv-loop μ-loop
-slice-aggregate-complain-4 c = search needs
-
-complain-requires : tie.Need-complain-requires Inv-loop μ-loop
-complain-requires c κs = search needs
+finish-requires : tie.Need-finish-requires Inv-loop μ-loop
+finish-requires c κs = search needs
 
 returns : tie.Need-returns Inv-loop μ-loop
 returns c = search needs
@@ -68,6 +65,9 @@ slice-aggregate-write-out c = search needs
 write-out-requires : tie.Need-write-out-requires Inv-loop μ-loop
 write-out-requires c κs = search needs
 
+finish-requires-2 : tie.Need-finish-requires-2 Inv-loop μ-loop
+finish-requires-2 c κs = search needs
+
 returns-2 : tie.Need-returns-2 Inv-loop μ-loop
 returns-2 c = search needs
 
@@ -78,11 +78,10 @@ main-spec =
     Inv-loop
     μ-loop
     arg-count-requires
-    slice-aggregate-complain
-    slice-aggregate-complain-2
-    slice-aggregate-complain-3
-    slice-aggregate-complain-4
-    complain-requires
+    start-requires
+    start-requires-2
+    complain-none-requires
+    finish-requires
     returns
     buffer-requires
     loop-holds
@@ -95,4 +94,5 @@ main-spec =
     loop-again
     slice-aggregate-write-out
     write-out-requires
+    finish-requires-2
     returns-2)

@@ -1,10 +1,10 @@
 -- `print_card` is safe: an accepted text is within the limit, and so are its definitions.
 -- Assumes nothing.
+use Rattle.card.proofs.Accepted.{accepted-within, accepted-few}
+use lib.ListN.{length-replicate}
+use Prim.Native.Nat.{ℕ}
 use native.Mathlib.Omega.{arith}
 use borrow.Author.Needs.{needs}
-use Prim.Native.Nat.{ℕ}
-use lib.ListN.{length-replicate}
-use Rattle.card.proofs.Accepted.{accepted-within, accepted-few}
 use Rattle.card.proofs.print_card.Statement.{statement}
 use Rattle.card.proofs.print_card.Tie as tie
 
@@ -29,6 +29,12 @@ enum-known-answer c = search needs
 enum-told : tie.Need-enum-told
 enum-told c = search needs
 
+laid-to-requires : tie.Need-laid-to-requires
+laid-to-requires c κs = search needs
+
+refuse-requires : tie.Need-refuse-requires
+refuse-requires c κs = search needs
+
 same-length : tie.Need-same-length
 same-length c = search needs
 
@@ -41,16 +47,29 @@ slice-aggregate-write-records c = search needs
 slice-aggregate-write-records-2 : tie.Need-slice-aggregate-write-records-2
 slice-aggregate-write-records-2 c = search needs
 
+laid-to-requires-2 : tie.Need-laid-to-requires-2
+laid-to-requires-2 c κs = search needs
+
 write-records-requires : tie.Need-write-records-requires
-write-records-requires c κs =
-    let d = c .before .before .before .before .before .before .before .before .before .before .before .before .before .before .before .before .before .before .before in
-    let r = c .before .before .before .before .before .before .before .before .before .before .before .before .before .before .read in
+write-records-requires c κs = 
+    let d = c .before .before .before .before .before .before .before .before .before .before .before .before .before .before .before .before .before .before .before .before in
+    let r = c .before .before .before .before .before .before .before .before .before .before .before .before .before .before .before .read in
     let size = length-replicate {A = ℕ} 5120 0 in
     let room = length-replicate {A = ℕ} 8192 0 in
-    let is = c .before .before .before .before .answer .given .1 in
+    let is = c .before .before .before .before .before .answer .given .1 in
+    let head = c .before .before .before .before .before .before .before .before .before .write-head in
     let within = accepted-within _ _ _ _ _ _ _ (r .ensures) (omega (arith, size)) (omega (arith, room)) is in
     let few = accepted-few _ _ _ _ _ _ _ (r .ensures) (omega (arith, size)) (omega (arith, room)) is in
-    (within, (omega (arith, few, size, r .kept .1 .0), (omega (arith, room, r .kept .1 .1 .0), (omega (arith, d .pre .0, c .before .before .before .before .before .before .before .before .write-head .kept .1 .0), omega (arith, c .before .before .before .before .before .before .before .before .write-head .ensures .1, c .before .before .before .before .before .before .before .before .before .before .make-room .ensures)))))
+    (
+      within,
+      (
+        omega (arith, few, size, r .kept .1 .0),
+        (
+          omega (arith, room, r .kept .1 .1 .0),
+          (omega (arith, d .pre .0, head .kept .1 .0), omega (arith, c .laid-to2 .ensures, head .ensures .1, c .before .before .before .before .before .before .before .before .before .before .before .make-room .ensures)),
+        ),
+      ),
+    )
 
 same-length-2 : tie.Need-same-length-2
 same-length-2 c = search needs
@@ -69,10 +88,13 @@ print-card-spec =
     write-head-requires
     enum-known-answer
     enum-told
+    laid-to-requires
+    refuse-requires
     same-length
     returns
     slice-aggregate-write-records
     slice-aggregate-write-records-2
+    laid-to-requires-2
     write-records-requires
     same-length-2
     returns-2)

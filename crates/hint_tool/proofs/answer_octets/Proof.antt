@@ -1,47 +1,34 @@
--- `answer_octets` is safe: the octets that were read lie in their buffer. Assumes nothing.
+-- `answer_octets` is safe: the digits that were joined lie in their buffer.
+-- Assumes nothing.
+use lib.ListN.{length-take}
+use native.Mathlib.Omega.{arith}
 use borrow.Author.Needs.{needs}
-use mathlib.Core.Path.{sym}
-use lib.Seq.{length-take-le}
-use Rattle.words.proofs.HexLaws.{read-fits}
 use Rattle.hint_tool.proofs.answer_octets.Statement.{statement}
 use Rattle.hint_tool.proofs.answer_octets.Tie as tie
 
 large-buffer-requires : tie.Need-large-buffer-requires
 large-buffer-requires c κs = search needs
 
-slice-aggregate-read-hex : tie.Need-slice-aggregate-read-hex
-slice-aggregate-read-hex c = search needs
-
-read-hex-requires : tie.Need-read-hex-requires
-read-hex-requires c κs = search needs
-
-enum-known-n : tie.Need-enum-known-n
-enum-known-n c = search needs
-
-enum-told : tie.Need-enum-told
-enum-told c = search needs
-
-slice-aggregate-complain : tie.Need-slice-aggregate-complain
-slice-aggregate-complain c = search needs
-
-complain-requires : tie.Need-complain-requires
-complain-requires c κs = search needs
+complain-long-requires : tie.Need-complain-long-requires
+complain-long-requires c κs = search needs
 
 returns : tie.Need-returns
 returns c = search needs
 
-array-share-prefix-space : tie.Need-array-share-prefix-space
-array-share-prefix-space c =
-    let found = c .before in
-    read-fits (found .before .before .before .read-hex .ensures) (found .n .given .1)
+slice-aggregate-join-pairs : tie.Need-slice-aggregate-join-pairs
+slice-aggregate-join-pairs c = search needs
 
-slice-aggregate-print-octets : tie.Need-slice-aggregate-print-octets
-slice-aggregate-print-octets c =
-    let found = c .before .before in
-    sym (length-take-le _ _ (read-fits (found .before .before .before .read-hex .ensures) (found .n .given .1)))
+join-pairs-requires : tie.Need-join-pairs-requires
+join-pairs-requires c κs = search needs
 
-print-octets-requires : tie.Need-print-octets-requires
-print-octets-requires c κs = search needs
+array-share-prefix-digits : tie.Need-array-share-prefix-digits
+array-share-prefix-digits c = search needs
+
+slice-aggregate-answer-digits : tie.Need-slice-aggregate-answer-digits
+slice-aggregate-answer-digits c = simp length-take (omega arith)
+
+answer-digits-requires : tie.Need-answer-digits-requires
+answer-digits-requires c κs = search needs
 
 returns-2 : tie.Need-returns-2
 returns-2 c = search needs
@@ -51,14 +38,11 @@ answer-octets-spec =
     tie.close
     (tie.spec
     large-buffer-requires
-    slice-aggregate-read-hex
-    read-hex-requires
-    enum-known-n
-    enum-told
-    slice-aggregate-complain
-    complain-requires
+    complain-long-requires
     returns
-    array-share-prefix-space
-    slice-aggregate-print-octets
-    print-octets-requires
+    slice-aggregate-join-pairs
+    join-pairs-requires
+    array-share-prefix-digits
+    slice-aggregate-answer-digits
+    answer-digits-requires
     returns-2)

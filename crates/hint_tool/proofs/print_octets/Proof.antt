@@ -1,6 +1,7 @@
--- `print_octets` is safe: what the call answers lies in the buffer. Assumes nothing.
-use borrow.Author.Needs.{needs}
+-- `print_octets` is safe: what the call answers lies in the buffer.
+-- Assumes nothing.
 use Rattle.hint.proofs.Answers.{length-fits}
+use borrow.Author.Needs.{needs}
 use Rattle.hint_tool.proofs.print_octets.Statement.{statement}
 use Rattle.hint_tool.proofs.print_octets.Tie as tie
 

@@ -10,10 +10,16 @@ use Rattle.row.proofs.read_list.Statement.{statement}
 use Rattle.row.proofs.read_list.Tie as tie
 
 abbrev Inv-loop : tie.InvT-loop
-Inv-loop buf₀ lines₀ line₀ buf lines line = (length buf ≡ length buf₀) × LinesWithin lines (length buf)
+Inv-loop space₀ lines₀ line₀ next₀ t11 space lines line next = (length space ≡ length space₀) × LinesWithin lines (length space)
 
 abbrev μ-loop : tie.MeasureT-loop
-μ-loop buf₀ lines₀ line₀ buf lines line = 18446744073709551615 - line
+μ-loop space₀ lines₀ line₀ next₀ t11 space lines line next = 18446744073709551615 - line
+
+slice-aggregate-say-waiting : tie.Need-slice-aggregate-say-waiting Inv-loop μ-loop
+slice-aggregate-say-waiting c = search needs
+
+say-waiting-requires : tie.Need-say-waiting-requires Inv-loop μ-loop
+say-waiting-requires c κs = search needs
 
 loop-holds : tie.Need-loop-holds Inv-loop μ-loop
 loop-holds c = search needs
@@ -75,11 +81,20 @@ loop-again-2 c =
 enum-told : tie.Need-enum-told Inv-loop μ-loop
 enum-told c = search needs
 
+slice-aggregate-fail : tie.Need-slice-aggregate-fail Inv-loop μ-loop
+slice-aggregate-fail c = search needs
+
+fail-requires : tie.Need-fail-requires Inv-loop μ-loop
+fail-requires c κs = search needs
+
 same-length : tie.Need-same-length Inv-loop μ-loop
 same-length c = search needs
 
 returns : tie.Need-returns Inv-loop μ-loop
 returns c = search needs
+
+enum-told-2 : tie.Need-enum-told-2 Inv-loop μ-loop
+enum-told-2 c = search needs
 
 same-length-2 : tie.Need-same-length-2 Inv-loop μ-loop
 same-length-2 c = search needs
@@ -87,12 +102,20 @@ same-length-2 c = search needs
 returns-2 : tie.Need-returns-2 Inv-loop μ-loop
 returns-2 c = search needs
 
+same-length-3 : tie.Need-same-length-3 Inv-loop μ-loop
+same-length-3 c = search needs
+
+returns-3 : tie.Need-returns-3 Inv-loop μ-loop
+returns-3 c = search needs
+
 pub read-list-spec : {M : Type 1} → statement M
 read-list-spec =
     tie.close
     (tie.spec
     Inv-loop
     μ-loop
+    slice-aggregate-say-waiting
+    say-waiting-requires
     loop-holds
     add-line
     next-line-requires
@@ -108,7 +131,12 @@ read-list-spec =
     loop-less-2
     loop-again-2
     enum-told
+    slice-aggregate-fail
+    fail-requires
     same-length
     returns
+    enum-told-2
     same-length-2
-    returns-2)
+    returns-2
+    same-length-3
+    returns-3)

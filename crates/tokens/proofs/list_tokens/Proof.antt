@@ -9,10 +9,10 @@ use Rattle.tokens.proofs.list_tokens.Statement.{statement}
 use Rattle.tokens.proofs.list_tokens.Tie as tie
 
 abbrev Inv-loop : tie.InvT-loop
-Inv-loop text classes starts ends count i₀ i = i ≤ count
+Inv-loop text classes starts ends count next₀ i₀ next i = i ≤ count
 
 abbrev μ-loop : tie.MeasureT-loop
-μ-loop text classes starts ends count i₀ i = count - i
+μ-loop text classes starts ends count next₀ i₀ next i = count - i
 
 -- the entry at i lies in the text, which is no longer than an address allows
 abbrev Turn : Type 0

@@ -1,92 +1,81 @@
--- `main` is safe because the arguments that fit the buffer are a part of it.
+-- `main` is safe: the buffers keep their lengths. The measure is the files left.
 -- Assumes nothing.
-use native.Mathlib.Omega.{arith}
-use lib.ListN.{length-take}
+use lib.ListN.{length}
+use Prim.Native.Nat.{_-_}
+use mathlib.Core.Path.{_≡_}
 use borrow.Author.Needs.{needs}
 use Rattle.tokens.proofs.main.Statement.{statement}
 use Rattle.tokens.proofs.main.Tie as tie
 
-large-buffer-requires : tie.Need-large-buffer-requires
-large-buffer-requires c κs = search needs
+abbrev Inv-loop : tie.InvT-loop
+Inv-loop count out₀ name₀ buf₀ i₀ out name buf i = (length name ≡ 4096) × (length buf ≡ 65537)
 
-slice-aggregate-arguments : tie.Need-slice-aggregate-arguments
-slice-aggregate-arguments c = search needs
+abbrev μ-loop : tie.MeasureT-loop
+μ-loop count out₀ name₀ buf₀ i₀ out name buf i = count - i
 
-arguments-requires : tie.Need-arguments-requires
-arguments-requires c κs = search needs
-
-slice-aggregate-complain : tie.Need-slice-aggregate-complain
-slice-aggregate-complain c = search needs
-
-slice-aggregate-complain-2 : tie.Need-slice-aggregate-complain-2
-slice-aggregate-complain-2 c = search needs
-
-slice-aggregate-complain-3 : tie.Need-slice-aggregate-complain-3
-slice-aggregate-complain-3 c = search needs
-
-slice-aggregate-complain-4 : tie.Need-slice-aggregate-complain-4
-slice-aggregate-complain-4 c = search needs
-
-complain-requires : tie.Need-complain-requires
-complain-requires c κs = search needs
-
-returns : tie.Need-returns
-returns c = search needs
-
-arg-count-requires : tie.Need-arg-count-requires
+arg-count-requires : tie.Need-arg-count-requires Inv-loop μ-loop
 arg-count-requires c κs = search needs
 
-slice-aggregate-complain-5 : tie.Need-slice-aggregate-complain-5
-slice-aggregate-complain-5 c = search needs
+start-requires : tie.Need-start-requires Inv-loop μ-loop
+start-requires c κs = search needs
 
-slice-aggregate-complain-6 : tie.Need-slice-aggregate-complain-6
-slice-aggregate-complain-6 c = search needs
+complain-none-requires : tie.Need-complain-none-requires Inv-loop μ-loop
+complain-none-requires c κs = search needs
 
-slice-aggregate-complain-7 : tie.Need-slice-aggregate-complain-7
-slice-aggregate-complain-7 c = search needs
+finish-requires : tie.Need-finish-requires Inv-loop μ-loop
+finish-requires c κs = search needs
 
-slice-aggregate-complain-8 : tie.Need-slice-aggregate-complain-8
-slice-aggregate-complain-8 c = search needs
+returns : tie.Need-returns Inv-loop μ-loop
+returns c = search needs
 
-complain-requires-2 : tie.Need-complain-requires-2
-complain-requires-2 c κs = search needs
+buffer-requires : tie.Need-buffer-requires Inv-loop μ-loop
+buffer-requires c κs = search needs
 
-returns-2 : tie.Need-returns-2
+loop-holds : tie.Need-loop-holds Inv-loop μ-loop
+loop-holds c = search needs
+
+slice-aggregate-list-argument : tie.Need-slice-aggregate-list-argument Inv-loop μ-loop
+slice-aggregate-list-argument c = search needs
+
+slice-aggregate-list-argument-2 : tie.Need-slice-aggregate-list-argument-2 Inv-loop μ-loop
+slice-aggregate-list-argument-2 c = search needs
+
+list-argument-requires : tie.Need-list-argument-requires Inv-loop μ-loop
+list-argument-requires c κs = search needs
+
+add-i : tie.Need-add-i Inv-loop μ-loop
+add-i c = search needs
+
+loop-less : tie.Need-loop-less Inv-loop μ-loop
+loop-less c = search needs
+
+loop-again : tie.Need-loop-again Inv-loop μ-loop
+loop-again c = search needs
+
+finish-requires-2 : tie.Need-finish-requires-2 Inv-loop μ-loop
+finish-requires-2 c κs = search needs
+
+returns-2 : tie.Need-returns-2 Inv-loop μ-loop
 returns-2 c = search needs
-
-array-share-prefix-space : tie.Need-array-share-prefix-space
-array-share-prefix-space c = search needs
-
-slice-aggregate-list-files : tie.Need-slice-aggregate-list-files
-slice-aggregate-list-files c = simp length-take (omega arith)
-
-list-files-requires : tie.Need-list-files-requires
-list-files-requires c κs = search needs
-
-returns-3 : tie.Need-returns-3
-returns-3 c = search needs
 
 pub main-spec : {M : Type 1} → statement M
 main-spec =
     tie.close
     (tie.spec
-    large-buffer-requires
-    slice-aggregate-arguments
-    arguments-requires
-    slice-aggregate-complain
-    slice-aggregate-complain-2
-    slice-aggregate-complain-3
-    slice-aggregate-complain-4
-    complain-requires
-    returns
+    Inv-loop
+    μ-loop
     arg-count-requires
-    slice-aggregate-complain-5
-    slice-aggregate-complain-6
-    slice-aggregate-complain-7
-    slice-aggregate-complain-8
-    complain-requires-2
-    returns-2
-    array-share-prefix-space
-    slice-aggregate-list-files
-    list-files-requires
-    returns-3)
+    start-requires
+    complain-none-requires
+    finish-requires
+    returns
+    buffer-requires
+    loop-holds
+    slice-aggregate-list-argument
+    slice-aggregate-list-argument-2
+    list-argument-requires
+    add-i
+    loop-less
+    loop-again
+    finish-requires-2
+    returns-2)

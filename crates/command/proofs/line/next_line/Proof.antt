@@ -1,7 +1,7 @@
 -- `command::line::next_line` is right: a line end that was found lies in the buffer, and moving keeps the buffer's length.
 -- Assumes nothing.
-use mathlib.Core.Path.{subst}
 use Rattle.command.specs.Within.{LineWithin}
+use mathlib.Core.Path.{subst}
 use borrow.Author.Needs.{needs}
 use Rattle.command.proofs.line.next_line.Statement.{statement}
 use Rattle.command.proofs.line.next_line.Tie as tie
@@ -9,8 +9,11 @@ use Rattle.command.proofs.line.next_line.Tie as tie
 find-requires : tie.Need-find-requires
 find-requires c κs = search needs
 
-add-t11 : tie.Need-add-t11
-add-t11 c = search needs
+before-return-requires : tie.Need-before-return-requires
+before-return-requires c κs = search needs
+
+add-t14 : tie.Need-add-t14
+add-t14 c = search needs
 
 same-length : tie.Need-same-length
 same-length c = search needs
@@ -41,7 +44,8 @@ next-line-spec =
     tie.close
     (tie.spec
     find-requires
-    add-t11
+    before-return-requires
+    add-t14
     same-length
     returns
     sub-held

@@ -1,7 +1,7 @@
--- `command::line::skip_line` meets its contract: a line end that was found lies in what was read. Assumes nothing.
-use mathlib.Core.Path.{_≡_}
-use Prim.Native.Nat.{_-_}
+-- `command::line::skip_line` meets its contract: a line end that was found lies in what was read.
+-- Assumes nothing.
 use lib.ListN.{length}
+use mathlib.Core.Path.{_≡_}
 use borrow.Author.Needs.{needs}
 use Rattle.command.proofs.line.skip_line.Statement.{statement}
 use Rattle.command.proofs.line.skip_line.Tie as tie
@@ -24,8 +24,8 @@ read-more-requires c κs = search needs
 find-requires : tie.Need-find-requires Inv-loop μ-loop
 find-requires c κs = search needs
 
-add-t11 : tie.Need-add-t11 Inv-loop μ-loop
-add-t11 c = search needs
+add-t12 : tie.Need-add-t12 Inv-loop μ-loop
+add-t12 c = search needs
 
 same-length : tie.Need-same-length Inv-loop μ-loop
 same-length c = search needs
@@ -61,7 +61,7 @@ skip-line-spec =
     sub-turns
     read-more-requires
     find-requires
-    add-t11
+    add-t12
     same-length
     returns
     loop-less

@@ -1,4 +1,4 @@
--- The output buffer of the program. Assumes nothing.
+-- The buffer that lines are laid into. Assumes nothing.
 use Prim.Native.Nat.{ℕ}
 
 -- the most bytes of a file's name
@@ -6,8 +6,8 @@ abbrev pub longest-path : ℕ
 longest-path = 4096
 
 -- the bytes of the buffer, and how many make it full
-abbrev pub output-size : ℕ
-output-size = 196608
+abbrev pub page-size : ℕ
+page-size = 196608
 
 abbrev pub full : ℕ
 full = 8192

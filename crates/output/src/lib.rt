@@ -1,0 +1,87 @@
+// What a program writes: its standard output, messages on standard error, and the status that it ends with. Nothing here knows of SMI.
+mod message;
+
+use libc::STDOUT_FILENO;
+pub use message::complain;
+pub use message::fail;
+pub use message::misfit;
+pub use message::say_waiting;
+
+// The descriptor on which a program says its status, since the language has none: one digit, as it ends. Nobody need read it.
+const STATUS_FILENO: i32 = 3;
+
+// The statuses: all was answered and accepted; something was refused; there was a complaint.
+const ACCEPTED: u8 = 0;
+
+const REFUSED: u8 = 1;
+
+const COMPLAINT: u8 = 2;
+
+// How the output went so far.
+pub struct Output {
+    pub status: u8,
+    // A write failed. It was said once, and nothing is written after it.
+    pub lost: bool,
+}
+
+pub fn start() -> Output {
+    Output {
+        status: ACCEPTED,
+        lost: false,
+    }
+}
+
+// Something was refused.
+pub fn refuse(out: Output) -> Output {
+    if out.status == COMPLAINT {
+        return out;
+    }
+    Output {
+        status: REFUSED,
+        lost: out.lost,
+    }
+}
+
+// Something was refused, unless the number is 0.
+pub fn judge(out: Output, number: u64) -> Output {
+    if number == 0 {
+        return out;
+    }
+    refuse(out)
+}
+
+// Writes bytes to standard output, as they are.
+pub fn print(out: Output, bytes: &[u8]) -> Output {
+    if out.lost {
+        return out;
+    }
+    if io::write_all(STDOUT_FILENO, bytes) {
+        return out;
+    }
+    os::fail(b"mib: standard output");
+    Output {
+        status: COMPLAINT,
+        lost: true,
+    }
+}
+
+// Writes a number in decimal.
+pub fn print_number(out: Output, n: u64) -> Output {
+    let mut digits = [0u8; 20];
+    let count = io::decimal(n, &mut digits);
+    print(out, &digits[..count])
+}
+
+// What stands between the words of a line, and behind the last.
+pub fn print_tab(out: Output) -> Output {
+    print(out, b"\t")
+}
+
+pub fn end_line(out: Output) -> Output {
+    print(out, b"\n")
+}
+
+// Says the status. It is the last thing that a program does.
+pub fn finish(out: Output) {
+    io::print_decimal(STATUS_FILENO, out.status as u64);
+}
