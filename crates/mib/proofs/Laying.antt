@@ -1,0 +1,32 @@
+-- Laws of laying words over a slice: each word is one store, and words beyond its end are never laid.
+-- Assumes nothing.
+use Prim.Native.Nat.{ℕ, zero, suc, _+_, _≤_, _<_}
+use native.Mathlib.Numerals.{add-one}
+use native.Mathlib.Omega.{arith}
+use mathlib.Core.Path.{_≡_, refl, ap}
+use mathlib.Core.List.{List, [], _∷_}
+use lib.ListN.{length, getD, take, set}
+use Rattle.mib.specs.Raw.{laid}
+
+-- the next word is one store
+laid-suc : (words slice : List ℕ) (i : ℕ) → i < length words → i < length slice
+    → set (laid (take i words) slice) i (getD words i 0) ≡ laid (take (suc i) words) slice
+unfolding laid
+laid-suc [] slice i h l = absurd (omega arith)
+laid-suc (word ∷ words) [] i h l = absurd (omega arith)
+laid-suc (word ∷ words) (old ∷ slice) zero h l = refl
+laid-suc (word ∷ words) (old ∷ slice) (suc i) h l = ap (λ (s : List ℕ). word ∷ s) (laid-suc words slice i (omega arith) (omega arith))
+
+pub laid-next : (words slice : List ℕ) (i : ℕ) → i < length words → i < length slice
+    → set (laid (take i words) slice) i (getD words i 0) ≡ laid (take (i + 1) words) slice
+laid-next words slice i h l = rw add-one (laid-suc words slice i h l)
+
+-- words beyond the slice's end are not laid
+pub laid-full : (words slice : List ℕ) (i : ℕ) → length slice ≤ i → laid (take i words) slice ≡ laid words slice
+unfolding laid
+laid-full [] slice zero h = refl
+laid-full [] slice (suc i) h = refl
+laid-full (word ∷ words) [] zero h = refl
+laid-full (word ∷ words) [] (suc i) h = refl
+laid-full (word ∷ words) (old ∷ slice) zero h = absurd (omega arith)
+laid-full (word ∷ words) (old ∷ slice) (suc i) h = ap (λ (s : List ℕ). word ∷ s) (laid-full words slice i (omega arith))

@@ -1,0 +1,122 @@
+// The library for C and for Rust: the questions as exported functions. Nothing is asked of what is lent. An answer goes into a slice of
+// words that the caller lends, as far as it reaches: words that an answer doesn't have stay as they were.
+ghost use mathlib.Core.Path.{_≡_};
+ghost use lib.ListN.{length};
+ghost use Rattle.reader.specs.Buffers.{number-of, place-of, count-of};
+ghost use Rattle.hint.specs.Answer.{octets-part, integer-part, octets-verdict, integer-verdict};
+ghost use Rattle.mib.specs.Raw.{laid, ReadRaw, PrintedRaw, set-raw};
+use reader::Answer as Reading;
+
+// Lays words over the first of a slice, as far as it reaches.
+fn lay(words: &[usize], answer: &mut [usize])
+    ensures { λ _. ⌜ now (answer .exit) ≡ laid (now (words .entry)) (now (answer .entry)) ⌝ }
+{
+    let mut i = 0;
+    while i < words.len() {
+        if answer.len() <= i {
+            return;
+        }
+        answer[i] = words[i];
+        i += 1;
+    }
+}
+
+// The number, the place and the count of the reader's answer.
+fn number_of(reading: Reading) -> usize
+    ensures { λ r. ⌜ r ≡ number-of reading ⌝ }
+{
+    match reading {
+        Reading::Accepted(_) => 0,
+        Reading::Refused(number, _) => number as usize,
+    }
+}
+
+fn place_of(reading: Reading) -> usize
+    ensures { λ r. ⌜ r ≡ place-of reading ⌝ }
+{
+    match reading {
+        Reading::Accepted(_) => 0,
+        Reading::Refused(_, place) => place.0,
+    }
+}
+
+fn count_of(reading: Reading) -> usize
+    ensures { λ r. ⌜ r ≡ count-of reading ⌝ }
+{
+    match reading {
+        Reading::Accepted(count) => count,
+        Reading::Refused(_, _) => 0,
+    }
+}
+
+// Reads a module, and lays number, place and count.
+#[no_mangle]
+pub extern "C" fn mib_read_raw(
+    text: &[u8],
+    records: &mut [u32],
+    numbers: &mut [u32],
+    answer: &mut [usize],
+)
+    ensures { λ _. ⌜ ReadRaw (now (text .entry)) (now (records .entry)) (now (records .exit)) (now (numbers .entry)) (now (numbers .exit))
+        (now (answer .entry)) (now (answer .exit)) ⌝ }
+{
+    let reading = reader::read(text, records, numbers);
+    let words = [number_of(reading), place_of(reading), count_of(reading)];
+    lay(&words, answer);
+}
+
+// Prints octets by a hint, and lays number, place and length.
+#[no_mangle]
+pub extern "C" fn mib_print_octets_raw(
+    hint: &[u8],
+    octets: &[u8],
+    out: &mut [u8],
+    answer: &mut [usize],
+)
+    ensures { λ _. ⌜ PrintedRaw octets-part (octets-verdict (length (now (out .entry))) (now (hint .entry)) (now (octets .entry)))
+        (now (out .entry)) (now (out .exit)) (now (answer .entry)) (now (answer .exit)) ⌝ }
+{
+    let printing = hint::octets(hint, octets, out);
+    let words = [
+        printing.number() as usize,
+        printing.place(),
+        printing.length(),
+    ];
+    lay(&words, answer);
+}
+
+// Prints an integer by a hint, and lays the same.
+#[no_mangle]
+pub extern "C" fn mib_print_integer_raw(
+    hint: &[u8],
+    value: i64,
+    out: &mut [u8],
+    answer: &mut [usize],
+)
+    ensures { λ _. ⌜ PrintedRaw integer-part (integer-verdict (length (now (out .entry))) (now (hint .entry)) value)
+        (now (out .entry)) (now (out .exit)) (now (answer .entry)) (now (answer .exit)) ⌝ }
+{
+    let printing = hint::integer(hint, value, out);
+    let words = [
+        printing.number() as usize,
+        printing.place(),
+        printing.length(),
+    ];
+    lay(&words, answer);
+}
+
+// Answers a set of RowStatus, and lays the number and the row's next state. A flag is yes when it isn't 0.
+#[no_mangle]
+pub extern "C" fn mib_set_row_raw(
+    state: u64,
+    value: i64,
+    complete: u32,
+    willing: u32,
+    answer: &mut [usize],
+)
+    ensures { λ _. ⌜ now (answer .exit) ≡ set-raw state value complete willing (now (answer .entry)) ⌝ }
+{
+    let step = row_status::set(state, value, complete != 0, willing != 0);
+    let words = [step.number() as usize, step.next(state) as usize];
+    lay(&words, answer);
+}
