@@ -1,11 +1,16 @@
 // The library for C and for Rust: the questions as exported functions. Nothing is asked of what is lent. An answer goes into a slice of
 // words that the caller lends, as far as it reaches: words that an answer doesn't have stay as they were.
 ghost use mathlib.Core.Path.{_≡_};
+ghost use mathlib.Core.List.{_∷_, []};
 ghost use lib.ListN.{length};
 ghost use Rattle.reader.specs.Buffers.{number-of, place-of, count-of};
+ghost use Rattle.hint.specs.Answer.{number-of as printed-number, place-of as printed-place, length-of as printed-length};
 ghost use Rattle.hint.specs.Answer.{octets-part, integer-part, octets-verdict, integer-verdict};
-ghost use Rattle.mib.specs.Raw.{laid, ReadRaw, PrintedRaw, set-raw};
+ghost use Rattle.row_status.specs.RowStatus.{outcome};
+ghost use Rattle.mib.specs.Raw.{laid, step-words, ReadRaw, PrintedRaw, set-raw};
+use hint::Answer as Printing;
 use reader::Answer as Reading;
+use row_status::Answer as Step;
 
 // Lays words over the first of a slice, as far as it reaches.
 fn lay(words: &[usize], answer: &mut [usize])
@@ -49,6 +54,34 @@ fn count_of(reading: Reading) -> usize
     }
 }
 
+// Lays number, place and count of the reader's answer.
+fn lay_reading(reading: Reading, answer: &mut [usize])
+    ensures { λ _. ⌜ now (answer .exit) ≡ laid (number-of reading ∷ place-of reading ∷ count-of reading ∷ []) (now (answer .entry)) ⌝ }
+{
+    let words = [number_of(reading), place_of(reading), count_of(reading)];
+    lay(&words, answer);
+}
+
+// Lays number, place and length of a printer's answer.
+fn lay_printing(printing: Printing, answer: &mut [usize])
+    ensures { λ _. ⌜ now (answer .exit) ≡ laid (printed-number printing ∷ printed-place printing ∷ printed-length printing ∷ []) (now (answer .entry)) ⌝ }
+{
+    let words = [
+        printing.number() as usize,
+        printing.place(),
+        printing.length(),
+    ];
+    lay(&words, answer);
+}
+
+// Lays the number of a row's answer, and the next state of a row in the state.
+fn lay_step(step: Step, state: u64, answer: &mut [usize])
+    ensures { λ _. ⌜ now (answer .exit) ≡ laid (step-words (outcome state step)) (now (answer .entry)) ⌝ }
+{
+    let words = [step.number() as usize, step.next(state) as usize];
+    lay(&words, answer);
+}
+
 // Reads a module, and lays number, place and count.
 #[no_mangle]
 pub extern "C" fn mib_read_raw(
@@ -60,9 +93,7 @@ pub extern "C" fn mib_read_raw(
     ensures { λ _. ⌜ ReadRaw (now (text .entry)) (now (records .entry)) (now (records .exit)) (now (numbers .entry)) (now (numbers .exit))
         (now (answer .entry)) (now (answer .exit)) ⌝ }
 {
-    let reading = reader::read(text, records, numbers);
-    let words = [number_of(reading), place_of(reading), count_of(reading)];
-    lay(&words, answer);
+    lay_reading(reader::read(text, records, numbers), answer);
 }
 
 // Prints octets by a hint, and lays number, place and length.
@@ -76,13 +107,7 @@ pub extern "C" fn mib_print_octets_raw(
     ensures { λ _. ⌜ PrintedRaw octets-part (octets-verdict (length (now (out .entry))) (now (hint .entry)) (now (octets .entry)))
         (now (out .entry)) (now (out .exit)) (now (answer .entry)) (now (answer .exit)) ⌝ }
 {
-    let printing = hint::octets(hint, octets, out);
-    let words = [
-        printing.number() as usize,
-        printing.place(),
-        printing.length(),
-    ];
-    lay(&words, answer);
+    lay_printing(hint::octets(hint, octets, out), answer);
 }
 
 // Prints an integer by a hint, and lays the same.
@@ -96,13 +121,7 @@ pub extern "C" fn mib_print_integer_raw(
     ensures { λ _. ⌜ PrintedRaw integer-part (integer-verdict (length (now (out .entry))) (now (hint .entry)) value)
         (now (out .entry)) (now (out .exit)) (now (answer .entry)) (now (answer .exit)) ⌝ }
 {
-    let printing = hint::integer(hint, value, out);
-    let words = [
-        printing.number() as usize,
-        printing.place(),
-        printing.length(),
-    ];
-    lay(&words, answer);
+    lay_printing(hint::integer(hint, value, out), answer);
 }
 
 // Answers a set of RowStatus, and lays the number and the row's next state. A flag is yes when it isn't 0.
@@ -117,6 +136,5 @@ pub extern "C" fn mib_set_row_raw(
     ensures { λ _. ⌜ now (answer .exit) ≡ set-raw state value complete willing (now (answer .entry)) ⌝ }
 {
     let step = row_status::set(state, value, complete != 0, willing != 0);
-    let words = [step.number() as usize, step.next(state) as usize];
-    lay(&words, answer);
+    lay_step(step, state, answer);
 }

@@ -1,0 +1,29 @@
+-- `lay_printing` is right: the words are those that the answer gives.
+-- Assumes nothing.
+use borrow.Author.Needs.{needs}
+use Rattle.mib.proofs.lay_printing.Statement.{statement}
+use Rattle.mib.proofs.lay_printing.Tie as tie
+
+number-requires : tie.Need-number-requires
+number-requires c κs = search needs
+
+place-requires : tie.Need-place-requires
+place-requires c κs = search needs
+
+length-requires : tie.Need-length-requires
+length-requires c κs = search needs
+
+slice-aggregate-lay : tie.Need-slice-aggregate-lay
+slice-aggregate-lay c = search needs
+
+lay-requires : tie.Need-lay-requires
+lay-requires c κs = search needs
+
+same-length : tie.Need-same-length
+same-length c = search needs
+
+returns : tie.Need-returns
+returns c = cc
+
+pub lay-printing-spec : {M : Type 1} → statement M
+lay-printing-spec = tie.close (tie.spec number-requires place-requires length-requires slice-aggregate-lay lay-requires same-length returns)

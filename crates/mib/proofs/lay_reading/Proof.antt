@@ -1,0 +1,29 @@
+-- `lay_reading` is right: the words are those that the answer gives.
+-- Assumes nothing.
+use borrow.Author.Needs.{needs}
+use Rattle.mib.proofs.lay_reading.Statement.{statement}
+use Rattle.mib.proofs.lay_reading.Tie as tie
+
+number-of-requires : tie.Need-number-of-requires
+number-of-requires c κs = search needs
+
+place-of-requires : tie.Need-place-of-requires
+place-of-requires c κs = search needs
+
+count-of-requires : tie.Need-count-of-requires
+count-of-requires c κs = search needs
+
+slice-aggregate-lay : tie.Need-slice-aggregate-lay
+slice-aggregate-lay c = search needs
+
+lay-requires : tie.Need-lay-requires
+lay-requires c κs = search needs
+
+same-length : tie.Need-same-length
+same-length c = search needs
+
+returns : tie.Need-returns
+returns c = cc
+
+pub lay-reading-spec : {M : Type 1} → statement M
+lay-reading-spec = tie.close (tie.spec number-of-requires place-of-requires count-of-requires slice-aggregate-lay lay-requires same-length returns)

@@ -1,0 +1,26 @@
+-- `lay_step` is right: the words are those that the answer gives.
+-- Assumes nothing.
+use borrow.Author.Needs.{needs}
+use Rattle.mib.proofs.lay_step.Statement.{statement}
+use Rattle.mib.proofs.lay_step.Tie as tie
+
+number-requires : tie.Need-number-requires
+number-requires c κs = search needs
+
+next-requires : tie.Need-next-requires
+next-requires c κs = search needs
+
+slice-aggregate-lay : tie.Need-slice-aggregate-lay
+slice-aggregate-lay c = search needs
+
+lay-requires : tie.Need-lay-requires
+lay-requires c κs = search needs
+
+same-length : tie.Need-same-length
+same-length c = search needs
+
+returns : tie.Need-returns
+returns c = cc
+
+pub lay-step-spec : {M : Type 1} → statement M
+lay-step-spec = tie.close (tie.spec number-requires next-requires slice-aggregate-lay lay-requires same-length returns)
