@@ -30,3 +30,10 @@ laid-full (word ∷ words) [] zero h = refl
 laid-full (word ∷ words) [] (suc i) h = refl
 laid-full (word ∷ words) (old ∷ slice) zero h = absurd (omega arith)
 laid-full (word ∷ words) (old ∷ slice) (suc i) h = ap (λ (s : List ℕ). word ∷ s) (laid-full words slice i (omega arith))
+
+-- lists of equal words
+pub same-two : {a b x y : ℕ} → a ≡ x → b ≡ y → _≡_ {A = List ℕ} (a ∷ b ∷ []) (x ∷ y ∷ [])
+same-two h i = cc
+
+pub same-three : {a b c x y z : ℕ} → a ≡ x → b ≡ y → c ≡ z → _≡_ {A = List ℕ} (a ∷ b ∷ c ∷ []) (x ∷ y ∷ z ∷ [])
+same-three h i j = cc

@@ -1,6 +1,11 @@
 -- `lay_printing` is right: the words are those that the answer gives.
 -- Assumes nothing.
+use Prim.Native.Nat.{ℕ}
+use mathlib.Core.Path.{ap, _∙_}
+use mathlib.Core.List.{List}
 use borrow.Author.Needs.{needs}
+use Rattle.mib.specs.Raw.{laid}
+use Rattle.mib.proofs.Laying.{same-three}
 use Rattle.mib.proofs.lay_printing.Statement.{statement}
 use Rattle.mib.proofs.lay_printing.Tie as tie
 
@@ -23,7 +28,10 @@ same-length : tie.Need-same-length
 same-length c = search needs
 
 returns : tie.Need-returns
-returns c = cc
+returns c =
+    let d = c .before .before .before .before .before in
+    c .before .before .lay .ensures
+    ∙ ap (λ (l : List ℕ). laid l (d .before .before .before .before .args .answer .now)) (same-three (d .before .before .number .ensures) (d .before .place .ensures) (d .length .ensures))
 
 pub lay-printing-spec : {M : Type 1} → statement M
 lay-printing-spec = tie.close (tie.spec number-requires place-requires length-requires slice-aggregate-lay lay-requires same-length returns)

@@ -1,6 +1,11 @@
 -- `lay_step` is right: the words are those that the answer gives.
 -- Assumes nothing.
+use Prim.Native.Nat.{ℕ}
+use mathlib.Core.Path.{ap, _∙_}
+use mathlib.Core.List.{List}
 use borrow.Author.Needs.{needs}
+use Rattle.mib.specs.Raw.{laid}
+use Rattle.mib.proofs.Laying.{same-two}
 use Rattle.mib.proofs.lay_step.Statement.{statement}
 use Rattle.mib.proofs.lay_step.Tie as tie
 
@@ -20,7 +25,10 @@ same-length : tie.Need-same-length
 same-length c = search needs
 
 returns : tie.Need-returns
-returns c = cc
+returns c =
+    let d = c .before .before .before .before .before in
+    c .before .before .lay .ensures
+    ∙ ap (λ (l : List ℕ). laid l (d .before .before .before .args .answer .now)) (same-two (d .before .number .ensures) (d .next .ensures))
 
 pub lay-step-spec : {M : Type 1} → statement M
 lay-step-spec = tie.close (tie.spec number-requires next-requires slice-aggregate-lay lay-requires same-length returns)
