@@ -10,22 +10,22 @@ use Rattle.mib.proofs.lay_printing.Statement.{statement}
 use Rattle.mib.proofs.lay_printing.Tie as tie
 
 number-requires : tie.Need-number-requires
-number-requires c κs = search needs
+number-requires c κs = tt
 
 place-requires : tie.Need-place-requires
-place-requires c κs = search needs
+place-requires c κs = tt
 
 length-requires : tie.Need-length-requires
-length-requires c κs = search needs
+length-requires c κs = tt
 
 slice-aggregate-lay : tie.Need-slice-aggregate-lay
 slice-aggregate-lay c = search needs
 
 lay-requires : tie.Need-lay-requires
-lay-requires c κs = search needs
+lay-requires c κs = tt
 
 same-length : tie.Need-same-length
-same-length c = search needs
+same-length c = c .before .before .lay .kept .1 .0
 
 returns : tie.Need-returns
 returns c =

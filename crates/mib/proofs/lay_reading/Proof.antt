@@ -10,22 +10,22 @@ use Rattle.mib.proofs.lay_reading.Statement.{statement}
 use Rattle.mib.proofs.lay_reading.Tie as tie
 
 number-of-requires : tie.Need-number-of-requires
-number-of-requires c κs = search needs
+number-of-requires c κs = tt
 
 place-of-requires : tie.Need-place-of-requires
-place-of-requires c κs = search needs
+place-of-requires c κs = tt
 
 count-of-requires : tie.Need-count-of-requires
-count-of-requires c κs = search needs
+count-of-requires c κs = tt
 
 slice-aggregate-lay : tie.Need-slice-aggregate-lay
 slice-aggregate-lay c = search needs
 
 lay-requires : tie.Need-lay-requires
-lay-requires c κs = search needs
+lay-requires c κs = tt
 
 same-length : tie.Need-same-length
-same-length c = search needs
+same-length c = c .before .before .lay .kept .1 .0
 
 returns : tie.Need-returns
 returns c =

@@ -3,20 +3,19 @@
 use mathlib.Core.Path.{ap, _∙_}
 use lib.IntN.{ℤ}
 use mir.Facts.{toZ-ofZ}
-use borrow.Author.Needs.{needs}
 use Rattle.row_status.specs.RowStatus.{Outcome, row-status}
 use Rattle.mib.specs.Raw.{laid, is-yes, step-words}
 use Rattle.mib.proofs.mib_set_row_raw.Statement.{statement}
 use Rattle.mib.proofs.mib_set_row_raw.Tie as tie
 
 set-requires : tie.Need-set-requires
-set-requires c κs = search needs
+set-requires c κs = tt
 
 lay-step-requires : tie.Need-lay-step-requires
-lay-step-requires c κs = search needs
+lay-step-requires c κs = tt
 
 same-length : tie.Need-same-length
-same-length c = search needs
+same-length c = c .before .before .lay-step .kept .1 .1 .0
 
 returns : tie.Need-returns
 returns c =
