@@ -58,7 +58,8 @@ extern "C" {
 #define MIB_LONGEST_VALUE 1024
 #define MIB_LONGEST_HINT 255
 
-/* The stack that a call of mib_read may take is below this. The other calls take little. */
+/* A call of mib_read takes up to a megabyte of stack, as measured; a thread that calls it has this much left. The other
+ * calls take little. */
 #define MIB_STACK_BYTES (1024 * 1024)
 
 /* ---- Records ---- */
