@@ -58,8 +58,10 @@ fn count_of(reading: Reading) -> usize
 fn lay_reading(reading: Reading, answer: &mut [usize])
     ensures { λ _. ⌜ now (answer .exit) ≡ laid (number-of reading ∷ place-of reading ∷ count-of reading ∷ []) (now (answer .entry)) ⌝ }
 {
-    let words = [number_of(reading), place_of(reading), count_of(reading)];
-    lay(&words, answer);
+    let number = number_of(reading);
+    let place = place_of(reading);
+    let count = count_of(reading);
+    lay(&[number, place, count], answer);
 }
 
 // Lays number, place and length of a printer's answer.
