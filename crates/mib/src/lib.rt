@@ -68,20 +68,19 @@ fn lay_reading(reading: Reading, answer: &mut [usize])
 fn lay_printing(printing: Printing, answer: &mut [usize])
     ensures { λ _. ⌜ now (answer .exit) ≡ laid (printed-number printing ∷ printed-place printing ∷ printed-length printing ∷ []) (now (answer .entry)) ⌝ }
 {
-    let words = [
-        printing.number() as usize,
-        printing.place(),
-        printing.length(),
-    ];
-    lay(&words, answer);
+    let number = printing.number() as usize;
+    let place = printing.place();
+    let length = printing.length();
+    lay(&[number, place, length], answer);
 }
 
 // Lays the number of a row's answer, and the next state of a row in the state.
 fn lay_step(step: Step, state: u64, answer: &mut [usize])
     ensures { λ _. ⌜ now (answer .exit) ≡ laid (step-words (outcome state step)) (now (answer .entry)) ⌝ }
 {
-    let words = [step.number() as usize, step.next(state) as usize];
-    lay(&words, answer);
+    let number = step.number() as usize;
+    let next = step.next(state) as usize;
+    lay(&[number, next], answer);
 }
 
 // Reads a module, and lays number, place and count.
