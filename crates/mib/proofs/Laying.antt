@@ -1,11 +1,11 @@
--- Laws of laying words over a slice: each word is one store, and words beyond its end are never laid.
+-- Laws of laying words over a slice: each word is one store, words beyond its end are never laid, and what that comes to.
 -- Assumes nothing.
 use Prim.Native.Nat.{ℕ, zero, suc, _+_, _≤_, _<_}
 use native.Mathlib.Numerals.{add-one}
 use native.Mathlib.Omega.{arith}
 use mathlib.Core.Path.{_≡_, refl, ap}
-use mathlib.Core.List.{List, [], _∷_}
-use lib.ListN.{length, getD, take, set}
+use mathlib.Core.List.{List, [], _∷_, _++_}
+use lib.ListN.{length, getD, take, drop, set}
 use Rattle.mib.specs.Raw.{laid}
 
 -- the next word is one store
@@ -30,6 +30,14 @@ laid-full (word ∷ words) [] zero h = refl
 laid-full (word ∷ words) [] (suc i) h = refl
 laid-full (word ∷ words) (old ∷ slice) zero h = absurd (omega arith)
 laid-full (word ∷ words) (old ∷ slice) (suc i) h = ap (λ (s : List ℕ). word ∷ s) (laid-full words slice i (omega arith))
+
+-- what is laid, in the terms of lists: as many of the words as the slice is long, and then what it has beyond as many as they are
+pub laid-is : (words slice : List ℕ) → laid words slice ≡ take (length slice) words ++ drop (length words) slice
+unfolding laid
+laid-is [] [] = refl
+laid-is [] (old ∷ slice) = refl
+laid-is (word ∷ words) [] = refl
+laid-is (word ∷ words) (old ∷ slice) = ap (λ (s : List ℕ). word ∷ s) (laid-is words slice)
 
 -- lists of equal words
 pub same-two : {a b x y : ℕ} → a ≡ x → b ≡ y → _≡_ {A = List ℕ} (a ∷ b ∷ []) (x ∷ y ∷ [])
