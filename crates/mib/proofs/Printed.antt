@@ -1,4 +1,4 @@
--- What both printers leave: the words of their answer are those of the verdict.
+-- Laws of both printers.
 -- Assumes nothing.
 use mathlib.Core.Path.{_≡_, subst}
 use mathlib.Core.List.{List, [], _∷_}
@@ -9,11 +9,12 @@ use Rattle.hint.specs.Answer.{Verdict, number-of, place-of, length-of, Answered
 use Rattle.hint.specs.declared.Answer.{Answer}
 use Rattle.mib.specs.Raw.{laid, PrintedRaw}
 
+-- what printing ensures, and its answer laid, is what is promised: the answer's words are the verdict's
 pub printed-raw : {part : ℕ} {verdict : Verdict} {answer : Answer} {out out′ words words′ : List ℕ}
     → Answered part verdict answer out out′
     → words′ ≡ laid (number-of answer ∷ place-of answer ∷ length-of answer ∷ []) words
     → PrintedRaw part verdict out out′ words words′
-printed-raw printed laid-is = record { out-is = printed .buffer-is; answer-is = cc }
+printed-raw printed words-laid = record { out-is = printed .buffer-is; answer-is = cc }
 
 -- equal integers are printed alike
 pub integer-as : (out hint : List ℕ) {value value′ : ℤ} {answer : Answer} {out′ : List ℕ} → value ≡ value′

@@ -17,13 +17,14 @@ laid [] slice = slice
 laid (word ∷ words) [] = []
 laid (word ∷ words) (old ∷ slice) = word ∷ laid words slice
 
--- Reading: the two buffers are as the reader's contract says, and its answer's number, place and count are laid into the answer's words.
+-- Reading: the two buffers are as the reader's contract says, and the right answer's number, place and count are laid over the
+-- answer's words.
 pub record ReadRaw (text records records′ numbers numbers′ answer answer′ : List ℕ) : Type 0 where
   pub right : Answer
   pub reads : Reads text right records records′ numbers numbers′
   pub answer-is : answer′ ≡ laid (number-of right ∷ place-of right ∷ count-of right ∷ []) answer
 
--- Printing: the part of the output is what the verdict makes of it, and the verdict's number, place and length are laid into the answer's words.
+-- Printing: the output is what the verdict makes of it, and the verdict's number, place and length are laid over the answer's words.
 pub record PrintedRaw (part : ℕ) (verdict : Verdict) (out out′ answer answer′ : List ℕ) : Type 0 where
   pub out-is : out′ ≡ buffer part verdict out
   pub answer-is : answer′ ≡ laid (number verdict ∷ place verdict ∷ size verdict ∷ []) answer
@@ -36,6 +37,6 @@ is-yes flag = not (eqb flag 0)
 abbrev pub step-words : Outcome → List ℕ
 step-words outcome = outcome .number ∷ outcome .next ∷ []
 
--- A row: the number and the next state of the outcome that the table gives.
+-- A row: the number and the next state that the table gives, laid over the answer's words.
 abbrev pub set-raw : ℕ → ℤ → ℕ → ℕ → List ℕ → List ℕ
 set-raw state value complete willing answer = laid (step-words (row-status state value (is-yes complete) (is-yes willing))) answer

@@ -31,7 +31,8 @@ returns : tie.Need-returns
 returns c =
     let d = c .before .before .before .before .before in
     c .before .before .lay .ensures
-    ∙ ap (λ (l : List ℕ). laid l (d .before .before .before .before .args .answer .now)) (same-three (d .before .before .number .ensures) (d .before .place .ensures) (d .length .ensures))
+    ∙ ap (λ (l : List ℕ). laid l (d .before .before .before .before .args .answer .now))
+    (same-three (d .before .before .number .ensures) (d .before .place .ensures) (d .length .ensures))
 
 pub lay-printing-spec : {M : Type 1} → statement M
 lay-printing-spec = tie.close (tie.spec number-requires place-requires length-requires slice-aggregate-lay lay-requires same-length returns)

@@ -31,7 +31,8 @@ returns : tie.Need-returns
 returns c =
     let d = c .before .before .before .before .before in
     c .before .before .lay .ensures
-    ∙ ap (λ (l : List ℕ). laid l (d .before .before .before .before .args .answer .now)) (same-three (d .before .before .number-of .ensures) (d .before .place-of .ensures) (d .count-of .ensures))
+    ∙ ap (λ (l : List ℕ). laid l (d .before .before .before .before .args .answer .now))
+    (same-three (d .before .before .number-of .ensures) (d .before .place-of .ensures) (d .count-of .ensures))
 
 pub lay-reading-spec : {M : Type 1} → statement M
 lay-reading-spec = tie.close (tie.spec number-of-requires place-of-requires count-of-requires slice-aggregate-lay lay-requires same-length returns)

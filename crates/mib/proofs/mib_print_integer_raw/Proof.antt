@@ -20,7 +20,9 @@ same-length-2 c = c .before .before .lay-printing .kept .1 .0
 returns : tie.Need-returns
 returns c =
     let start = c .before .before .before .before .before .before .before .before .before .before .before in
-    printed-raw (integer-as (start .args .out .now) (start .args .hint .now) (toZ-ofZ (start .fits .value)) (c .before .before .before .before .before .before .integer .ensures))
+    printed-raw
+    (integer-as (start .args .out .now) (start .args .hint .now) (toZ-ofZ (start .fits .value))
+    (c .before .before .before .before .before .before .integer .ensures))
     (c .before .before .lay-printing .ensures)
 
 pub mib-print-integer-raw-spec : {M : Type 1} → statement M
