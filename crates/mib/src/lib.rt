@@ -1,5 +1,5 @@
-// The library for C and for Rust: the questions as exported functions. Nothing is asked of what is lent. An answer goes into a slice of
-// words that the caller lends, as far as it reaches: words that an answer doesn't have stay as they were.
+// The library for C and for Rust: the questions as exported functions. Nothing is asked of what is lent. An answer goes over the first
+// words of a slice that the caller lends, as far as it reaches; words beyond the answer stay as they were.
 ghost use mathlib.Core.Path.{_≡_};
 ghost use mathlib.Core.List.{_∷_, []};
 ghost use lib.ListN.{length};
@@ -56,7 +56,8 @@ fn count_of(reading: Reading) -> usize
 
 // Lays number, place and count of the reader's answer.
 fn lay_reading(reading: Reading, answer: &mut [usize])
-    ensures { λ _. ⌜ now (answer .exit) ≡ laid (number-of reading ∷ place-of reading ∷ count-of reading ∷ []) (now (answer .entry)) ⌝ }
+    ensures { λ _. ⌜ now (answer .exit) ≡ laid (number-of reading ∷ place-of reading ∷ count-of reading ∷ [])
+        (now (answer .entry)) ⌝ }
 {
     let number = number_of(reading);
     let place = place_of(reading);
@@ -66,7 +67,8 @@ fn lay_reading(reading: Reading, answer: &mut [usize])
 
 // Lays number, place and length of a printer's answer.
 fn lay_printing(printing: Printing, answer: &mut [usize])
-    ensures { λ _. ⌜ now (answer .exit) ≡ laid (printed-number printing ∷ printed-place printing ∷ printed-length printing ∷ []) (now (answer .entry)) ⌝ }
+    ensures { λ _. ⌜ now (answer .exit) ≡ laid (printed-number printing ∷ printed-place printing ∷ printed-length printing ∷ [])
+        (now (answer .entry)) ⌝ }
 {
     let number = printing.number() as usize;
     let place = printing.place();
