@@ -62,7 +62,7 @@ fn second_high(lead: u8) -> u8
 }
 
 // How many octets the well-formed sequence at i has, 0 where there is none.
-fn sequence_size(s: &[u8], i: usize) -> usize
+pub fn sequence_size(s: &[u8], i: usize) -> usize
     requires { ⌜ i < length (now s) ⌝ }
     ensures { λ r. ⌜ r ≡ sequence-size (now (s .entry)) i ⌝ }
 {

@@ -1,0 +1,35 @@
+use borrow.Author.Needs.{needs}
+use Rattle.position.proofs.margin.is_inside.Statement.{statement}
+use Rattle.position.proofs.margin.is_inside.Tie as tie
+use Rattle.position.proofs.margin.is_inside.Reads as reads
+use Rattle.position.proofs.margin.is_inside.Lts as lts
+use Rattle.position.proofs.margin.reaches.Reads as reaches-reads
+
+-- src/margin.rt:25:5
+reaches-requires : tie.Need-reaches-requires
+reaches-requires c κs = search needs
+
+-- src/margin.rt:25:29
+reaches-requires-2 : tie.Need-reaches-requires-2
+reaches-requires-2 c κs = search needs
+
+-- src/margin.rt:25:52
+reaches-requires-3 : tie.Need-reaches-requires-3
+reaches-requires-3 c κs = search needs
+
+-- src/margin.rt:21:1
+returns : tie.Need-returns
+returns c = ?
+
+-- src/margin.rt:21:1
+returns-2 : tie.Need-returns-2
+returns-2 c = ?
+
+-- src/margin.rt:21:1
+returns-3 : tie.Need-returns-3
+returns-3 c = ?
+
+pub is-inside-spec : {M : Type 1} → statement M
+is-inside-spec =
+    tie.close
+    (tie.spec reaches-requires reaches-requires-2 reaches-requires-3 returns returns-2 returns-3)

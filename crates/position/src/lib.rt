@@ -1,0 +1,8 @@
+// Where a place stands in a text, for people and editors: its line, its column, and what stands below the line up to it.
+mod line;
+mod margin;
+
+pub use line::Position;
+pub use line::line_end;
+pub use line::locate;
+pub use margin::write_margin;
