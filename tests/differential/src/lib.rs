@@ -1,0 +1,6 @@
+//! An independent reading of the paper and generated inputs, to hold a
+//! library against.
+
+pub mod hints;
+pub mod reading;
+pub mod rows;
