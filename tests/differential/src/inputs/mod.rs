@@ -110,9 +110,9 @@ fn large(rng: &mut Rng) -> Vec<u8> {
     let size = 1 + rng.below(30);
     let mut model = maker::module(rng, size);
     match rng.below(5) {
-        0 | 1 => edits::definitions_filled(rng, &mut model),
-        2 | 3 => edits::numbers_filled(rng, &mut model),
-        _ => edits::chain_filled(rng, &mut model),
+        0 | 1 => edits::oids::definitions_filled(rng, &mut model),
+        2 | 3 => edits::oids::numbers_filled(rng, &mut model),
+        _ => edits::oids::chain_filled(rng, &mut model),
     }
     if rng.chance(20) {
         edits::edit(rng, &mut model, 1);
