@@ -639,7 +639,9 @@ impl Maker<'_> {
                 row.index.push(other.name.clone());
             }
         }
-        row.implied = self.rng.chance(20);
+        if self.rng.chance(20) {
+            row.implied = Some(row.index.len() - 1);
+        }
     }
 
     /// A SEQUENCE type without table; its names may be any objects.

@@ -56,9 +56,9 @@ fn buffer(rng: &mut Rng, part: usize) -> usize {
 }
 
 fn text(rng: &mut Rng) -> Vec<u8> {
-    match rng.below(1000) {
-        0..=1 => return large(rng),
-        2 => {
+    match rng.below(2000) {
+        0..=4 => return large(rng),
+        5..=6 => {
             let mut text = written(rng, 0, 0);
             damage::filled(rng, &mut text);
             return text;
@@ -105,13 +105,15 @@ fn written(rng: &mut Rng, edits: usize, damaged: usize) -> Vec<u8> {
     words::joined(rng, &words)
 }
 
-/// Around 512 definitions or 8,192 numbers, now and then with an edit.
+/// Around 512 definitions or 8,192 numbers, or a very long list; now and
+/// then with an edit.
 fn large(rng: &mut Rng) -> Vec<u8> {
     let size = 1 + rng.below(30);
     let mut model = maker::module(rng, size);
-    match rng.below(5) {
+    match rng.below(6) {
         0 | 1 => edits::oids::definitions_filled(rng, &mut model),
         2 | 3 => edits::oids::numbers_filled(rng, &mut model),
+        4 => edits::wide::widened(rng, &mut model),
         _ => edits::oids::chain_filled(rng, &mut model),
     }
     if rng.chance(20) {

@@ -39,7 +39,8 @@ pub struct Definition {
     pub access: &'static [u8],
     pub status: &'static [u8],
     pub index: Vec<Name>,
-    pub implied: bool,
+    /// Before which name of INDEX the word IMPLIED stands.
+    pub implied: Option<usize>,
     pub augments: Option<Name>,
     /// The words between the braces of DEFVAL; none without the clause.
     pub default: Vec<Name>,
@@ -115,7 +116,7 @@ impl Definition {
             access: b"read-only",
             status: b"current",
             index: Vec::new(),
-            implied: false,
+            implied: None,
             augments: None,
             default: Vec::new(),
             objects: Vec::new(),

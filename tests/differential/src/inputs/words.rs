@@ -150,16 +150,17 @@ fn object(w: &mut Words, rng: &mut Rng, d: &Definition) {
     w.push(b"MAX-ACCESS");
     w.push(d.access);
     tail(w, rng, d);
-    if let Some((last, others)) = d.index.split_last() {
+    if !d.index.is_empty() {
         w.all(&["INDEX", "{"]);
-        for name in others {
+        for (i, name) in d.index.iter().enumerate() {
+            if i > 0 {
+                w.push(b",");
+            }
+            if d.implied == Some(i) {
+                w.push(b"IMPLIED");
+            }
             w.push(name);
-            w.push(b",");
         }
-        if d.implied {
-            w.push(b"IMPLIED");
-        }
-        w.push(last);
         w.push(b"}");
     }
     if let Some(name) = &d.augments {

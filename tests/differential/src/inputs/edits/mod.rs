@@ -1,10 +1,12 @@
-//! Edits of a model, each aimed at one of the refusals 8 to 22. Some leave
+//! Edits of a model, each aimed at one of the refusals 7 to 22. Some leave
 //! the module accepted or meet another refusal: both are near misses.
 
+mod grammar;
 mod names;
 pub mod oids;
 mod syntaxes;
 mod tables;
+pub mod wide;
 
 use super::maker::upper_first;
 use super::model::*;
@@ -14,7 +16,7 @@ use crate::reading::symbols;
 /// An edit; it answers false where it finds nothing to change.
 type Edit = fn(&mut Rng, &mut Model) -> bool;
 
-const AIMS: [&[Edit]; 14] = [
+const AIMS: [&[Edit]; 15] = [
     &[
         names::name_again,
         names::iso_defined,
@@ -80,6 +82,7 @@ const AIMS: [&[Edit]; 14] = [
         tables::row_made_scalar,
         tables::second_row,
         tables::second_table,
+        tables::table_nested,
     ],
     &[
         tables::column_dropped,
@@ -104,11 +107,23 @@ const AIMS: [&[Edit]; 14] = [
         tables::listed_hidden,
         tables::zero_moved,
     ],
+    &[
+        grammar::implied_moved,
+        grammar::index_and_augments,
+        grammar::part_negative,
+        grammar::parts_dropped,
+        grammar::restriction_odd,
+        grammar::table_in_convention,
+        grammar::identity_moved,
+        grammar::words_exchanged,
+        grammar::default_odd,
+        grammar::case_exchanged,
+    ],
 ];
 
 /// Tables and access have the most clauses, so they are aimed at most.
-const WEIGHTED: [usize; 20] = [
-    0, 1, 2, 2, 3, 4, 5, 6, 7, 7, 8, 9, 10, 10, 11, 11, 11, 12, 12, 13,
+const WEIGHTED: [usize; 22] = [
+    0, 1, 2, 2, 3, 4, 5, 6, 7, 7, 8, 9, 10, 10, 11, 11, 11, 12, 12, 13, 14, 14,
 ];
 
 /// One edit; when it is to be repeated, all have the same aim.

@@ -168,13 +168,8 @@ fn uses(d: &mut Definition) -> Vec<&mut Name> {
     uses.extend(&mut d.index);
     uses.extend(&mut d.augments);
     uses.extend(&mut d.objects);
-    if matches!(d.kind, Kind::Object) && d.default.len() != 2 {
-        uses.extend(
-            d.default
-                .iter_mut()
-                .filter(|word| word[0].is_ascii_lowercase()),
-        );
-    }
+    let names = d.default.iter_mut();
+    uses.extend(names.filter(|word| word[0].is_ascii_lowercase()));
     if !matches!(d.kind, Kind::Convention | Kind::Sequence) {
         uses.push(&mut d.head);
     }

@@ -49,7 +49,9 @@ fn some_ranges<'m>(rng: &mut Rng, model: &'m mut Model) -> Option<&'m mut Vec<Ra
         d.has_syntax() && matches!(restriction, Restriction::Ranges(_) | Restriction::Sizes(_))
     })?;
     match &mut model.definitions[i].syntax.restriction {
-        Restriction::Ranges(ranges) | Restriction::Sizes(ranges) => Some(ranges),
+        Restriction::Ranges(ranges) | Restriction::Sizes(ranges) if !ranges.is_empty() => {
+            Some(ranges)
+        }
         _ => None,
     }
 }
@@ -209,7 +211,7 @@ fn some_labels<'m>(rng: &mut Rng, model: &'m mut Model) -> Option<&'m mut Vec<(N
         d.has_syntax() && matches!(d.syntax.restriction, Restriction::Labels(_))
     })?;
     match &mut model.definitions[i].syntax.restriction {
-        Restriction::Labels(labels) => Some(labels),
+        Restriction::Labels(labels) if !labels.is_empty() => Some(labels),
         _ => None,
     }
 }

@@ -118,6 +118,26 @@ pub fn second_table(rng: &mut Rng, model: &mut Model) -> bool {
     })
 }
 
+/// One table as a column of another's row, listed there or not.
+pub fn table_nested(rng: &mut Rng, model: &mut Model) -> bool {
+    done(|| {
+        let row = some(rng, model, Definition::is_row)?;
+        let table = some(rng, model, Definition::is_table)?;
+        let Base::Name(type_name) = model.definitions[row].syntax.base.clone() else {
+            return None;
+        };
+        let head = model.definitions[row].name.clone();
+        model.definitions[table].set_value(&head, &[4000]);
+        if rng.chance(85) {
+            let name = model.definitions[table].name.clone();
+            let sequence = model.definitions.iter_mut().find(|d| d.name == type_name)?;
+            let type_name = Base::Integer;
+            sequence.columns.push(Column { name, type_name });
+        }
+        Some(())
+    })
+}
+
 pub fn column_dropped(rng: &mut Rng, model: &mut Model) -> bool {
     done(|| {
         if rng.chance(30) {
@@ -336,7 +356,7 @@ pub fn zero_moved(rng: &mut Rng, model: &mut Model) -> bool {
     done(|| {
         let i = some(rng, model, is_kind(Kind::Notification))?;
         let parts = &mut model.definitions[i].parts;
-        let last = parts.len() - 1;
+        let last = parts.len().checked_sub(1)?;
         match rng.below(4) {
             0 => parts.push(Part::bare(1)),
             1 => parts.swap(last, last.saturating_sub(1)),
