@@ -136,7 +136,7 @@ fn fitting(rng: &mut Rng, hint: &[u8], length: usize) -> Vec<u8> {
     let mut octets = Vec::with_capacity(length + 260);
     let mut repeats = false;
     let mut count: usize = 0;
-    let broken = rng.chance(12);
+    let broken = rng.chance(25);
     while octets.len() < length {
         let before = octets.len();
         for byte in hint {
