@@ -91,7 +91,7 @@ fn text(rng: &mut Rng) -> Vec<u8> {
 
 /// A module with so many edits, written out with so much damage to its words.
 fn written(rng: &mut Rng, edits: usize, damaged: usize) -> Vec<u8> {
-    let size = *rng.one(&[1, 4, 8, 12, 16, 20, 24, 30]);
+    let size = *rng.one(&[1, 4, 6, 9, 12, 15, 20, 28]);
     let mut model = maker::module(rng, size);
     if edits > 0 {
         edits::edit(rng, &mut model, edits);
