@@ -16,7 +16,6 @@ pub struct Position {
 
 // Whether a line ends at byte i.
 fn is_end(text: &[u8], i: usize) -> bool
-    requires { ⌜ i ≤ length (now text) ⌝ }
     ensures { λ r. ⌜ r ≡ is-end (now (text .entry)) i ⌝ }
 {
     buffer::byte_at(text, i) == LINE_FEED

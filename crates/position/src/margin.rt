@@ -29,7 +29,13 @@ fn is_inside(text: &[u8], k: usize) -> bool
 fn below(b: u8) -> u8
     ensures { λ r. ⌜ r ≡ below b ⌝ }
 {
-    if 9 <= b && b <= 13 { b } else { 32 }
+    if b < 9 {
+        32
+    } else if b <= 13 {
+        b
+    } else {
+        32
+    }
 }
 
 // Lays what stands below the `count` bytes from `start` on into the buffer, and answers how many bytes that takes.

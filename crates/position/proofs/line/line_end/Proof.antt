@@ -16,7 +16,9 @@ without-return-requires c κs = search needs
 
 -- src/line.rt:63:1
 returns : tie.Need-returns
-returns c = ?
+returns c =
+    let end = c .before .find .ensures .0 in
+    (rw end at (c .without-return .ensures .0), (search needs, search needs))
 
 pub line-end-spec : {M : Type 1} → statement M
 line-end-spec = tie.close (tie.spec find-requires without-return-requires returns)

@@ -1,54 +1,74 @@
+-- `locate` is right: at each place the line and its start are those of the definition. The measure is the bytes left.
+-- Assumes nothing.
+use Rattle.position.proofs.LineLaws.{line-more, line-same, start-more, start-same}
+use Rattle.position.specs.Line.{line-at, start-at}
+use Prim.Native.Nat.{ℕ, _+_, _-_, _≤_}
+use mathlib.Core.Path.{_≡_, refl, sym, _∙_, ap}
+use native.Mathlib.Omega.{arith}
+use borrow.Author.Needs.{needs}
 use Rattle.position.proofs.line.locate.Statement.{statement}
 use Rattle.position.proofs.line.locate.Tie as tie
-use Rattle.position.proofs.line.locate.Reads as reads
-use Rattle.position.proofs.line.locate.Lts as lts
-use Rattle.position.proofs.line.is_end.Reads as is-end-reads
 
 abbrev Inv-loop : tie.InvT-loop
-Inv-loop text place line₀ start₀ i₀ line start i = ?
+Inv-loop text place line₀ start₀ i₀ line start i = (i ≤ place) × (line ≤ i + 1) × (start ≤ i) × (line ≡ line-at text i) × (start ≡ start-at text i)
 
 abbrev μ-loop : tie.MeasureT-loop
-μ-loop text place line₀ start₀ i₀ line start i = ?
+μ-loop text place line₀ start₀ i₀ line start i = place - i
 
--- src/line.rt:35:5
 loop-holds : tie.Need-loop-holds Inv-loop μ-loop
-loop-holds c = ?
+unfolding line-at start-at
+loop-holds c = (search needs, search needs, search needs, refl, refl)
 
--- src/line.rt:36:12
 is-end-requires : tie.Need-is-end-requires Inv-loop μ-loop
-is-end-requires c κs = ?
+is-end-requires c κs = search needs
 
--- src/line.rt:37:13
 add-line : tie.Need-add-line Inv-loop μ-loop
-add-line c = ?
+add-line c = search needs
 
--- src/line.rt:38:13
 add-i : tie.Need-add-i Inv-loop μ-loop
-add-i c = ?
+add-i c = search needs
 
--- src/line.rt:35:5
 loop-less : tie.Need-loop-less Inv-loop μ-loop
-loop-less c = ?
+loop-less c = search needs
 
--- src/line.rt:35:5
 loop-again : tie.Need-loop-again Inv-loop μ-loop
-loop-again c = ?
+loop-again c =
+    let here = c .before .before .before in
+    let text = here .before .before .args .text .now in
+    let ends = sym (c .before .is-end .ensures) ∙ c .if1 .taken in
+    (
+      search needs,
+      search needs,
+      search needs,
+      ap (λ (n : ℕ). n + 1) (here .loop .inv .3) ∙ sym (line-more text (here .loop .i) ends),
+      sym (start-more text (here .loop .i) ends),
+    )
 
--- src/line.rt:41:13
 add-i-2 : tie.Need-add-i-2 Inv-loop μ-loop
-add-i-2 c = ?
+add-i-2 c = search needs
 
--- src/line.rt:35:5
 loop-less-2 : tie.Need-loop-less-2 Inv-loop μ-loop
-loop-less-2 c = ?
+loop-less-2 c = search needs
 
--- src/line.rt:35:5
 loop-again-2 : tie.Need-loop-again-2 Inv-loop μ-loop
-loop-again-2 c = ?
+loop-again-2 c =
+    let here = c .before .before .before in
+    let text = here .before .before .args .text .now in
+    let goes-on = sym (c .before .is-end .ensures) ∙ c .if1 .left in
+    (
+      search needs,
+      search needs,
+      search needs,
+      here .loop .inv .3 ∙ sym (line-same text (here .loop .i) goes-on),
+      here .loop .inv .4 ∙ sym (start-same text (here .loop .i) goes-on),
+    )
 
--- src/line.rt:26:1
 returns : tie.Need-returns Inv-loop μ-loop
-returns c = ?
+returns c =
+    let here = c .before in
+    let text = here .before .before .args .text .now in
+    let end : here .loop .i ≡ here .before .before .args .place = omega arith in
+    (here .loop .inv .3 ∙ ap (line-at text) end, (here .loop .inv .4 ∙ ap (start-at text) end, omega arith))
 
 pub locate-spec : {M : Type 1} → statement M
 locate-spec =

@@ -1,33 +1,36 @@
+-- `without_return` is right: its tests are those of the definition.
+-- Assumes nothing.
+use native.Mathlib.Omega.{arith}
+use borrow.Author.Tests.{eq-eqb, ne-eqb, lt-ltb, le-ltb}
+use Rattle.position.specs.Line.{without-return}
 use borrow.Author.Needs.{needs}
 use Rattle.position.proofs.line.without_return.Statement.{statement}
 use Rattle.position.proofs.line.without_return.Tie as tie
-use Rattle.position.proofs.line.without_return.Reads as reads
-use Rattle.position.proofs.line.without_return.Lts as lts
-use Rattle.buffer.proofs.byte_at.Reads as byte-at-reads
 
--- src/line.rt:55:34
 sub-byte-at : tie.Need-sub-byte-at
 sub-byte-at c = search needs
 
--- src/line.rt:55:12
 byte-at-requires : tie.Need-byte-at-requires
 byte-at-requires c κs = search needs
 
--- src/line.rt:56:20
 sub-result : tie.Need-sub-result
 sub-result c = search needs
 
--- src/line.rt:56:13
 returns : tie.Need-returns
-returns c = ?
+unfolding without-return
+returns c =
+    let read = c .before in
+    (simp (lt-ltb _ _ (read .before .if1 .taken), ← (read .byte-at .ensures), eq-eqb _ _ (c .if2 .taken)), (omega arith, omega arith))
 
--- src/line.rt:48:1
 returns-2 : tie.Need-returns-2
-returns-2 c = ?
+unfolding without-return
+returns-2 c =
+    let read = c .before in
+    (simp (lt-ltb _ _ (read .before .if1 .taken), ← (read .byte-at .ensures), ne-eqb _ _ (c .if2 .left)), (omega arith, omega arith))
 
--- src/line.rt:48:1
 returns-3 : tie.Need-returns-3
-returns-3 c = ?
+unfolding without-return
+returns-3 c = (simp (le-ltb _ _ (c .if1 .left)), (omega arith, omega arith))
 
 pub without-return-spec : {M : Type 1} → statement M
 without-return-spec =

@@ -1,3 +1,4 @@
+use Rattle.position.specs.Margin.{is-inside}
 use borrow.Author.Needs.{needs}
 use Rattle.position.proofs.margin.is_inside.Statement.{statement}
 use Rattle.position.proofs.margin.is_inside.Tie as tie
@@ -19,15 +20,20 @@ reaches-requires-3 c κs = search needs
 
 -- src/margin.rt:21:1
 returns : tie.Need-returns
-returns c = ?
+unfolding is-inside
+returns c = simp (← (c .before .reaches .ensures), c .if1 .taken)
 
 -- src/margin.rt:21:1
 returns-2 : tie.Need-returns-2
-returns-2 c = ?
+unfolding is-inside
+returns-2 c = simp (← (c .before .before .before .reaches .ensures), c .before .before .if1 .left, ← (c .before .reaches2 .ensures), c .if2 .taken)
 
 -- src/margin.rt:21:1
 returns-3 : tie.Need-returns-3
-returns-3 c = ?
+unfolding is-inside
+returns-3 c =
+    simp
+    (← (c .before .before .before .before .reaches .ensures), c .before .before .before .if1 .left, ← (c .before .before .reaches2 .ensures), c .before .if2 .left, ← (c .reaches3 .ensures))
 
 pub is-inside-spec : {M : Type 1} → statement M
 is-inside-spec =
