@@ -1,0 +1,4 @@
+pub mod Range
+pub mod Item
+pub mod Name
+pub mod Other
