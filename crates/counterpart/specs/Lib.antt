@@ -1,4 +1,1 @@
-pub mod Range
-pub mod Item
-pub mod Name
 pub mod Other

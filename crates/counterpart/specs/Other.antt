@@ -14,9 +14,10 @@ use Rattle.syntax.specs.Parsing.{Parses}
 use Rattle.syntax.specs.declared.Answer.{Answer as Parsing}
 use Rattle.syntax.specs.declared.Answer.the-variants.{Derived, Underived, Uncut}
 use Rattle.record.specs.Record.{start-of}
-use Rattle.counterpart.specs.Range.{range-before}
-use Rattle.counterpart.specs.Item.{earlier-item}
-use Rattle.counterpart.specs.Name.{earlier-name}
+use Rattle.table_counterpart.specs.Definition.{other-definition}
+use Rattle.token_counterpart.specs.Range.{range-before}
+use Rattle.token_counterpart.specs.Item.{earlier-item}
+use Rattle.token_counterpart.specs.Name.{earlier-name}
 use Rattle.counterpart.specs.declared.Other.{Other}
 use Rattle.counterpart.specs.declared.Other.the-variants.{At, Nowhere}
 
@@ -24,8 +25,9 @@ use Rattle.counterpart.specs.declared.Other.the-variants.{At, Nowhere}
 unfoldable pub other-token : List Meaning → ℕ → ℕ → ℕ
 other-token ms number t =
     cond (eqb number 9) (earlier-name ms t)
+    (cond (eqb number 15) (other-definition ms number t)
     (cond (eqb number 16) (range-before ms t)
-    (cond (eqb number 18) (earlier-item ms t) t))
+    (cond (eqb number 18) (earlier-item ms t) t)))
 
 -- the token that starts at a place; the number of tokens, where none does
 unfoldable pub token-at : List Tok → ℕ → ℕ

@@ -1,5 +1,4 @@
-// Where the other of two things stands, for a refusal that is about two: a name and where it was introduced before, a range and the
-// one before it, an item of an enumeration and an earlier one like it.
+// Where the other of two things stands, for a refusal that is about two.
 ghost use mathlib.Core.Path.{_≡_};
 ghost use Prim.Native.Nat.{_≤_, _<_};
 ghost use lib.ListN.{length};
@@ -7,20 +6,18 @@ ghost use Rattle.token.specs.Cut.{cut, meanings-in};
 ghost use Rattle.token.specs.Table.{TokenTable, longest-text};
 ghost use Rattle.counterpart.specs.Other.{other-token, other-of, Answers};
 
-mod introduced;
-mod item;
 mod place;
-mod range;
 
 use index::Place;
 use index::TokenIndex;
-use introduced::earlier_name;
-use item::earlier_item;
 use place::placed;
 use place::token_at;
-use range::range_before;
 use syntax::Answer as Parsing;
 use syntax::parse;
+use table_counterpart::other_definition;
+use token_counterpart::earlier_item;
+use token_counterpart::earlier_name;
+use token_counterpart::range_before;
 
 // The most bytes that a text may have.
 const LONGEST_TEXT: usize = 65536;
@@ -47,6 +44,9 @@ fn other_token(
 {
     if number == 9 {
         return earlier_name(text, classes, starts, ends, n, t);
+    }
+    if number == 15 {
+        return other_definition(text, classes, starts, ends, n, number, t);
     }
     if number == 16 {
         return range_before(text, classes, starts, ends, n, t);

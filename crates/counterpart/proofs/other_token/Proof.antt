@@ -14,23 +14,37 @@ returns : tie.Need-returns
 unfolding other-token
 returns c = c .earlier-name .ensures ∙ same _ _ (c .before .if1 .taken)
 
-range-before-requires : tie.Need-range-before-requires
-range-before-requires c κs = search needs
+other-definition-requires : tie.Need-other-definition-requires
+other-definition-requires c κs = search needs
 
 returns-2 : tie.Need-returns-2
 unfolding other-token
-returns-2 c = other _ (c .before .before .if1 .left) (c .range-before .ensures ∙ same _ _ (c .before .if2 .taken))
+returns-2 c = other _ (c .before .before .if1 .left) (c .other-definition .ensures ∙ same _ _ (c .before .if2 .taken))
+
+range-before-requires : tie.Need-range-before-requires
+range-before-requires c κs = search needs
+
+returns-3 : tie.Need-returns-3
+unfolding other-token
+returns-3 c =
+    other _ (c .before .before .before .if1 .left)
+    (other _ (c .before .before .if2 .left) (c .range-before .ensures ∙ same _ _ (c .before .if3 .taken)))
 
 earlier-item-requires : tie.Need-earlier-item-requires
 earlier-item-requires c κs = search needs
 
-returns-3 : tie.Need-returns-3
-unfolding other-token
-returns-3 c = other _ (c .before .before .before .if1 .left) (other _ (c .before .before .if2 .left) (c .earlier-item .ensures ∙ same _ _ (c .before .if3 .taken)))
-
 returns-4 : tie.Need-returns-4
 unfolding other-token
-returns-4 c = other _ (c .before .before .if1 .left) (other _ (c .before .if2 .left) (other _ (c .if3 .left) refl))
+returns-4 c =
+    other _ (c .before .before .before .before .if1 .left)
+    (other _ (c .before .before .before .if2 .left)
+    (other _ (c .before .before .if3 .left) (c .earlier-item .ensures ∙ same _ _ (c .before .if4 .taken))))
+
+returns-5 : tie.Need-returns-5
+unfolding other-token
+returns-5 c =
+    other _ (c .before .before .before .if1 .left)
+    (other _ (c .before .before .if2 .left) (other _ (c .before .if3 .left) (other _ (c .if4 .left) refl)))
 
 pub other-token-spec : {M : Type 1} → statement M
 other-token-spec =
@@ -38,8 +52,10 @@ other-token-spec =
     (tie.spec
     earlier-name-requires
     returns
-    range-before-requires
+    other-definition-requires
     returns-2
-    earlier-item-requires
+    range-before-requires
     returns-3
-    returns-4)
+    earlier-item-requires
+    returns-4
+    returns-5)
