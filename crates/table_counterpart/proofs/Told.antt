@@ -23,8 +23,11 @@ use Rattle.name.specs.declared.collect.Collected.the-variants.{TooMany}
 use Rattle.oid.specs.Oid.{count-of}
 use Rattle.number_buffer.specs.Refusal.{holds-oid}
 use Rattle.oid_rule.specs.Rules.{collecting-rules}
+use Rattle.table_fault.specs.declared.Clause.the-variants.{Kept as none}
+use Rattle.table_fault.specs.declared.Fault.{Fault}
+use Rattle.table_counterpart.specs.declared.Standing.{Standing}
 use Rattle.table_counterpart.specs.Holder.{earlier-holder}
-use Rattle.table_counterpart.specs.Definition.{name-token, definition-at, are-oids-told, against, other-definition}
+use Rattle.table_counterpart.specs.Definition.{name-token, definition-at, are-oids-told, is-told, against, clause-against, other-definition, clause-at, Against, Stands}
 
 and-false : (b : Bool) → (b && false) ≡ false
 and-false true = refl
@@ -50,24 +53,38 @@ module _ (ms : List Meaning) where
       lt-leb (count-of ms) most-definitions (omega (arith, many .0, ap (λ (xs : List ℕ). length (definitions xs)) same)) in
       rw over
 
+-- ---- whether what a definition stands against can be told
+
+module _ (ms : List Meaning) (t : ℕ) where
+  pub untold : are-oids-told ms ≡ false → is-told ms t ≡ false
+  unfolding is-told
+  untold e = rw e (and-false (ltb (definition-at ms t) (count-of ms)))
+
+  module _ (k : ℕ) (meant : k ≡ definition-at ms t) where
+    pub no-definition : count-of ms ≤ k → is-told ms t ≡ false
+    unfolding is-told
+    no-definition h =
+        let past : ltb (definition-at ms t) (count-of ms) ≡ false = le-ltb (definition-at ms t) (count-of ms) (omega arith) in rw past
+
+    pub told : k < count-of ms → are-oids-told ms ≡ true → is-told ms t ≡ true
+    unfolding is-told
+    told h e =
+        let inside : ltb (definition-at ms t) (count-of ms) ≡ true = lt-ltb (definition-at ms t) (count-of ms) (omega arith) in rw (inside, e)
+
   -- ---- what is answered
 
-  module _ (number t : ℕ) where
-    pub untold : are-oids-told ms ≡ false → t ≡ other-definition ms number t
-    unfolding other-definition
-    untold e = rw (e, and-false (ltb (definition-at ms t) (count-of ms)))
+  module _ (number : ℕ) where
+    pub stands-alone : is-told ms t ≡ false → (r : Standing) → (r .clause ≡ none) × (r .other .0 ≡ t) → Stands ms number t r
+    unfolding clause-at other-definition
+    stands-alone e r is = record { by = rw e (is .0); other = rw e (is .1) }
 
-    module _ (k : ℕ) (meant : k ≡ definition-at ms t) where
-      pub no-definition : count-of ms ≤ k → t ≡ other-definition ms number t
-      unfolding other-definition
-      no-definition h =
-          let past : ltb (definition-at ms t) (count-of ms) ≡ false = le-ltb (definition-at ms t) (count-of ms) (omega arith) in rw past
-
-      pub told : k < count-of ms → are-oids-told ms ≡ true → (o : ℕ) → o ≡ against ms number k → (r : ℕ) → r ≡ name-token ms o → r ≡ other-definition ms number t
-      unfolding other-definition
-      told h e o is r named =
-          let inside : ltb (definition-at ms t) (count-of ms) ≡ true = lt-ltb (definition-at ms t) (count-of ms) (omega arith) in
-          rw (inside, e) (named ∙ ap (name-token ms) (is ∙ ap (against ms number) meant))
+    pub stands : is-told ms t ≡ true → (c k : ℕ) → k ≡ definition-at ms t → (fault : Fault) → Against ms number c k fault
+        → (r : Standing) → r .clause ≡ fault .clause → r .other .0 ≡ name-token ms (fault .other .0) → Stands ms number t r
+    unfolding clause-at other-definition
+    stands e c k meant fault found r clause other = record {
+      by = rw e (clause ∙ found .by ∙ ap (clause-against ms number) meant);
+      other = rw e (other ∙ ap (name-token ms) (found .other ∙ ap (against ms number) meant));
+    }
 
 -- ---- the array of definitions
 

@@ -8,12 +8,17 @@ ghost use Rattle.token.specs.Cut.{meanings-in};
 ghost use Rattle.name.specs.Collect.{most-definitions};
 ghost use Rattle.field_table.specs.Table.{ModuleTable};
 ghost use Rattle.number_buffer.specs.Held.{NumberTable};
-ghost use Rattle.table_counterpart.specs.Definition.{against, other-definition};
+ghost use Rattle.table_counterpart.specs.Definition.{Against, Stands};
+use crate::Standing;
+use crate::alone;
 use crate::holder::earlier_holder;
 use index::Judgement;
 use index::RecordIndex;
 use index::TokenIndex;
 use oid_rule::collect_oids;
+use table_fault::Clause;
+use table_fault::Fault;
+use table_fault::fault_of;
 
 // The token of an entry in an array of token indices.
 fn token_of(entry: u32) -> TokenIndex
@@ -64,21 +69,44 @@ fn against(
     numbers: &[u32],
     number: u8,
     k: RecordIndex,
-) -> RecordIndex
+) -> Fault
     requires module { ⌜ ModuleTable (now text) (now classes) (now starts) (now ends) n (now imported) m (now defined) c (now fields) ⌝ }
     requires numbers { ⌜ NumberTable (meanings-in (now text)) (now firsts) (now numbers) c ⌝ }
     requires index { ⌜ k .0 < c ⌝ }
-    ensures is { λ r. ⌜ r .0 ≡ against (meanings-in (now (text .entry))) number (k .0) ⌝ }
-    ensures inside { λ r. ⌜ r .0 < c ⌝ }
+    ensures { λ r. ⌜ Against (meanings-in (now (text .entry))) number c (k .0) r ⌝ }
 {
     if number == 15 {
-        return earlier_holder(text, fields, firsts, numbers, k);
+        let other = earlier_holder(text, fields, firsts, numbers, k);
+        return Fault {
+            clause: Clause::Kept,
+            other,
+        };
     }
-    k
+    if number == 20 {
+        return fault_of(
+            text,
+            classes,
+            starts,
+            ends,
+            n,
+            imported,
+            m,
+            defined,
+            c,
+            fields,
+            firsts,
+            numbers,
+            k,
+        );
+    }
+    Fault {
+        clause: Clause::Kept,
+        other: k,
+    }
 }
 
 // What the definition whose name is token t stands against, by the token of its name; t itself, where there is none.
-pub fn other_in(
+pub fn standing_in(
     text: &[u8],
     classes: &[u8; 65536],
     starts: &[u32; 65536],
@@ -91,13 +119,13 @@ pub fn other_in(
     fields: &[usize; 8192],
     number: u8,
     t: TokenIndex,
-) -> TokenIndex
+) -> Standing
     requires module { ⌜ ModuleTable (now text) (now classes) (now starts) (now ends) n (now imported) m (now defined) c (now fields) ⌝ }
-    ensures { λ r. ⌜ r .0 ≡ other-definition (meanings-in (now (text .entry))) number (t .0) ⌝ }
+    ensures { λ r. ⌜ Stands (meanings-in (now (text .entry))) number (t .0) r ⌝ }
 {
     let k = definition_at(defined, c, t);
     if c <= k.0 {
-        return t;
+        return alone(t);
     }
     let mut firsts = [0usize; 513];
     let mut numbers = [0u32; 8192];
@@ -115,9 +143,9 @@ pub fn other_in(
         &mut firsts,
         &mut numbers,
     ) else {
-        return t;
+        return alone(t);
     };
-    let other = against(
+    let fault = against(
         text,
         classes,
         starts,
@@ -133,5 +161,8 @@ pub fn other_in(
         number,
         k,
     );
-    name_token(defined, other)
+    let clause = fault.clause;
+    let against = fault.other;
+    let other = name_token(defined, against);
+    Standing { clause, other }
 }

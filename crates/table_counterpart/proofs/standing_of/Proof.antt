@@ -1,5 +1,6 @@
--- `other_definition` is right: the tables that it is told by are filled first.
+-- `standing_of` is right: the tables that it is told by are filled first.
 -- Assumes nothing.
+use mathlib.Core.Path.{_≡_, refl, sym, ap, subst, _∙_}
 use native.Mathlib.Omega.{arith}
 use mathlib.Core.List.{List}
 use Prim.Native.Nat.{ℕ, _≤_}
@@ -9,10 +10,10 @@ use Rattle.token.specs.Cut.{meanings-in}
 use Rattle.token.specs.Table.{longest-text}
 use Rattle.name.proofs.Names.{classes-taken}
 use Rattle.name_rule.proofs.Judging.{end-few, collected-names}
-use Rattle.table_counterpart.proofs.Told.{too-many-untold, untold}
+use Rattle.table_counterpart.proofs.Told.{too-many-untold, untold, stands-alone}
 use borrow.Author.Needs.{needs}
-use Rattle.table_counterpart.proofs.other_definition.Statement.{statement}
-use Rattle.table_counterpart.proofs.other_definition.Tie as tie
+use Rattle.table_counterpart.proofs.standing_of.Statement.{statement}
+use Rattle.table_counterpart.proofs.standing_of.Tie as tie
 
 abbrev classes : tie.Start → List ℕ
 classes s = take (s .args .n) (s .args .classes .now)
@@ -27,7 +28,7 @@ imports-end-requires : tie.Need-imports-end-requires
 imports-end-requires c κs = search needs
 
 collect-imports-requires : tie.Need-collect-imports-requires
-collect-imports-requires c κs =
+collect-imports-requires c κs = 
     let s = c .before .before .before .before .before in
     let is = c .before .before .imports-end .ensures in
     (enough s, ((is, omega (arith, is, end-few (classes s) (short s))), search needs))
@@ -41,20 +42,23 @@ enum-known-c c = search needs
 enum-told : tie.Need-enum-told
 enum-told c = search needs
 
+alone-requires : tie.Need-alone-requires
+alone-requires c κs = search needs
+
 returns : tie.Need-returns
-returns c =
-    let s = c .before .before .before .before .before .before .before .before .before .before .before in
+returns c = 
+    let s = c .before .before .before .before .before .before .before .before .before .before .before .before in
     let ms = meanings-in (s .args .text .now) in
-    untold ms _ _ (too-many-untold ms _ _ (classes-taken _ _ _ _ _ _ (s .pre)) _ (c .before .before .collect-definitions .ensures) _ (c .enum-told .given .1))
+    stands-alone ms _ _ (untold ms _ (too-many-untold ms _ _ (classes-taken _ _ _ _ _ _ (s .pre)) _ (c .before .before .before .collect-definitions .ensures) _ (c .before .enum-told .given .1))) _ (c .alone .ensures)
 
 collect-fields-requires : tie.Need-collect-fields-requires
-collect-fields-requires c κs =
+collect-fields-requires c κs = 
     let s = c .before .before .before .before .before .before .before .before .before .before .before .before .before .before in
     let names = collected-names (classes s) (short s) _ _ (c .before .before .before .before .before .before .before .before .collect-imports .ensures) _ _ (c .before .before .before .before .before .collect-definitions .ensures) _ (c .before .before .before .c .given .1) in
     ((enough s, s .pre .few), (names .definition-list, (names .few-definitions, search needs)))
 
-other-in-requires : tie.Need-other-in-requires
-other-in-requires c κs =
+standing-in-requires : tie.Need-standing-in-requires
+standing-in-requires c κs = 
     let s = c .before .before .before .before .before .before .before .before .before .before .before .before .before .before .before .before .before .before in
     record {
       tokens = s .pre;
@@ -63,10 +67,10 @@ other-in-requires c κs =
     }
 
 returns-2 : tie.Need-returns-2
-returns-2 c = search needs
+returns-2 c = c .standing-in .ensures
 
-pub other-definition-spec : {M : Type 1} → statement M
-other-definition-spec =
+pub standing-of-spec : {M : Type 1} → statement M
+standing-of-spec =
     tie.close
     (tie.spec
     imports-end-requires
@@ -74,7 +78,8 @@ other-definition-spec =
     collect-definitions-requires
     enum-known-c
     enum-told
+    alone-requires
     returns
     collect-fields-requires
-    other-in-requires
+    standing-in-requires
     returns-2)
