@@ -12,7 +12,8 @@ use Rattle.token.specs.Token.{Tok, meanings}
 use Rattle.token.specs.Table.{TokenTable}
 use Rattle.token.proofs.Entries.{start-at}
 use Rattle.record.specs.Record.{start-of}
-use Rattle.counterpart.specs.Other.{other-token, placed, other-of}
+use Rattle.table_counterpart.specs.declared.Standing.{Standing}
+use Rattle.counterpart.specs.Other.{other-token, placed, alone, counterpart-of, Found}
 use Rattle.counterpart.specs.declared.Other.{Other}
 use Rattle.counterpart.specs.declared.Other.the-variants.{At, Nowhere}
 
@@ -45,13 +46,15 @@ module _ (text : List ℕ) (ts : List Tok) (classes starts ends : List ℕ) (n :
 
   module _ (number i : ℕ) where
     -- no token starts at the place
-    pub other-past : n ≤ i → Nowhere ≡ other-of ts number i
-    unfolding other-of
-    other-past h = let past : ltb i (length ts) ≡ false = le-ltb i (length ts) (omega (arith, t .counted)) in rw past
+    pub counterpart-past : n ≤ i → alone ≡ counterpart-of ts number i
+    unfolding counterpart-of
+    counterpart-past h = let past : ltb i (length ts) ≡ false = le-ltb i (length ts) (omega (arith, t .counted)) in rw past
 
     -- token i does
-    pub other-inside : i < n → (o : ℕ) → o ≡ other-token (meanings ts) number i → (r : Other) → r ≡ placed ts i o → r ≡ other-of ts number i
-    unfolding other-of
-    other-inside h o is r answered =
+    pub counterpart-inside : i < n → (standing : Standing) → Found (meanings ts) number i standing → (o : Other) → o ≡ placed ts i (standing .other .0)
+        → record { clause = standing .clause; other = o } ≡ counterpart-of ts number i
+    unfolding counterpart-of
+    counterpart-inside h standing found o is =
         let inside : ltb i (length ts) ≡ true = lt-ltb i (length ts) (omega (arith, t .counted)) in
-        rw inside (answered ∙ ap (placed ts i) is)
+        let there : o ≡ placed ts i (other-token (meanings ts) number i) = is ∙ ap (placed ts i) (found .other) in
+        rw (inside, found .by, there)

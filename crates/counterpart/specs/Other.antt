@@ -21,7 +21,7 @@ use Rattle.table_counterpart.specs.declared.Standing.{Standing}
 use Rattle.token_counterpart.specs.Range.{range-before}
 use Rattle.token_counterpart.specs.Item.{earlier-item}
 use Rattle.token_counterpart.specs.Name.{earlier-name}
-use Rattle.counterpart.specs.declared.Counterpart.{Counterpart}
+use Rattle.counterpart.specs.declared.Answer.{Answer}
 use Rattle.counterpart.specs.declared.Other.{Other}
 use Rattle.counterpart.specs.declared.Other.the-variants.{At, Nowhere}
 
@@ -54,24 +54,24 @@ unfoldable pub placed : List Tok → ℕ → ℕ → Other
 placed ts t o = cond (not (eqb o t) && ltb o (length ts)) (At (record { 0 = start-of ts o })) Nowhere
 
 -- what stands against nothing
-abbrev pub alone : Counterpart
+abbrev pub alone : Answer
 alone = record { clause = Kept; other = Nowhere }
 
 -- the counterpart of what stands at token t
-unfoldable pub counterpart-of : List Tok → ℕ → ℕ → Counterpart
+unfoldable pub counterpart-of : List Tok → ℕ → ℕ → Answer
 counterpart-of ts number t =
     cond (ltb t (length ts))
     (record { clause = clause-of-token (meanings ts) number t; other = placed ts t (other-token (meanings ts) number t) })
     alone
 
 -- the counterpart of what stands at a place, by how the text is parsed
-abbrev pub counterpart-in : List ℕ → Parsing → ℕ → ℕ → Counterpart
+abbrev pub counterpart-in : List ℕ → Parsing → ℕ → ℕ → Answer
 counterpart-in text (Derived n) number place = counterpart-of (cut text .tokens) number (token-at (cut text .tokens) place)
 counterpart-in text (Underived n at) number place = alone
 counterpart-in text (Uncut refusal at) number place = alone
 
 -- The right answer to any text, number and place.
-pub record Answers (text : List ℕ) (number place : ℕ) (answer : Counterpart) : Type 0 where
+pub record Answers (text : List ℕ) (number place : ℕ) (answer : Answer) : Type 0 where
   -- a text over 65,536 bytes is not read
   pub long : longest-text < length text → answer ≡ alone
   -- any other is, by the right answer to its parsing

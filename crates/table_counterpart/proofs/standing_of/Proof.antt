@@ -1,6 +1,5 @@
 -- `standing_of` is right: the tables that it is told by are filled first.
 -- Assumes nothing.
-use mathlib.Core.Path.{_≡_, refl, sym, ap, subst, _∙_}
 use native.Mathlib.Omega.{arith}
 use mathlib.Core.List.{List}
 use Prim.Native.Nat.{ℕ, _≤_}
@@ -28,7 +27,7 @@ imports-end-requires : tie.Need-imports-end-requires
 imports-end-requires c κs = search needs
 
 collect-imports-requires : tie.Need-collect-imports-requires
-collect-imports-requires c κs = 
+collect-imports-requires c κs =
     let s = c .before .before .before .before .before in
     let is = c .before .before .imports-end .ensures in
     (enough s, ((is, omega (arith, is, end-few (classes s) (short s))), search needs))
@@ -46,19 +45,19 @@ alone-requires : tie.Need-alone-requires
 alone-requires c κs = search needs
 
 returns : tie.Need-returns
-returns c = 
+returns c =
     let s = c .before .before .before .before .before .before .before .before .before .before .before .before in
     let ms = meanings-in (s .args .text .now) in
     stands-alone ms _ _ (untold ms _ (too-many-untold ms _ _ (classes-taken _ _ _ _ _ _ (s .pre)) _ (c .before .before .before .collect-definitions .ensures) _ (c .before .enum-told .given .1))) _ (c .alone .ensures)
 
 collect-fields-requires : tie.Need-collect-fields-requires
-collect-fields-requires c κs = 
+collect-fields-requires c κs =
     let s = c .before .before .before .before .before .before .before .before .before .before .before .before .before .before in
     let names = collected-names (classes s) (short s) _ _ (c .before .before .before .before .before .before .before .before .collect-imports .ensures) _ _ (c .before .before .before .before .before .collect-definitions .ensures) _ (c .before .before .before .c .given .1) in
     ((enough s, s .pre .few), (names .definition-list, (names .few-definitions, search needs)))
 
 standing-in-requires : tie.Need-standing-in-requires
-standing-in-requires c κs = 
+standing-in-requires c κs =
     let s = c .before .before .before .before .before .before .before .before .before .before .before .before .before .before .before .before .before .before in
     record {
       tokens = s .pre;

@@ -1,6 +1,6 @@
 -- `against` is right: it is the definition, test by test.
 -- Assumes nothing.
-use mathlib.Core.Path.{_≡_, refl, sym, ap, subst, _∙_}
+use mathlib.Core.Path.{refl, sym, subst, _∙_}
 use native.Mathlib.Omega.{arith}
 use Rattle.definition.proofs.Cases.{same, other}
 use Rattle.token.specs.Cut.{meanings-in}
@@ -10,12 +10,11 @@ use Rattle.field_table.proofs.Said.{definitions-counted, fields-said}
 use Rattle.number_buffer.specs.Held.{NumberTable}
 use Rattle.table_counterpart.specs.Definition.{against, clause-against}
 use Rattle.table_counterpart.proofs.Told.{holder-before}
-use borrow.Author.Needs.{needs}
 use Rattle.table_counterpart.proofs.module.against.Statement.{statement}
 use Rattle.table_counterpart.proofs.module.against.Tie as tie
 
 earlier-holder-requires : tie.Need-earlier-holder-requires
-earlier-holder-requires c κs = 
+earlier-holder-requires c κs =
     let s = c .before .before .before in
     let ms = meanings-in (s .args .text .now) in
     let counted = definitions-counted (s .pre .0) in (
@@ -25,7 +24,7 @@ earlier-holder-requires c κs =
 
 returns : tie.Need-returns
 unfolding against clause-against
-returns c = 
+returns c =
     let s = c .before .before .before .before in
     let is = c .earlier-holder .ensures in
     let fifteen = c .before .if1 .taken in
@@ -40,7 +39,7 @@ fault-of-requires c κs = let s = c .before .before .before .before in (s .pre .
 
 returns-2 : tie.Need-returns-2
 unfolding against clause-against
-returns-2 c = 
+returns-2 c =
     let fault = c .fault-of .ensures in
     record {
       by = fault .by ∙ same _ _ (c .before .if2 .taken);

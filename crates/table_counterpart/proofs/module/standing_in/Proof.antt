@@ -1,8 +1,7 @@
 -- `standing_in` is right: which definition is meant, then whether OIDs can be told, then what it stands against.
 -- Assumes nothing.
-use mathlib.Core.Path.{_≡_, refl, sym, ap, subst, _∙_}
+use mathlib.Core.Path.{refl, sym, _∙_}
 use native.Mathlib.Omega.{arith}
-use mathlib.Core.List.{List}
 use Rattle.token.specs.Cut.{meanings-in}
 use Rattle.field_table.proofs.Said.{definitions-counted, names-said}
 use Rattle.oid_rule.proofs.Judging.{left-kept, numbers-table}
@@ -18,7 +17,7 @@ alone-requires : tie.Need-alone-requires
 alone-requires c κs = search needs
 
 returns : tie.Need-returns
-returns c = 
+returns c =
     let s = c .before .before .before .before .before in
     let ms = meanings-in (s .args .text .now) in
     let list = names-said (s .pre) .definition-list in
@@ -40,7 +39,7 @@ alone-requires-2 : tie.Need-alone-requires-2
 alone-requires-2 c κs = search needs
 
 returns-2 : tie.Need-returns-2
-returns-2 c = 
+returns-2 c =
     let ms = meanings-in (c .before .before .before .before .before .before .before .before .before .before .before .args .text .now) in
     stands-alone ms _ _ (untold ms _ (oids-untold ms _ (c .before .before .before .before .collect-oids .ensures .0) _ _ (c .before .enum-told2 .given .1))) _ (c .alone2 .ensures)
 
@@ -48,7 +47,7 @@ slice-aggregate-against : tie.Need-slice-aggregate-against
 slice-aggregate-against c = search needs
 
 against-requires : tie.Need-against-requires
-against-requires c κs = 
+against-requires c κs =
     let s = c .before .before .before .before .before .before .before .before .before .before .before .before in
     let held = left-kept _ _ _ _ _ (c .before .before .enum-told .given .1) (c .before .before .before .before .before .collect-oids .ensures .1) in
     (s .pre, (numbers-table _ _ _ _ (s .args .c) held (definitions-counted (s .pre)) (s .pre .names .few-definitions), omega (arith, c .before .before .before .before .before .before .before .before .if1 .left)))
@@ -57,7 +56,7 @@ name-token-requires : tie.Need-name-token-requires
 name-token-requires c κs = omega (arith, c .before .against .ensures .inside, c .before .before .before .before .before .before .before .before .before .before .before .before .before .before .pre .names .few-definitions)
 
 returns-3 : tie.Need-returns-3
-returns-3 c = 
+returns-3 c =
     let s = c .before .before .before .before .before .before .before .before .before .before .before .before .before .before .before in
     let ms = meanings-in (s .args .text .now) in
     let list = names-said (s .pre) .definition-list in
