@@ -50,7 +50,7 @@ fn can_be_imported(class: u8) -> bool
 }
 
 // Whether token i, one of the imports, is a symbol, and not the module after FROM.
-fn is_symbol(classes: &[u8], n: usize, i: usize) -> bool
+pub fn is_symbol(classes: &[u8], n: usize, i: usize) -> bool
     requires long { ⌜ n ≤ length (now classes) ⌝ }
     requires index { ⌜ 1 ≤ i ⌝ }
     ensures { λ r. ⌜ r ≡ is-symbol (take n (now (classes .entry))) i ⌝ }

@@ -7,6 +7,7 @@ pub use collect::MOST_DEFINITIONS;
 pub use collect::collect_definitions;
 pub use collect::collect_imports;
 pub use collect::imports_end;
+pub use collect::is_symbol;
 use index::RecordIndex;
 pub use lookup::leads_to;
 pub use lookup::named;

@@ -11,5 +11,6 @@ pub use run::is_below;
 pub use run::is_below_by;
 pub use run::run_of;
 pub use run::same_oid;
+pub use twin::holds_oid;
 pub use twin::judge_twins;
 pub use writer::write_oids;

@@ -33,7 +33,7 @@ fn is_holder(kind: usize) -> bool
 }
 
 // Whether definition j holds the OID of definition k. Most OIDs differ, so they are looked at before the kind.
-fn holds_oid(
+pub fn holds_oid(
     text: &[u8],
     fields: &[usize; 8192],
     firsts: &[usize; 513],

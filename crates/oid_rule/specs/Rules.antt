@@ -1,4 +1,4 @@
--- The rules on OIDs, refusals 12 to 15, in the order of their numbers; and what is left where all are kept.
+-- The rules on OIDs, refusals 12 to 15, in the order of their numbers; and what is left where those before 15 are kept.
 -- Assumes nothing.
 use mathlib.Core.Path.{_≡_}
 use mathlib.Core.List.{List, [], _∷_, _++_}
@@ -18,11 +18,15 @@ use Rattle.number_buffer.specs.Refusal.{held-twice}
 abbrev pub length-rules : List Meaning → List Rule
 length-rules ms = too-long ms ∷ past-room ms ∷ []
 
--- 12 of all definitions before 13 of any, and so on
+-- those before OIDs are compared: 12 of all definitions before 13 of any, and so on. Where they are kept, the OIDs can be written
+abbrev pub collecting-rules : List Meaning → List Rule
+collecting-rules ms = unreached ms ∷ length-rules ms
+
+-- all of them
 unfoldable pub oid-rules : List Meaning → List Rule
 oid-rules ms = unreached ms ∷ length-rules ms ++ held-twice ms ∷ []
 
--- where all are kept, the number buffer holds the OIDs of all definitions without gaps, with the rest as it was, and the table of
+-- where these are kept, the number buffer holds the OIDs of all definitions without gaps, with the rest as it was, and the table of
 -- runs says where each one stands
 pub record OidsHeld (ms : List Meaning) (firsts before after : List ℕ) : Type 0 where
   pub runs : RunTable ms firsts (count-of ms)

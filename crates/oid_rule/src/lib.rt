@@ -2,17 +2,13 @@
 ghost use mathlib.Core.Path.{_≡_};
 ghost use Prim.Native.Nat.{_+_, _≤_};
 ghost use lib.ListN.{length};
-ghost use Rattle.index.specs.Rule.{judge-one, judge};
+ghost use Rattle.index.specs.Rule.{judge};
 ghost use Rattle.token.specs.Cut.{meanings-in};
-ghost use Rattle.token.specs.Table.{overlaid};
 ghost use Rattle.name.specs.Collect.{most-definitions};
 ghost use Rattle.field_table.specs.Table.{ModuleTable};
-ghost use Rattle.oid.specs.Oid.{first-number, numbers-before};
-ghost use Rattle.oid.specs.Heads.{HeadTable};
 ghost use Rattle.oid.specs.Runs.{RunTable};
 ghost use Rattle.oid.specs.Refusal.{most-numbers};
-ghost use Rattle.number_buffer.specs.Refusal.{held-twice};
-ghost use Rattle.oid_rule.specs.Rules.{length-rules, oid-rules, Left};
+ghost use Rattle.oid_rule.specs.Rules.{length-rules, collecting-rules, oid-rules, Left};
 use index::Judgement;
 use number_buffer::judge_twins;
 use number_buffer::write_oids;
@@ -71,35 +67,8 @@ fn judge_lengths(
     )
 }
 
-// Writes the OIDs, for which there is room, and judges refusal 15.
-fn judge_written(
-    text: &[u8],
-    classes: &[u8; 65536],
-    starts: &[u32; 65536],
-    ends: &[u32; 65536],
-    n: usize,
-    imported: &[u32; 65536],
-    m: usize,
-    defined: &[u32; 512],
-    c: usize,
-    fields: &[usize; 8192],
-    heads: &[usize; 512],
-    firsts: &[usize; 513],
-    numbers: &mut [u32],
-) -> Judgement
-    requires module { ⌜ ModuleTable (now text) (now classes) (now starts) (now ends) n (now imported) m (now defined) c (now fields) ⌝ }
-    requires heads { ⌜ HeadTable (meanings-in (now text)) (now heads) c ⌝ }
-    requires runs { ⌜ RunTable (meanings-in (now text)) (now firsts) c ⌝ }
-    requires room { ⌜ first-number (meanings-in (now text)) c ≤ length (now numbers) ⌝ }
-    ensures judged { λ r. ⌜ r ≡ judge-one (held-twice (meanings-in (now (text .entry)))) ⌝ }
-    ensures held { λ r. ⌜ now (numbers .exit) ≡ overlaid (numbers-before (meanings-in (now (text .entry))) c) (now (numbers .entry)) ⌝ }
-{
-    write_oids(text, classes, starts, ends, n, c, fields, heads, numbers);
-    judge_twins(text, defined, c, fields, firsts, numbers)
-}
-
-// What the rules on OIDs say of a module. Where all are kept, the number buffer holds the OIDs, and `firsts` where each one starts.
-pub fn judge_oids(
+// Refusals 12 to 14. Where they are kept, the number buffer holds the OIDs, and `firsts` where each one starts.
+pub fn collect_oids(
     text: &[u8],
     classes: &[u8; 65536],
     starts: &[u32; 65536],
@@ -116,7 +85,7 @@ pub fn judge_oids(
     requires module { ⌜ ModuleTable (now text) (now classes) (now starts) (now ends) n (now imported) m (now defined) c (now fields) ⌝ }
     requires firsts { ⌜ length (now firsts) ≡ most-definitions + 1 ⌝ }
     requires numbers { ⌜ most-numbers ≤ length (now numbers) ⌝ }
-    ensures judged { λ r. ⌜ r ≡ judge (oid-rules (meanings-in (now (text .entry)))) ⌝ }
+    ensures judged { λ r. ⌜ r ≡ judge (collecting-rules (meanings-in (now (text .entry)))) ⌝ }
     ensures held { λ r. ⌜ Left (meanings-in (now (text .entry))) r (now (firsts .exit)) (now (numbers .entry)) (now (numbers .exit)) ⌝ }
 {
     let mut heads = [0usize; 512];
@@ -182,7 +151,32 @@ pub fn judge_oids(
     let Judgement::Kept = lengths else {
         return lengths;
     };
-    judge_written(
+    write_oids(text, classes, starts, ends, n, c, fields, &heads, numbers);
+    lengths
+}
+
+// What the rules on OIDs say of a module. Where all are kept, the number buffer holds the OIDs, and `firsts` where each one starts.
+pub fn judge_oids(
+    text: &[u8],
+    classes: &[u8; 65536],
+    starts: &[u32; 65536],
+    ends: &[u32; 65536],
+    n: usize,
+    imported: &[u32; 65536],
+    m: usize,
+    defined: &[u32; 512],
+    c: usize,
+    fields: &[usize; 8192],
+    firsts: &mut [usize; 513],
+    numbers: &mut [u32],
+) -> Judgement
+    requires module { ⌜ ModuleTable (now text) (now classes) (now starts) (now ends) n (now imported) m (now defined) c (now fields) ⌝ }
+    requires firsts { ⌜ length (now firsts) ≡ most-definitions + 1 ⌝ }
+    requires numbers { ⌜ most-numbers ≤ length (now numbers) ⌝ }
+    ensures judged { λ r. ⌜ r ≡ judge (oid-rules (meanings-in (now (text .entry)))) ⌝ }
+    ensures held { λ r. ⌜ Left (meanings-in (now (text .entry))) r (now (firsts .exit)) (now (numbers .entry)) (now (numbers .exit)) ⌝ }
+{
+    let collected = collect_oids(
         text,
         classes,
         starts,
@@ -193,8 +187,11 @@ pub fn judge_oids(
         defined,
         c,
         fields,
-        &heads,
         firsts,
         numbers,
-    )
+    );
+    let Judgement::Kept = collected else {
+        return collected;
+    };
+    judge_twins(text, defined, c, fields, firsts, numbers)
 }

@@ -19,12 +19,9 @@ use Rattle.syntax.specs.declared.Answer.{Answer as Parsing}
 use Rattle.syntax.specs.declared.Answer.the-variants.{Derived, Underived, Uncut}
 use Rattle.name.specs.Collect.{most-definitions}
 use Rattle.oid.specs.Oid.{count-of, numbers-before, first-number}
-use Rattle.oid.specs.Runs.{RunTable}
 use Rattle.oid_rule.specs.Rules.{OidsHeld}
 use Rattle.oid_rule.specs.Rules.{Left as OidsLeft}
 use Rattle.number_buffer.specs.Writing.{Written}
-use Rattle.number_buffer.specs.Held.{NumberTable}
-use Rattle.number_buffer.proofs.Held.{written-held}
 use Rattle.number_buffer.proofs.Writing.{overlaid-length}
 use Rattle.record.specs.Record.{records-before}
 use Rattle.record.proofs.Words.{before-long}
@@ -69,12 +66,6 @@ module _ (ms : List Meaning) (r : Judgement) (firsts before after : List ℕ) (l
 
   pub oids-broken : (number : ℕ) (place : TokenIndex) → r ≡ Broken number place → length after ≡ length before
   oids-broken number place e = subst (λ (j : Judgement). OidsLeft ms j firsts before after) e left
-
--- the number buffer that they leave is what the rules on tables are told by
-pub numbers-table : (ms : List Meaning) (firsts before after : List ℕ) (c : ℕ) → OidsHeld ms firsts before after → count-of ms ≡ c → c ≤ most-definitions → NumberTable ms firsts after c
-numbers-table ms firsts before after c held counted few =
-    written-held ms firsts before after c (first-number ms c) few (subst (RunTable ms firsts) counted (held .runs))
-    (record { counted = refl; held = held .numbers ∙ ap (λ (k : ℕ). overlaid (numbers-before ms k) before) counted })
 
 -- ---- the answer to what the rules say
 

@@ -22,7 +22,7 @@ use index::TokenIndex;
 use token::entry::same_name;
 
 // The item whose label is token i.
-fn item_at(
+pub fn item_at(
     text: &[u8],
     classes: &[u8; 65536],
     starts: &[u32; 65536],
@@ -40,7 +40,7 @@ fn item_at(
 }
 
 // Whether two items have the same label or the same number.
-fn is_alike(
+pub fn is_alike(
     text: &[u8],
     classes: &[u8; 65536],
     starts: &[u32; 65536],

@@ -4,14 +4,18 @@ mod limit;
 mod number;
 mod ranges;
 
+pub use enumeration::is_alike;
+pub use enumeration::item_at;
 pub use enumeration::judge_items;
 use index::TokenIndex;
 pub use limit::bit_limits;
 pub use limit::integer_limits;
 pub use limit::range_limits;
 pub use limit::size_limits;
+pub use ranges::is_ordered;
 pub use ranges::judge_limits;
 pub use ranges::judge_order;
+pub use ranges::range_at;
 
 // A range: its low and its high number, whether it is written as a pair, and its first token.
 pub struct Range {

@@ -59,7 +59,7 @@ fn next_range(classes: &[u8], n: usize, a: usize, b: usize) -> usize
 }
 
 // The range that starts at token i.
-fn range_at(
+pub fn range_at(
     text: &[u8],
     classes: &[u8; 65536],
     starts: &[u32; 65536],
@@ -91,7 +91,7 @@ fn range_at(
 }
 
 // Whether a pair's low is below its high.
-fn is_ordered(range: Range) -> bool
+pub fn is_ordered(range: Range) -> bool
     ensures { λ r. ⌜ r ≡ is-ordered range ⌝ }
 {
     if range.paired {

@@ -4,6 +4,7 @@ mod fault;
 mod indexed;
 mod row;
 
+pub use column::is_misnaming_row;
 pub use column::is_repeating_row;
 pub use fault::collect_faults;
 pub use indexed::has_unfounded_augments;
@@ -11,3 +12,4 @@ pub use indexed::is_indexed_object;
 pub use indexed::is_unindexed_row;
 pub use row::is_rowless_table;
 pub use row::is_stray_row;
+pub use row::next_row;

@@ -42,7 +42,7 @@ fn is_row_of(
 }
 
 // The first row of this type from an index on; c where there is none, or the index where it is past c.
-fn next_row(
+pub fn next_row(
     text: &[u8],
     c: usize,
     fields: &[usize; 8192],

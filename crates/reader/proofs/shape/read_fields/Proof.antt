@@ -15,11 +15,11 @@ use Rattle.field_table.proofs.Said.{definitions-counted}
 use Rattle.oid.specs.Oid.{count-of, first-number}
 use Rattle.oid.specs.Refusal.{most-numbers}
 use Rattle.oid_rule.specs.Rules.{OidsHeld}
-use Rattle.oid_rule.proofs.Judging.{oids-room}
+use Rattle.oid_rule.proofs.Judging.{oids-room, numbers-table}
 use Rattle.syntax_rule.specs.Refusal.{syntax-rules}
 use Rattle.table_rule.specs.Refusal.{table-rules}
 use Rattle.reader.specs.Reading.{later-rules}
-use Rattle.reader.proofs.Laying.{laid-broken, laid-both, oids-kept, oids-broken, numbers-table}
+use Rattle.reader.proofs.Laying.{laid-broken, laid-both, oids-kept, oids-broken}
 use borrow.Author.Needs.{needs}
 use Rattle.reader.proofs.shape.read_fields.Statement.{statement}
 use Rattle.reader.proofs.shape.read_fields.Tie as tie
