@@ -1,2 +1,3 @@
 pub mod Picked
 pub mod Standing
+pub mod Clauses

@@ -1,1 +1,2 @@
 pub mod Braces
+pub mod Names
