@@ -25,7 +25,11 @@ fn count_kind(records: &[u32], kind: u32) -> u64
 }
 
 fn is_kind(records: &[u32], at: usize, kind: u32) -> bool {
-    if at < records.len() { records[at] == kind } else { false }
+    if at < records.len() {
+        records[at] == kind
+    } else {
+        false
+    }
 }
 
 // Behind the file's name: that the module is accepted, and how many definitions of each kind it has.

@@ -34,7 +34,14 @@ fn main() {
 }
 
 fn complain_none(out: Output) -> Output {
-    output::complain(out, b"mib explain", 0, b"", b"is no file", b"mib explain FILE...")
+    output::complain(
+        out,
+        b"mib explain",
+        0,
+        b"",
+        b"is no file",
+        b"mib explain FILE...",
+    )
 }
 
 // Explains the file that argument i names; or says that the name is too long for a file's.
@@ -65,7 +72,13 @@ fn explain_text(name: &[u8], text: &[u8], out: Output) -> Output {
             let out = print(out, name);
             count::print_accepted(&records, definitions, out)
         }
-        Answer::Refused(number, place) => explain_refusal(name, text, number, place, output::refuse(out)),
+        Answer::Refused(number, place) => explain_refusal(
+            name,
+            text,
+            number,
+            place,
+            output::refuse(out),
+        ),
     }
 }
 

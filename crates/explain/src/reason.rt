@@ -1,14 +1,14 @@
 // The rules in words, each with the word at fault.
 ghost use Prim.Native.Nat.{_≤_};
 ghost use lib.ListN.{length};
-use buffer::byte_at;
-use counterpart::Counterpart;
-use counterpart::Other;
 use crate::source::within;
+use buffer::byte_at;
+use counterpart::Answer as Counterpart;
+use counterpart::Clause;
+use counterpart::Other;
 use output::Output;
 use output::print;
 use output::print_number;
-use table_fault::Clause;
 
 // Whether a byte is a letter or a digit.
 fn is_word_byte(b: u8) -> bool {
@@ -71,7 +71,13 @@ fn print_quoted(text: &[u8], at: usize, out: Output) -> Output
 }
 
 // Why the place is refused.
-pub fn print_reason(text: &[u8], place: usize, number: u8, found: Counterpart, out: Output) -> Output {
+pub fn print_reason(
+    text: &[u8],
+    place: usize,
+    number: u8,
+    found: Counterpart,
+    out: Output,
+) -> Output {
     match number {
         2 => print(out, b"the text has more than 65,536 bytes"),
         3 => print(out, b"no token starts here"),
@@ -110,16 +116,28 @@ fn print_named(text: &[u8], place: usize, number: u8, found: Counterpart, out: O
 fn print_early(number: u8, out: Output) -> Output {
     match number {
         5 => print(out, b" is a name of more than 64 bytes"),
-        6 => print(out, b" is out of range: a number may be -2147483648 to 4294967295"),
+        6 => print(
+            out,
+            b" is out of range: a number may be -2147483648 to 4294967295",
+        ),
         8 => print(out, b" is the 513th definition, and a module may have 512"),
-        10 => print(out, b" is not offered by the module that it is imported from"),
+        10 => print(
+            out,
+            b" is not offered by the module that it is imported from",
+        ),
         11 => print(
             out,
             b" is neither defined nor imported as what is needed here: a macro, a type, an OID, an object or a SEQUENCE type",
         ),
-        12 => print(out, b" has an OID that never reaches a built-in name: its heads go round in a circle"),
+        12 => print(
+            out,
+            b" has an OID that never reaches a built-in name: its heads go round in a circle",
+        ),
         13 => print(out, b" has an OID of more than 128 numbers"),
-        14 => print(out, b" has an OID with which those of the module pass 8,192 numbers"),
+        14 => print(
+            out,
+            b" has an OID with which those of the module pass 8,192 numbers",
+        ),
         _ => print(out, b" has the OID of an earlier definition"),
     }
 }
@@ -130,7 +148,10 @@ fn print_late(number: u8, out: Output) -> Output {
             out,
             b" starts a range out of order: its low number is below its high one, and it lies above the range before it",
         ),
-        17 => print(out, b" starts a range that may not stand on this type, or that is outside its limits"),
+        17 => print(
+            out,
+            b" starts a range that may not stand on this type, or that is outside its limits",
+        ),
         18 => print(
             out,
             b" has the label or the number of an earlier item, or a number that may not stand here",
@@ -167,7 +188,10 @@ fn print_clause(found: Counterpart, out: Output) -> Output {
             out,
             b" is a table whose SEQUENCE type has not exactly one row, at the table's OID followed by 1",
         ),
-        Clause::StrayRow => print(out, b" is a row, and not at the OID, followed by 1, of a table of its type"),
+        Clause::StrayRow => print(
+            out,
+            b" is a row, and not at the OID, followed by 1, of a table of its type",
+        ),
         Clause::UnindexedRow => print(out, b" is a row with neither INDEX nor AUGMENTS"),
         Clause::IndexedObject => print(out, b" is no row, and has INDEX or AUGMENTS"),
         Clause::RepeatingRow => print(out, b" is a row whose SEQUENCE type lists a name twice"),
@@ -179,7 +203,10 @@ fn print_clause(found: Counterpart, out: Output) -> Output {
             out,
             b" is at a row's OID plus one number, and the row's SEQUENCE type does not list it",
         ),
-        Clause::UnfoundedAugments => print(out, b" has AUGMENTS with a name that is no row with INDEX"),
+        Clause::UnfoundedAugments => print(
+            out,
+            b" has AUGMENTS with a name that is no row with INDEX",
+        ),
         Clause::Kept => print(out, b" breaks a rule on tables"),
     }
 }

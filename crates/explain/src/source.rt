@@ -9,7 +9,11 @@ use output::print_number;
 pub fn within(text: &[u8], place: usize) -> usize
     ensures { λ r. ⌜ r ≤ length (now (text .entry)) ⌝ }
 {
-    if place < text.len() { place } else { text.len() }
+    if place < text.len() {
+        place
+    } else {
+        text.len()
+    }
 }
 
 // FILE:LINE:COLUMN: refused NUMBER:, in the form that editors jump to. Columns count bytes.

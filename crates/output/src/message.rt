@@ -21,7 +21,14 @@ pub fn fail(out: Output, what: &[u8]) -> Output {
 
 // Says that a word does not fit, in one line: the command, the line of the list if it is not 0, the word in quotes, why it does not fit,
 // and how the command is used.
-pub fn complain(out: Output, command: &[u8], line: u64, word: &[u8], why: &[u8], usage: &[u8]) -> Output {
+pub fn complain(
+    out: Output,
+    command: &[u8],
+    line: u64,
+    word: &[u8],
+    why: &[u8],
+    usage: &[u8],
+) -> Output {
     io::write_all(STDERR_FILENO, command);
     write_line_number(line);
     write_quoted(word);
@@ -31,7 +38,14 @@ pub fn complain(out: Output, command: &[u8], line: u64, word: &[u8], why: &[u8],
 }
 
 // The same of a case. In a list the case gives a line all the same, so that what is printed can be paired with what was asked.
-pub fn misfit(out: Output, command: &[u8], line: u64, word: &[u8], why: &[u8], usage: &[u8]) -> Output {
+pub fn misfit(
+    out: Output,
+    command: &[u8],
+    line: u64,
+    word: &[u8],
+    why: &[u8],
+    usage: &[u8],
+) -> Output {
     let said = complain(out, command, line, word, why, usage);
     if line == 0 {
         return said;

@@ -72,7 +72,12 @@ fn answer_case(case: &[u8], separator: u8, line: u64, out: Output) -> Output {
     let count = words::count_words(case, separator);
     if count < 3 {
         let last = words::part(case, separator, count - 1);
-        return complain(out, line, last, b"is the last word, and a case has three or four");
+        return complain(
+            out,
+            line,
+            last,
+            b"is the last word, and a case has three or four",
+        );
     }
     if 4 < count {
         let extra = words::part(case, separator, 4);
@@ -95,13 +100,7 @@ fn answer_case(case: &[u8], separator: u8, line: u64, out: Output) -> Output {
 }
 
 // Answers each set value that RFC 2579 names. What is refused is part of the answer then; only a state that does not exist is not.
-fn answer_each(
-    state_word: &[u8],
-    complete: bool,
-    willing: bool,
-    line: u64,
-    out: Output,
-) -> Output {
+fn answer_each(state_word: &[u8], complete: bool, willing: bool, line: u64, out: Output) -> Output {
     match words::read_natural(state_word) {
         Natural::Is(state) => print_each(state_word, state, complete, willing, out),
         Natural::Beyond => print_each(state_word, LONG_STATE, complete, willing, out),
@@ -109,13 +108,7 @@ fn answer_each(
     }
 }
 
-fn print_each(
-    state_word: &[u8],
-    state: u64,
-    complete: bool,
-    willing: bool,
-    out: Output,
-) -> Output {
+fn print_each(state_word: &[u8], state: u64, complete: bool, willing: bool, out: Output) -> Output {
     let out = print_set(state_word, state, b"1", 1, complete, willing, out);
     let out = print_set(state_word, state, b"2", 2, complete, willing, out);
     let out = print_set(state_word, state, b"3", 3, complete, willing, out);
@@ -138,7 +131,15 @@ fn answer_one(
     out: Output,
 ) -> Output {
     match words::read_natural(state_word) {
-        Natural::Is(state) => answer_value(state_word, state, value_word, complete, willing, line, out),
+        Natural::Is(state) => answer_value(
+            state_word,
+            state,
+            value_word,
+            complete,
+            willing,
+            line,
+            out,
+        ),
         Natural::Beyond => answer_value(
             state_word,
             LONG_STATE,
@@ -162,7 +163,15 @@ fn answer_value(
     out: Output,
 ) -> Output {
     match words::read_number(value_word) {
-        Number::Is(value) => print_one(state_word, state, value_word, value, complete, willing, out),
+        Number::Is(value) => print_one(
+            state_word,
+            state,
+            value_word,
+            value,
+            complete,
+            willing,
+            out,
+        ),
         Number::Beyond(_) => print_one(
             state_word,
             state,

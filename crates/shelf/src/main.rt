@@ -52,7 +52,13 @@ fn read_arguments(text: &mut [u8], counts: &mut [u64], out: Output) -> Output {
 }
 
 // Reads the file that argument i names; or says that the name is too long for a file's.
-fn read_argument(i: usize, name: &mut [u8], text: &mut [u8], counts: &mut [u64], out: Output) -> Output {
+fn read_argument(
+    i: usize,
+    name: &mut [u8],
+    text: &mut [u8],
+    counts: &mut [u64],
+    out: Output,
+) -> Output {
     let n = os::arg(i, name);
     if os::errno() != 0 {
         count_one(counts, UNREAD);
@@ -64,7 +70,9 @@ fn read_argument(i: usize, name: &mut [u8], text: &mut [u8], counts: &mut [u64],
 // Reads the files that the lines of standard input name. The lines are counted in 64 bits, which no run uses up.
 fn read_list(text: &mut [u8], counts: &mut [u64], out: Output) -> Output {
     let mut space = io::large_buffer();
-    output::say_waiting(b"mib shelf: waiting for the names of files, a line each; Ctrl-D ends them\n");
+    output::say_waiting(
+        b"mib shelf: waiting for the names of files, a line each; Ctrl-D ends them\n",
+    );
     read_lines(&mut space, text, counts, out)
 }
 
@@ -198,7 +206,11 @@ fn print_refused(number: usize, count: u64) {
 
 // How many files have this answer.
 fn count_at(counts: &[u64], number: usize) -> u64 {
-    if number < counts.len() { counts[number] } else { 0 }
+    if number < counts.len() {
+        counts[number]
+    } else {
+        0
+    }
 }
 
 // All of them, or as many as can be counted.

@@ -35,7 +35,14 @@ fn main() {
 }
 
 fn complain_none(out: Output) -> Output {
-    output::complain(out, b"mib tokens", 0, b"", b"is no file", b"mib tokens FILE...")
+    output::complain(
+        out,
+        b"mib tokens",
+        0,
+        b"",
+        b"is no file",
+        b"mib tokens FILE...",
+    )
 }
 
 // Lists the file that argument i names; or says that the name is too long for a file's.

@@ -51,7 +51,7 @@ laid-to-requires-2 : tie.Need-laid-to-requires-2
 laid-to-requires-2 c κs = search needs
 
 write-records-requires : tie.Need-write-records-requires
-write-records-requires c κs = 
+write-records-requires c κs =
     let d = c .before .before .before .before .before .before .before .before .before .before .before .before .before .before .before .before .before .before .before .before in
     let r = c .before .before .before .before .before .before .before .before .before .before .before .before .before .before .before .read in
     let size = length-replicate {A = ℕ} 5120 0 in
@@ -59,8 +59,7 @@ write-records-requires c κs =
     let is = c .before .before .before .before .before .answer .given .1 in
     let head = c .before .before .before .before .before .before .before .before .before .write-head in
     let within = accepted-within _ _ _ _ _ _ _ (r .ensures) (omega (arith, size)) (omega (arith, room)) is in
-    let few = accepted-few _ _ _ _ _ _ _ (r .ensures) (omega (arith, size)) (omega (arith, room)) is in
-    (
+    let few = accepted-few _ _ _ _ _ _ _ (r .ensures) (omega (arith, size)) (omega (arith, room)) is in (
       within,
       (
         omega (arith, few, size, r .kept .1 .0),

@@ -32,12 +32,12 @@ returns : tie.Need-returns
 returns c = search needs
 
 array-share-prefix-space : tie.Need-array-share-prefix-space
-array-share-prefix-space c = 
+array-share-prefix-space c =
     let found = c .before in
     read-fits (found .before .before .before .read-hex .ensures) (found .n .given .1)
 
 slice-aggregate-print-octets : tie.Need-slice-aggregate-print-octets
-slice-aggregate-print-octets c = 
+slice-aggregate-print-octets c =
     let found = c .before .before in
     sym (length-take-le _ _ (read-fits (found .before .before .before .read-hex .ensures) (found .n .given .1)))
 

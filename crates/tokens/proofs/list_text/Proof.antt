@@ -12,7 +12,7 @@ enum-known-answer : tie.Need-enum-known-answer
 enum-known-answer c = search needs
 
 list-tokens-requires : tie.Need-list-tokens-requires
-list-tokens-requires c κs = 
+list-tokens-requires c κs =
     let count = c .before .before .before .before in
     derived-table _ _ _ _ _ _ (count .before .before .parse .ensures .1) (count .answer .given .1)
 
@@ -26,7 +26,7 @@ enum-known-answer-2 : tie.Need-enum-known-answer-2
 enum-known-answer-2 c = search needs
 
 list-tokens-requires-2 : tie.Need-list-tokens-requires-2
-list-tokens-requires-2 c κs = 
+list-tokens-requires-2 c κs =
     let count = c .before .before .before .before in
     underived-table _ _ _ _ _ _ (count .before .before .parse .ensures .1) _ (count .answer2 .given .1)
 

@@ -35,8 +35,7 @@ loop-again : tie.Need-loop-again Inv-loop μ-loop
 loop-again c =
     let here = c .before .before .before in
     let text = here .before .before .args .text .now in
-    let ends = sym (c .before .is-end .ensures) ∙ c .if1 .taken in
-    (
+    let ends = sym (c .before .is-end .ensures) ∙ c .if1 .taken in (
       search needs,
       search needs,
       search needs,
@@ -54,8 +53,7 @@ loop-again-2 : tie.Need-loop-again-2 Inv-loop μ-loop
 loop-again-2 c =
     let here = c .before .before .before in
     let text = here .before .before .args .text .now in
-    let goes-on = sym (c .before .is-end .ensures) ∙ c .if1 .left in
-    (
+    let goes-on = sym (c .before .is-end .ensures) ∙ c .if1 .left in (
       search needs,
       search needs,
       search needs,
