@@ -41,7 +41,7 @@ clause-of ms k = cond (is-object ms k) (clause-by-rows ms k (clause-by-names ms 
 unfoldable pub numbered : ℕ → ℕ → ℕ
 numbered k number = cond (eqb number 0) k (number - 1)
 
--- the first of two definitions that is one of c; k, where neither is
+-- definition i, where it is one of c; else k
 unfoldable pub among : ℕ → ℕ → ℕ → ℕ
 among c i k = cond (ltb i c) i k
 
