@@ -2,8 +2,6 @@
 //
 // shelf FILE... prints a line for each file: its name, `accepted` and the count of definitions; or its name, `refused`, the number and the
 // place; with tabs between them. Without arguments the names are lines of standard input. At the end a summary goes to standard error.
-ghost use lib.ListN.{length};
-ghost use Prim.Native.Nat.{_≤_};
 use card_line::write_head;
 use command::Line;
 use command::Lines;

@@ -1,20 +1,15 @@
+-- `line_end` is right: what is found is the definition's line feed, or the end.
+-- Assumes nothing.
 use borrow.Author.Needs.{needs}
 use Rattle.position.proofs.line.line_end.Statement.{statement}
 use Rattle.position.proofs.line.line_end.Tie as tie
-use Rattle.position.proofs.line.line_end.Reads as reads
-use Rattle.position.proofs.line.line_end.Lts as lts
-use Rattle.bytes.proofs.scan.find.Reads as find-reads
-use Rattle.position.proofs.line.without_return.Reads as without-return-reads
 
--- src/line.rt:69:9
 find-requires : tie.Need-find-requires
 find-requires c κs = search needs
 
--- src/line.rt:70:5
 without-return-requires : tie.Need-without-return-requires
 without-return-requires c κs = search needs
 
--- src/line.rt:63:1
 returns : tie.Need-returns
 returns c =
     let end = c .before .find .ensures .0 in

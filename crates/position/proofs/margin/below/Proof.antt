@@ -1,21 +1,18 @@
+-- `below` is right: it is the definition, test by test.
+-- Assumes nothing.
 use Rattle.position.specs.Margin.{below}
 use borrow.Author.Tests.{le-leb, lt-leb}
 use Rattle.position.proofs.margin.below.Statement.{statement}
 use Rattle.position.proofs.margin.below.Tie as tie
-use Rattle.position.proofs.margin.below.Reads as reads
-use Rattle.position.proofs.margin.below.Lts as lts
 
--- src/margin.rt:29:1
 returns : tie.Need-returns
 unfolding below
 returns c = simp (lt-leb _ _ (c .if1 .taken))
 
--- src/margin.rt:29:1
 returns-2 : tie.Need-returns-2
 unfolding below
 returns-2 c = simp (le-leb _ _ (c .before .if1 .left), le-leb _ _ (c .if2 .taken))
 
--- src/margin.rt:29:1
 returns-3 : tie.Need-returns-3
 unfolding below
 returns-3 c = simp (le-leb _ _ (c .before .if1 .left), lt-leb _ _ (c .if2 .left))

@@ -1,34 +1,27 @@
+-- `is_inside` is right: it is the definition, test by test.
+-- Assumes nothing.
 use Rattle.position.specs.Margin.{is-inside}
 use borrow.Author.Needs.{needs}
 use Rattle.position.proofs.margin.is_inside.Statement.{statement}
 use Rattle.position.proofs.margin.is_inside.Tie as tie
-use Rattle.position.proofs.margin.is_inside.Reads as reads
-use Rattle.position.proofs.margin.is_inside.Lts as lts
-use Rattle.position.proofs.margin.reaches.Reads as reaches-reads
 
--- src/margin.rt:25:5
 reaches-requires : tie.Need-reaches-requires
 reaches-requires c κs = search needs
 
--- src/margin.rt:25:29
 reaches-requires-2 : tie.Need-reaches-requires-2
 reaches-requires-2 c κs = search needs
 
--- src/margin.rt:25:52
 reaches-requires-3 : tie.Need-reaches-requires-3
 reaches-requires-3 c κs = search needs
 
--- src/margin.rt:21:1
 returns : tie.Need-returns
 unfolding is-inside
 returns c = simp (← (c .before .reaches .ensures), c .if1 .taken)
 
--- src/margin.rt:21:1
 returns-2 : tie.Need-returns-2
 unfolding is-inside
 returns-2 c = simp (← (c .before .before .before .reaches .ensures), c .before .before .if1 .left, ← (c .before .reaches2 .ensures), c .if2 .taken)
 
--- src/margin.rt:21:1
 returns-3 : tie.Need-returns-3
 unfolding is-inside
 returns-3 c =
