@@ -1,22 +1,46 @@
 #!/usr/bin/env python3
-"""at_terminal.py COMMAND WORD...: runs the command at a terminal of its own, types one case of a row and the end of the input, and prints
-all that it shows."""
+"""Runs a command at a terminal of its own, and prints all that it shows there.
+
+at_terminal.py COMMAND WORD...            types one case of a row, and the end of the input
+at_terminal.py --errors COMMAND WORD...   has its standard error at the terminal alone; its input is this one's, and its output is dropped
+"""
 import os
 import pty
+import subprocess
 import sys
 
-pid, master = pty.fork()
-if pid == 0:
-    os.execvp(sys.argv[1], sys.argv[1:])
-os.write(master, b"0\tyes\tyes\t4\n\x04")
-shown = b""
-while True:
-    try:
-        some = os.read(master, 4096)
-    except OSError:
-        break
-    if not some:
-        break
-    shown += some
-os.waitpid(pid, 0)
-sys.stdout.buffer.write(shown)
+
+def shown(master):
+    """All that comes from a terminal, until it is closed."""
+    all_of_it = b""
+    while True:
+        try:
+            some = os.read(master, 4096)
+        except OSError:
+            return all_of_it
+        if not some:
+            return all_of_it
+        all_of_it += some
+
+
+def typed_at(command):
+    pid, master = pty.fork()
+    if pid == 0:
+        os.execvp(command[0], command)
+    os.write(master, b"0\tyes\tyes\t4\n\x04")
+    said = shown(master)
+    os.waitpid(pid, 0)
+    return said
+
+
+def errors_of(command):
+    master, terminal = pty.openpty()
+    child = subprocess.Popen(command, stdout=subprocess.DEVNULL, stderr=terminal)
+    os.close(terminal)
+    said = shown(master)
+    child.wait()
+    return said
+
+
+words = sys.argv[1:]
+sys.stdout.buffer.write(errors_of(words[1:]) if words[0] == "--errors" else typed_at(words))

@@ -159,24 +159,35 @@ fn count_one(counts: &mut [u64], number: usize) {
     }
 }
 
-// At a terminal, says how many files were read, in a line that the next one takes the place of. Where the lines of the files go to that
-// terminal too, they show it themselves.
+// Whether the count of files is shown: at a terminal, unless the lines of the files go there too, which show it themselves.
+fn shows_progress() -> bool {
+    if libc::isatty(STDERR_FILENO) != 1 {
+        return false;
+    }
+    libc::isatty(STDOUT_FILENO) != 1
+}
+
+// Says how many files were read, in a line that the next one takes the place of.
 fn show_progress(files: u64) {
     if files % STRIDE != 0 {
         return;
     }
-    if libc::isatty(STDERR_FILENO) != 1 {
-        return;
+    if shows_progress() {
+        io::print_decimal(STDERR_FILENO, files);
+        io::write_all(STDERR_FILENO, b" files\r");
     }
-    if libc::isatty(STDOUT_FILENO) == 1 {
-        return;
+}
+
+// Blanks in the place of that line.
+fn clear_progress() {
+    if shows_progress() {
+        io::write_all(STDERR_FILENO, b"                          \r");
     }
-    io::print_decimal(STDERR_FILENO, files);
-    io::write_all(STDERR_FILENO, b" files\r");
 }
 
 // How many files there were, how many of them were accepted, how many refused by each number, and how many could not be read.
 fn print_summary(counts: &[u64]) {
+    clear_progress();
     print_count(b"files\t", total(counts));
     print_count(b"accepted\t", count_at(counts, ACCEPTED));
     let mut number = 1;

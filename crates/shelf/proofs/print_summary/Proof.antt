@@ -11,6 +11,9 @@ Inv-loop counts number₀ t5 number = number ≤ 31
 abbrev μ-loop : tie.MeasureT-loop
 μ-loop counts number₀ t5 number = 31 - number
 
+clear-progress-requires : tie.Need-clear-progress-requires Inv-loop μ-loop
+clear-progress-requires c κs = search needs
+
 slice-aggregate-print-count : tie.Need-slice-aggregate-print-count Inv-loop μ-loop
 slice-aggregate-print-count c = search needs
 
@@ -65,6 +68,7 @@ print-summary-spec =
     (tie.spec
     Inv-loop
     μ-loop
+    clear-progress-requires
     slice-aggregate-print-count
     total-requires
     print-count-requires
