@@ -107,6 +107,8 @@ fn print_named(text: &[u8], place: usize, number: u8, found: Counterpart, out: O
     let out = print_word(text, place, out);
     match number {
         9 => print_again(found, out),
+        16 => print_range(found, out),
+        18 => print_item(found, out),
         20 => print_clause(found, out),
         5..=8 | 10..=15 => print_early(number, out),
         _ => print_late(number, out),
@@ -144,17 +146,9 @@ fn print_early(number: u8, out: Output) -> Output {
 
 fn print_late(number: u8, out: Output) -> Output {
     match number {
-        16 => print(
-            out,
-            b" starts a range out of order: its low number is below its high one, and it lies above the range before it",
-        ),
         17 => print(
             out,
             b" starts a range that may not stand on this type, or that is outside its limits",
-        ),
-        18 => print(
-            out,
-            b" has the label or the number of an earlier item, or a number that may not stand here",
         ),
         19 => print(
             out,
@@ -177,6 +171,33 @@ fn print_again(found: Counterpart, out: Output) -> Output {
     match other {
         Other::At(_) => print(out, b" is defined or imported a second time"),
         Other::Nowhere => print(out, b" is built in, and is neither defined nor imported"),
+    }
+}
+
+// A range that stands against none is wrong in itself.
+fn print_range(found: Counterpart, out: Output) -> Output {
+    let other = found.other;
+    match other {
+        Other::At(_) => print(
+            out,
+            b" starts a range that does not lie above the one before it",
+        ),
+        Other::Nowhere => print(
+            out,
+            b" starts a range whose low number is not below its high one",
+        ),
+    }
+}
+
+// So is an item.
+fn print_item(found: Counterpart, out: Output) -> Output {
+    let other = found.other;
+    match other {
+        Other::At(_) => print(out, b" has the label or the number of an earlier item"),
+        Other::Nowhere => print(
+            out,
+            b" has a number out of range: an INTEGER's may be -2147483648 to 2147483647, and none of BITS is negative",
+        ),
     }
 }
 
