@@ -3,9 +3,10 @@ ghost use Prim.Native.Nat.{_≤_};
 use output::Output;
 use output::print;
 use output::print_number;
+use reader::RECORD_WORDS;
 
 // The most records that there are.
-const RECORDS: usize = 512;
+const RECORDS: usize = RECORD_WORDS / record::WIDTH;
 
 // How many records are of this kind. Words that are not used are 0, which is no kind.
 fn count_kind(records: &[u32], kind: u32) -> u64

@@ -1,5 +1,5 @@
 // A place of a text as people see it: its line and column, the line itself, and a mark below the place.
-ghost use Prim.Native.Nat.{_≤_};
+ghost use Prim.Native.Nat.{_+_, _≤_};
 ghost use lib.ListN.{length};
 use output::Output;
 use output::print;
@@ -45,15 +45,11 @@ pub fn print_source(text: &[u8], place: usize, out: Output) -> Output {
     print_mark(text, start, at - start, out)
 }
 
-// What stands below the `count` bytes from `start` on, and the mark behind it.
-fn print_mark(text: &[u8], start: usize, count: usize, out: Output) -> Output {
+// What stands below the `count` bytes from `start` on, and the mark behind it. No text that is read has more bytes than the buffer.
+fn print_mark(text: &[u8], start: usize, count: usize, out: Output) -> Output
+    requires { ⌜ start + count ≤ length (now text) ⌝ }
+{
     let mut margin = [0u8; 65537];
-    if text.len() < start {
-        return out;
-    }
-    if text.len() - start < count {
-        return out;
-    }
     if margin.len() < count {
         return out;
     }

@@ -9,15 +9,6 @@ use Rattle.explain.proofs.source.print_mark.Tie as tie
 returns : tie.Need-returns
 returns c = search needs
 
-sub-if2 : tie.Need-sub-if2
-sub-if2 c = search needs
-
-returns-2 : tie.Need-returns-2
-returns-2 c = search needs
-
-returns-3 : tie.Need-returns-3
-returns-3 c = search needs
-
 slice-aggregate-write-margin : tie.Need-slice-aggregate-write-margin
 slice-aggregate-write-margin c = search needs
 
@@ -39,17 +30,14 @@ slice-aggregate-print-2 c = search needs
 print-requires-2 : tie.Need-print-requires-2
 print-requires-2 c κs = search needs
 
-returns-4 : tie.Need-returns-4
-returns-4 c = search needs
+returns-2 : tie.Need-returns-2
+returns-2 c = search needs
 
 pub print-mark-spec : {M : Type 1} → statement M
 print-mark-spec =
     tie.close
     (tie.spec
     returns
-    sub-if2
-    returns-2
-    returns-3
     slice-aggregate-write-margin
     write-margin-requires
     array-share-prefix-margin
@@ -57,4 +45,4 @@ print-mark-spec =
     print-requires
     slice-aggregate-print-2
     print-requires-2
-    returns-4)
+    returns-2)
