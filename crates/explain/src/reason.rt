@@ -158,10 +158,11 @@ fn print_late(number: u8, out: Output) -> Output {
             out,
             b" breaks a rule on access: tables and rows are not-accessible, read-create is for columns, a row with a read-create column has no read-write one, and counters are read-only or accessible-for-notify, without DEFVAL",
         ),
-        _ => print(
+        22 => print(
             out,
             b" is a notification whose next-to-last number is not 0, or that lists a not-accessible object",
         ),
+        _ => print(out, b" breaks a rule"),
     }
 }
 
