@@ -1,0 +1,3 @@
+pub mod Lead
+pub mod Definition
+pub mod Module
