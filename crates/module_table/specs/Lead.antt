@@ -15,6 +15,13 @@ lead-in word =
     (cond (eqb word 1) Iso
     (cond (ltb word 514) (Definition (record { 0 = word - 2 })) (Import (word - 514))))
 
+-- the word that says where a name leads
+abbrev pub word-of : Lead → ℕ
+word-of Iso = 1
+word-of (Import k) = 514 + k
+word-of (Definition d) = 2 + d .0
+word-of Nothing = 0
+
 -- what the name at token i leads to, by the values of all tokens
 abbrev pub lead-at : List ℕ → ℕ → Lead
 lead-at values i = lead-in (getD values i 0)

@@ -1,7 +1,7 @@
 // The definitions of a module, laid one after the other into words.
 ghost use mathlib.Core.Path.{_≡_};
 ghost use Prim.Native.Nat.{_+_, _<_, _≤_};
-ghost use lib.ListN.{length, set};
+ghost use lib.ListN.{length};
 ghost use Rattle.module_table.specs.Definition.{width, words, definition-from, definitions-in, absent, entry, Stored};
 use crate::Definition;
 use definition::Span;

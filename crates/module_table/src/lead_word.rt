@@ -1,6 +1,6 @@
 // What names lead to, as words: the value of a token that is used as a name.
 ghost use mathlib.Core.Path.{_≡_};
-ghost use Rattle.module_table.specs.Lead.{lead-in, lead-at, Small};
+ghost use Rattle.module_table.specs.Lead.{lead-in, word-of, lead-at, Small};
 use crate::Lead;
 use index::RecordIndex;
 use index::TokenIndex;
@@ -33,7 +33,7 @@ pub fn lead_in(word: u32) -> Lead
 // The word that says where a name leads.
 pub fn word_for(lead: Lead) -> u32
     requires { ⌜ Small lead ⌝ }
-    ensures { λ r. ⌜ lead-in r ≡ lead ⌝ }
+    ensures { λ r. ⌜ r ≡ word-of lead ⌝ }
 {
     match lead {
         Lead::Nothing => NOTHING,

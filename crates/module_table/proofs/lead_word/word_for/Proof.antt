@@ -1,10 +1,9 @@
 -- `word_for` is right: each lead has a word of its own.
 -- Assumes nothing.
-use mathlib.Core.Path.{sym, subst, _∙_}
+use mathlib.Core.Path.{sym, subst, ap}
 use Prim.Native.Nat.{_<_}
 use native.Mathlib.Omega.{arith}
-use Rattle.module_table.specs.Lead.{lead-in, Small}
-use Rattle.module_table.proofs.Words.{definition-word, symbol-word}
+use Rattle.module_table.specs.Lead.{word-of, Small}
 use borrow.Author.Needs.{needs}
 use Rattle.module_table.proofs.lead_word.word_for.Statement.{statement}
 use Rattle.module_table.proofs.lead_word.word_for.Tie as tie
@@ -38,18 +37,16 @@ add-result-2 : tie.Need-add-result-2
 add-result-2 c = omega (arith, subst Small (c .before .lead2 .given .1) (c .before .before .before .pre))
 
 returns : tie.Need-returns
-unfolding lead-in
-returns c = sym (c .enum-told .given .1)
+returns c = ap word-of (sym (c .enum-told .given .1))
 
 returns-2 : tie.Need-returns-2
-unfolding lead-in
-returns-2 c = sym (c .enum-told2 .given .1)
+returns-2 c = ap word-of (sym (c .enum-told2 .given .1))
 
 returns-3 : tie.Need-returns-3
-returns-3 c = definition-word (c .before .before .lead .given .0 .0) (index-small c) ∙ sym (c .before .before .lead .given .1)
+returns-3 c = ap word-of (sym (c .before .before .lead .given .1))
 
 returns-4 : tie.Need-returns-4
-returns-4 c = symbol-word (c .before .lead2 .given .0 .0) ∙ sym (c .before .lead2 .given .1)
+returns-4 c = ap word-of (sym (c .before .lead2 .given .1))
 
 pub word-for-spec : {M : Type 1} → statement M
 word-for-spec =
