@@ -1,6 +1,5 @@
 // The records of a module's definitions, ten words each, written in text order.
 ghost use mathlib.Core.Path.{_≡_};
-ghost use mathlib.Core.Bool.{cond};
 ghost use Prim.Native.Nat.{ℕ, _-_, _≤_, _<_, _*_};
 ghost use lib.ListN.{length, getD};
 ghost use Rattle.overlay.specs.Writing.{Written};

@@ -11,7 +11,7 @@ use Rattle.module_table.specs.declared.Definition.{Definition}
 use Rattle.module_table.specs.Definition.{definitions-in, entry}
 use Rattle.overlay.specs.Writing.{Written}
 use Rattle.overlay.proofs.Writing.{overlaid-length, written-none, returned, first-inside, second-room, written-both}
-use Rattle.records.specs.Record.{record-of, records-before, Narrow}
+use Rattle.records.specs.Record.{record-of, records-before}
 use Rattle.records.proofs.Words.{record-long, none-before, before-more, before-long}
 use Rattle.records.proofs.write_records.Statement.{statement}
 use Rattle.records.proofs.write_records.Tie as tie
