@@ -1,0 +1,140 @@
+#!/usr/bin/env python3
+"""The texts within the limit of 65,536 bytes that cost the most, as far as is known: each one thing, as often as it fits.
+
+worst_texts.py FOLDER writes a file for each.
+"""
+import itertools
+import os
+import sys
+
+LIMIT = 65536
+HEAD = ("W DEFINITIONS ::= BEGIN\nIMPORTS MODULE-IDENTITY, OBJECT-TYPE, NOTIFICATION-TYPE, Integer32 FROM SNMPv2-SMI TEXTUAL-CONVENTION FROM SNMPv2-TC;\n"
+        'w MODULE-IDENTITY LAST-UPDATED "" ORGANIZATION "" CONTACT-INFO "" DESCRIPTION "" ::= { iso 9 }\n')
+TAIL = "END\n"
+LETTERS = "abcdefghijklmnopqrstuvwxyz"
+SIGNS = LETTERS + LETTERS.upper() + "0123456789"
+
+
+def names():
+    """Names in lower case first, the short ones first."""
+    for length in itertools.count(1):
+        for first in LETTERS:
+            for rest in itertools.product(SIGNS, repeat=length - 1):
+                yield first + "".join(rest)
+
+
+def fitted(start, items, joint, end):
+    """start, as many items as fit, and end."""
+    room = LIMIT - len(start) - len(end)
+    chosen = []
+    for item in items:
+        room -= len(item) + len(joint)
+        if room < 0:
+            break
+        chosen.append(item)
+    return start + joint.join(chosen) + end
+
+
+def thing(name, syntax, head, number, access="read-only", index=""):
+    return f'{name} OBJECT-TYPE SYNTAX {syntax} MAX-ACCESS {access} STATUS current DESCRIPTION ""{index} ::= {{ {head} {number} }}\n'
+
+
+def plain(name, head, number):
+    return f"{name} OBJECT IDENTIFIER ::= {{ {head} {number} }}\n"
+
+
+def enumeration():
+    return fitted(HEAD + "x OBJECT-TYPE SYNTAX INTEGER { ", (f"{name}({k})" for k, name in enumerate(names())), ",",
+                  ' } MAX-ACCESS read-only STATUS current DESCRIPTION "" ::= { w 1 }\n' + TAIL)
+
+
+def labels_alike():
+    """Labels that share their beginning and their end."""
+    return fitted(HEAD + "x OBJECT-TYPE SYNTAX INTEGER { ", (f"aaaa{name}zzzz({k})" for k, name in enumerate(names())), ",",
+                  ' } MAX-ACCESS read-only STATUS current DESCRIPTION "" ::= { w 1 }\n' + TAIL)
+
+
+def imports():
+    free = (name for name in names() if name not in ("w",))
+    return fitted("W DEFINITIONS ::= BEGIN\nIMPORTS ", free, ",", " FROM SNMPv2-SMI;\n" + HEAD.split(";\n", 1)[1] + TAIL)
+
+
+def rows_of_one_type():
+    """Rows that all have one SEQUENCE type, and a list of names as long as fits beside them."""
+    rows = "".join(thing(f"r{k}", "S", "w", 2 + k, "not-accessible", " INDEX { c }") for k in range(506))
+    return fitted(HEAD + thing("c", "Integer32", "w", 1) + rows + "S ::= SEQUENCE { ", itertools.repeat("c Integer32"), ",", " }\n" + TAIL)
+
+
+def columns_of_one_type():
+    """One table with as many columns as definitions, a list that names each many times."""
+    head = HEAD + thing("t", "SEQUENCE OF S", "w", 1, "not-accessible") + thing("r", "S", "t", 1, "not-accessible", " INDEX { c0 }")
+    columns = "".join(thing(f"c{k}", "Integer32", "r", k + 1, "read-write") for k in range(400))
+    return fitted(head + columns + "S ::= SEQUENCE { ", itertools.cycle(f"c{k} Integer32" for k in range(400)), ",", " }\n" + TAIL)
+
+
+def long_list(word):
+    return fitted(HEAD + thing("c", "Integer32", "w", 1) + "n NOTIFICATION-TYPE OBJECTS { ", itertools.repeat("c"), ",",
+                  ' } STATUS current DESCRIPTION "" ::= { w 0 1 }\n' + TAIL)
+
+
+def long_index():
+    return fitted(HEAD + thing("t", "SEQUENCE OF S", "w", 1, "not-accessible") + "S ::= SEQUENCE { c Integer32 }\n" + thing("c", "Integer32", "r", 1)
+                  + 'r OBJECT-TYPE SYNTAX S MAX-ACCESS not-accessible STATUS current DESCRIPTION "" INDEX { ', itertools.repeat("c"), ",",
+                  " } ::= { t 1 }\n" + TAIL)
+
+
+def heads_backwards():
+    """A chain of heads, each defined behind the one that names it, and as many definitions more as there may be."""
+    chain = "".join(plain(f"d{k}", f"d{k + 1}" if k < 119 else "iso", 1) for k in range(120))
+    return HEAD + "".join(plain(f"e{k}", "iso", k) for k in range(390)) + chain + TAIL
+
+
+def heads_in_a_circle():
+    return HEAD + "".join(plain(f"d{k}", f"d{(k + 1) % 511}", 1) for k in range(511)) + TAIL
+
+
+def ranges():
+    return fitted(HEAD + "x OBJECT-TYPE SYNTAX Integer32 (", map(str, itertools.count()), "|",
+                  ') MAX-ACCESS read-only STATUS current DESCRIPTION "" ::= { w 1 }\n' + TAIL)
+
+
+def one_convention():
+    convention = 'C ::= TEXTUAL-CONVENTION STATUS current DESCRIPTION "" SYNTAX Integer32\n'
+    return fitted(HEAD + convention, (thing(f"x{k}", "C", "w", k + 1) for k in range(509)), "", TAIL)
+
+
+def names_alike():
+    """Definitions whose names have one length, one beginning and one end."""
+    return fitted(HEAD, (plain("a" * 20 + f"{k:03d}" + "z" * 20, "w", k) for k in range(1, 511)), "", TAIL)
+
+
+def deep_parents():
+    """Objects each below the one before it, so that each has a parent and none is a column."""
+    return HEAD + thing("o0", "Integer32", "w", 1) + "".join(thing(f"o{k}", "Integer32", f"o{k - 1}", 1) for k in range(1, 100)) \
+        + "".join(thing(f"p{k}", "Integer32", "o1", k + 2) for k in range(390)) + TAIL
+
+
+TEXTS = {
+    "enumeration": enumeration,
+    "labels alike": labels_alike,
+    "imports": imports,
+    "rows of one type": rows_of_one_type,
+    "columns of one type": columns_of_one_type,
+    "OBJECTS list": lambda: long_list("OBJECTS"),
+    "INDEX list": long_index,
+    "heads backwards": heads_backwards,
+    "heads in a circle": heads_in_a_circle,
+    "ranges": ranges,
+    "one convention": one_convention,
+    "names alike": names_alike,
+    "parents": deep_parents,
+    "blanks": lambda: fitted(HEAD, itertools.repeat(" "), "", TAIL),
+    "comments": lambda: fitted(HEAD, itertools.repeat("----"), "", TAIL),
+    "a text": lambda: fitted(HEAD.replace('DESCRIPTION ""', 'DESCRIPTION "', 1).split('DESCRIPTION "', 1)[0] + 'DESCRIPTION "', itertools.repeat("x"), "", '" ::= { iso 9 }\n' + TAIL),
+}
+
+
+if __name__ == "__main__":
+    for name, text in TEXTS.items():
+        with open(os.path.join(sys.argv[1], name.replace(" ", "-")), "w") as file:
+            file.write(text())
