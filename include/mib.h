@@ -58,9 +58,9 @@ extern "C" {
 #define MIB_LONGEST_VALUE 1024
 #define MIB_LONGEST_HINT 255
 
-/* A call of mib_read takes up to a megabyte of stack, as measured; a thread that calls it has this much left. The other
- * calls take little. */
-#define MIB_STACK_BYTES (1024 * 1024)
+/* A call of mib_read takes up to a megabyte and a half of stack, as measured; a thread that calls it has this much left.
+ * The other calls take little. */
+#define MIB_STACK_BYTES (2 * 1024 * 1024)
 
 /* ---- Records ---- */
 

@@ -35,6 +35,12 @@ def plain_module(count):
     return rule_examples.whole(names)[0]
 
 
+def longest_lines():
+    """Lines as long as names and OIDs allow: 64 bytes, and 128 numbers, of ten digits where they are free."""
+    names = b"".join(rule_examples.plain(b"n%02d" % n + b"x" * 61, [4294967295 - n] + [4294967295] * 125) for n in range(12))
+    return rule_examples.whole(names)[0]
+
+
 def vectors():
     """A name, a text, and its card where it is known from elsewhere."""
     yield "whole", WHOLE, PRINTED
@@ -43,6 +49,7 @@ def vectors():
     for number, module, place in rule_examples.modules():
         yield "rule-%02d" % number, module, b"refused\t%d\t%d\n" % (number, place)
     yield "definitions-512", plain_module(512), None
+    yield "longest-lines", longest_lines(), None
     yield "bytes-65536", WHOLE + b" " * (65536 - len(WHOLE)), PRINTED
     yield "bytes-65537", WHOLE + b" " * (65537 - len(WHOLE)), b"refused\t2\t0\n"
     yield "empty", b"", b"refused\t7\t0\n"

@@ -1,8 +1,8 @@
 #!/usr/bin/env python3
-"""Prints the tables by which words are looked up.
+"""Prints the table by which words are looked up.
 
-Reads the words as crates/lexicon/specs/Word.antt has them and writes crates/lexicon/src/table.rt: the words' spellings one
-after the other, where each starts, and the hash table of their classes. With --check it writes nothing, compares, and
+Reads the words as crates/lexicon/specs/Word.antt has them and writes crates/lexicon/src/table.rt: the hash table of their
+classes, and then a row for each word, of its length, its spelling and zeros. With --check it writes nothing, compares, and
 exits with 1 where the file differs. What it prints is trusted in nothing: the proofs test every entry.
 """
 
@@ -28,6 +28,11 @@ def multipliers():
     return [int(n) for n in re.findall(r"(\d+) \*", hashing)] + [int(size)]
 
 
+def row_width():
+    """How many bytes the row of a word has."""
+    return int(re.search(r"^row-width = (\d+)$", WORDS.read_text(), re.M).group(1))
+
+
 def slot(word, first, last, length, size):
     return (first * ord(word[0]) + last * ord(word[-1]) + length * len(word)) % size
 
@@ -45,23 +50,32 @@ def table():
         if place in slots:
             sys.exit(f"word_table: {word} and {slots[place]} share slot {place}; choose other multipliers in {WORDS.name}")
         slots[place] = word
+    width = row_width()
+    if max(map(len, found)) + 1 != width:
+        sys.exit(f"word_table: the longest word has {max(map(len, found))} bytes; row-width in {WORDS.name} is one more")
     lines = [
-        "// The tables by which words are looked up, as tools/word_table.py prints them.",
+        "// The table by which words are looked up, as tools/word_table.py prints it.",
         "",
-        "// The words' spellings, one after the other.",
-        f"pub const SPELLINGS: [u8; {sum(map(len, found))}] = [",
+        "// How many slots the hash has.",
+        f"pub const SLOT_COUNT: usize = {hashing[-1]};",
+        "",
+        "// How many bytes the row of a word has: its length, its spelling, and zeros.",
+        f"pub const ROW_WIDTH: usize = {width};",
+        "",
+        "// How many bytes the table has.",
+        "pub const LOOKUP_SIZE: usize = SLOT_COUNT + ROW_WIDTH * terminal::WORDS;",
+        "",
+        "// No word's class, and no byte of one: what a slot without a word holds, and what stands behind a spelling.",
+        "const NONE: u8 = 0;",
+        "",
+        "// The class of the word in each slot; then the row of each word.",
+        "pub const LOOKUP: [u8; LOOKUP_SIZE] = [",
     ]
-    for word in found:
-        lines += [f"    b'{byte}'," + (f" // {word}" if i == 0 else "") for i, byte in enumerate(word)]
-    lines += ["];", "", "// Where each word's spelling starts, and where the last one ends.", f"pub const STARTS: [u16; {len(found) + 1}] = ["]
-    start = 0
-    for word in found:
-        lines.append(f"    {start}, // {word}")
-        start += len(word)
-    lines += [f"    {start},", "];", "", "// No word's class: what a slot without a word holds.", "const NONE: u8 = 0;", ""]
-    lines += ["// How many slots the hash has.", f"pub const SLOT_COUNT: usize = {hashing[-1]};", ""]
-    lines += ["// The class of the word in each slot.", "pub const SLOTS: [u8; SLOT_COUNT] = ["]
     lines += [f"    {constant(slots[i]) if i in slots else 'NONE'}, // {i}" for i in range(hashing[-1])]
+    for word in found:
+        lines.append(f"    {len(word)}, // {word}")
+        lines += [f"    b'{byte}'," for byte in word]
+        lines += ["    NONE,"] * (width - 1 - len(word))
     return "\n".join(lines + ["];", ""])
 
 

@@ -1,4 +1,4 @@
--- What an accepted answer tells the program: the text is within the limit, and the definitions within theirs.
+-- What an accepted answer tells the program: the text is within the limit, and so the definitions are within theirs.
 -- Assumes nothing.
 use mathlib.Core.Path.{_≡_, sym, ap, _∙_}
 use mathlib.Core.List.{List}
@@ -6,10 +6,10 @@ use Prim.Native.Nat.{ℕ, _≤_, _<_}
 use native.Mathlib.Decide.{decLt}
 use native.Mathlib.Omega.{arith}
 use lib.ListN.{length}
-use Rattle.index.proofs.Judged.{judged-kept}
+use Rattle.rule.proofs.Judged.{judged-kept}
 use Rattle.token.specs.Cut.{meanings-in}
 use Rattle.token.specs.Table.{longest-text}
-use Rattle.name.specs.Collect.{most-definitions}
+use Rattle.module_table.specs.Module.{most-definitions}
 use Rattle.reader.specs.Reading.{Outcome, rules}
 use Rattle.reader.proofs.Kept.{few-definitions, accepted-kept}
 use Rattle.reader.specs.Buffers.{record-words, number-words, answer-to, Reads}
@@ -20,7 +20,7 @@ use Rattle.reader.specs.declared.Answer.the-variants.{Accepted, Refused}
 module _ (text : List ℕ) (count : ℕ) where
   module _ (answer : Answer) (records r numbers n : List ℕ) (reads : Reads text answer records r numbers n)
       (room : record-words ≤ length records) (space : number-words ≤ length numbers) (accepted : answer ≡ Accepted count) where
-    pub accepted-within : length text ≤ longest-text
+    accepted-within : length text ≤ longest-text
     accepted-within = go (decLt longest-text (length text))
       where
         go : Dec (longest-text < length text) → length text ≤ longest-text

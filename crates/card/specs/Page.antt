@@ -7,7 +7,7 @@ longest-path = 4096
 
 -- the bytes of the buffer, and how many make it full
 abbrev pub page-size : ℕ
-page-size = 196608
+page-size = 16384
 
 abbrev pub full : ℕ
 full = 8192

@@ -6,9 +6,7 @@
 ghost use Prim.Native.Nat.{_+_, _*_, _≤_, _<_};
 ghost use mathlib.Core.Path.{_≡_};
 ghost use lib.ListN.{length};
-ghost use Rattle.token.specs.Table.{longest-text};
-ghost use Rattle.record.specs.Record.{record-width};
-ghost use Rattle.reader.specs.Buffers.{number-words};
+ghost use Rattle.records.specs.Record.{record-width};
 ghost use Rattle.card.specs.Page.{longest-path, page-size, full};
 use card_line::write_head;
 use card_line::write_record;
@@ -37,7 +35,7 @@ fn main() {
         return;
     }
     let mut text = [0u8; 65537];
-    let mut page = [0u8; 196608];
+    let mut page = [0u8; 16384];
     let mut name = io::buffer();
     let mut i = 1;
     while i < count {
@@ -185,9 +183,7 @@ fn write_records(
     page: &mut [u8],
     laid: Laid,
 ) -> Laid
-    requires text { ⌜ length (now text) ≤ longest-text ⌝ }
     requires records { ⌜ record-width * count ≤ length (now records) ⌝ }
-    requires numbers { ⌜ length (now numbers) ≤ number-words ⌝ }
     requires size { ⌜ length (now page) ≡ page-size ⌝ }
     requires inside { ⌜ laid .at ≤ page-size ⌝ }
     ensures { λ r. ⌜ r .at ≤ page-size ⌝ }
@@ -195,8 +191,8 @@ fn write_records(
     let mut next = laid;
     let mut k = 0;
     while k < count {
-        let from = record::WIDTH * k;
-        let words = &records[from..from + record::WIDTH];
+        let from = records::WIDTH * k;
+        let words = &records[from..from + records::WIDTH];
         let start = make_room(page, next);
         let end = write_record(text, words, numbers, page, start.at);
         next = laid_to(start, end);

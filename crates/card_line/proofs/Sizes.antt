@@ -2,13 +2,13 @@
 -- Assumes nothing.
 use mathlib.Core.Path.{_≡_, refl, sym, ap, _∙_}
 use mathlib.Core.List.{List, [], _∷_, _++_, append-assoc, append-nil}
-use Prim.Native.Nat.{ℕ, _+_, _^_, _≤_, _<_}
+use Prim.Native.Nat.{ℕ, _+_, _^_, _≤_, _<_, min}
 use Prim.Native.Char.{code}
 use native.Mathlib.Nat.{lt-of-lt-of-le, not-suc-le-zero}
 use native.Mathlib.Numerals.{add-one}
 use native.Mathlib.Omega.{arith}
 use lib.Dec.{lit≤}
-use lib.ListN.{length, getD, take, drop, length-take, length-drop}
+use lib.ListN.{length, getD, take, drop, length-take}
 use lib.Seq.{take-suc}
 use Rattle.buffer.specs.Buffer.{Wrote}
 use Rattle.buffer.proofs.Writing.{wrote-more}
@@ -23,9 +23,9 @@ digits-few n h = digits-short 10 10 19 n (lit≤ tt) (lit≤ tt) (lt-of-lt-of-le
 pub digits-ten : (n : ℕ) → n < 2 ^ 32 → length (digits 10 n) ≤ 10
 digits-ten n h = digits-short 10 10 9 n (lit≤ tt) (lit≤ tt) (lt-of-lt-of-le h (lit≤ tt))
 
--- a part is no longer than the whole
-pub part-size : (n offset : ℕ) (l : List ℕ) → length (take n (drop offset l)) ≤ length l
-part-size n offset l = omega (arith, length-take n (drop offset l), length-drop offset l)
+-- a part is no longer than it may be
+pub part-size : (n most : ℕ) (l : List ℕ) → length (take (min n most) l) ≤ most
+part-size n most l = omega (arith, length-take (min n most) l)
 
 -- one number more comes behind a point
 after-point : (ns : List ℕ) (n : ℕ) → pointed (ns ++ n ∷ []) ≡ pointed ns ++ (code "." ∷ digits 10 n)

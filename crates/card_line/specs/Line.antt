@@ -3,13 +3,11 @@
 -- Assumes nothing.
 use mathlib.Core.Path.{_≡_}
 use mathlib.Core.List.{List, [], _∷_, _++_}
-use Prim.Native.Nat.{ℕ, _+_, _-_, _*_, _≤_}
+use Prim.Native.Nat.{ℕ, _+_, _-_, _*_, _≤_, min}
 use Prim.Native.Char.{code}
 use lib.ListN.{length, getD, take, drop}
-use Rattle.lexicon.specs.Word.{bytes}
+use Rattle.lexicon.specs.Word.{bytes, longest-name}
 use Rattle.digit.specs.Digits.{digits}
-use Rattle.token.specs.Table.{longest-text}
-use Rattle.reader.specs.Buffers.{number-words}
 use Rattle.reader.specs.declared.Answer.{Answer}
 use Rattle.reader.specs.declared.Answer.the-variants.{Accepted, Refused}
 
@@ -58,13 +56,17 @@ status words = getD words 8 0
 abbrev pub class : List ℕ → ℕ
 class words = getD words 9 0
 
--- the bytes of its name, by offset and length
-abbrev pub name : List ℕ → List ℕ → List ℕ
-name text words = take (getD words 2 0) (drop (getD words 1 0) text)
+-- the most numbers of an OID, by refusal 13
+abbrev pub longest-oid : ℕ
+longest-oid = 128
 
--- its sub-identifiers, by first index and count
+-- the bytes of its name, by offset and length: 64 at most, since refusal 5 lets no name have more
+abbrev pub name : List ℕ → List ℕ → List ℕ
+name text words = take (min (getD words 2 0) longest-name) (drop (getD words 1 0) text)
+
+-- its sub-identifiers, by first index and count: 128 at most
 abbrev pub sub-identifiers : List ℕ → List ℕ → List ℕ
-sub-identifiers numbers words = take (getD words 4 0) (drop (getD words 3 0) numbers)
+sub-identifiers numbers words = take (min (getD words 4 0) longest-oid) (drop (getD words 3 0) numbers)
 
 -- a name and a tab; an OID and a tab
 unfoldable pub name-field : List ℕ → List ℕ
@@ -85,30 +87,30 @@ unfoldable pub record-line : List ℕ → List ℕ → List ℕ → List ℕ
 record-line text words numbers = definition-fields text words numbers ++ attribute-fields words
 
 -- room that is enough: for a field, 20 digits and a byte; for the first line, its word, a tab and two fields; for a
--- sub-identifier, ten digits; for an OID, a point and a sub-identifier for each word of the number buffer; and for the line of a record
-abbrev pub longest-field : ℕ
-longest-field = 21
+-- sub-identifier, ten digits; for an OID, a point and a sub-identifier for each; and for the line of a record
+abbrev pub field-room : ℕ
+field-room = 21
 
-abbrev pub longest-head : ℕ
-longest-head = 9 + 2 * longest-field
+abbrev pub head-room : ℕ
+head-room = 9 + 2 * field-room
 
-abbrev pub longest-number : ℕ
-longest-number = 10
+abbrev pub number-room : ℕ
+number-room = 10
 
-abbrev pub longest-pointed : ℕ → ℕ
-longest-pointed count = (1 + longest-number) * count
+abbrev pub pointed-room : ℕ → ℕ
+pointed-room count = (1 + number-room) * count
 
-abbrev pub longest-oid : ℕ
-longest-oid = longest-pointed number-words
+abbrev pub oid-room : ℕ
+oid-room = pointed-room longest-oid
 
-abbrev pub longest-definition : ℕ
-longest-definition = longest-field + (longest-text + 1 + (longest-oid + 1))
+abbrev pub definition-room : ℕ
+definition-room = field-room + (longest-name + 1 + (oid-room + 1))
 
-abbrev pub longest-attributes : ℕ
-longest-attributes = 3 * longest-field
+abbrev pub attributes-room : ℕ
+attributes-room = 3 * field-room
 
-abbrev pub longest-line : ℕ
-longest-line = longest-definition + longest-attributes
+abbrev pub line-room : ℕ
+line-room = definition-room + attributes-room
 
 -- of any list of so many entries, those from one index up to the other are the `count` from `offset` on: those that there are
 pub record IsPart (size offset count from to : ℕ) : Type 0 where

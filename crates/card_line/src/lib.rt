@@ -1,14 +1,16 @@
 // The lines of the shelf card: one for an answer, and one for each record. They are laid into an output buffer, which the program writes out.
 ghost use mathlib.Core.Path.{_≡_};
-ghost use Prim.Native.Nat.{_+_, _≤_};
+ghost use Prim.Native.Nat.{_+_, _≤_, min};
 ghost use lib.ListN.{length, getD};
 ghost use Rattle.buffer.specs.Buffer.{Wrote};
 ghost use Rattle.digit.specs.Digits.{digits};
-ghost use Rattle.token.specs.Table.{longest-text};
-ghost use Rattle.reader.specs.Buffers.{number-words};
-ghost use Rattle.card_line.specs.Line.{IsPart, field, accepted-line, refused-line, head, pointed, dotted, longest-number, longest-pointed, name, sub-identifiers, name-field, oid-field, definition-fields, attribute-fields, record-line, longest-field, longest-head, longest-oid, longest-definition, longest-attributes, longest-line};
+ghost use Rattle.card_line.specs.Line.{IsPart, field, accepted-line, refused-line, head, pointed, dotted, name, sub-identifiers};
+ghost use Rattle.card_line.specs.Line.{name-field, oid-field, definition-fields, attribute-fields, record-line};
+ghost use Rattle.card_line.specs.Line.{longest-oid, field-room, head-room, number-room, pointed-room, oid-room, definition-room};
+ghost use Rattle.card_line.specs.Line.{attributes-room, line-room};
 use buffer::copy;
 use buffer::put;
+use digit::glyph_of;
 use digit::print_digits;
 use reader::Answer;
 
@@ -33,21 +35,38 @@ const STATUS: usize = 8;
 
 const CLASS: usize = 9;
 
+// The most bytes of a name, and the most numbers of an OID. A module with more is refused, so nothing is cut; by these bounds a line
+// has room whatever the words say.
+const LONGEST_NAME: usize = 64;
+
+const LONGEST_OID: usize = 128;
+
+// Writes a number in decimal. Most have one digit, and it is written here.
+fn write_decimal(n: u64, out: &mut [u8], at: usize) -> usize
+    requires { ⌜ at + length (digits 10 n) ≤ length (now out) ⌝ }
+    ensures { λ r. ⌜ Wrote (digits 10 n) at r (now (out .entry)) (now (out .exit)) ⌝ }
+{
+    if n < 10 {
+        return put(out, at, glyph_of(n));
+    }
+    print_digits(n, 10, out, at)
+}
+
 // Writes a number and the byte behind it, and answers the place after them.
 fn write_field(n: u64, behind: u8, out: &mut [u8], at: usize) -> usize
-    requires { ⌜ at + longest-field ≤ length (now out) ⌝ }
+    requires { ⌜ at + field-room ≤ length (now out) ⌝ }
     ensures bytes { λ r. ⌜ Wrote (field n behind) at r (now (out .entry)) (now (out .exit)) ⌝ }
-    ensures short { λ r. ⌜ r ≤ at + longest-field ⌝ }
+    ensures short { λ r. ⌜ r ≤ at + field-room ⌝ }
 {
-    let next = print_digits(n, 10, out, at);
+    let next = write_decimal(n, out, at);
     put(out, next, behind)
 }
 
 // The line of an accepted module.
 fn write_accepted(count: usize, out: &mut [u8], at: usize) -> usize
-    requires { ⌜ at + longest-head ≤ length (now out) ⌝ }
+    requires { ⌜ at + head-room ≤ length (now out) ⌝ }
     ensures bytes { λ r. ⌜ Wrote (accepted-line count) at r (now (out .entry)) (now (out .exit)) ⌝ }
-    ensures short { λ r. ⌜ r ≤ at + longest-head ⌝ }
+    ensures short { λ r. ⌜ r ≤ at + head-room ⌝ }
 {
     let next = copy(b"accepted\t", out, at);
     write_field(count as u64, LINE_END, out, next)
@@ -55,9 +74,9 @@ fn write_accepted(count: usize, out: &mut [u8], at: usize) -> usize
 
 // The line of a refusal.
 fn write_refused(number: u8, place: usize, out: &mut [u8], at: usize) -> usize
-    requires { ⌜ at + longest-head ≤ length (now out) ⌝ }
+    requires { ⌜ at + head-room ≤ length (now out) ⌝ }
     ensures bytes { λ r. ⌜ Wrote (refused-line number place) at r (now (out .entry)) (now (out .exit)) ⌝ }
-    ensures short { λ r. ⌜ r ≤ at + longest-head ⌝ }
+    ensures short { λ r. ⌜ r ≤ at + head-room ⌝ }
 {
     let next = copy(b"refused\t", out, at);
     let next = write_field(number as u64, TAB, out, next);
@@ -66,9 +85,9 @@ fn write_refused(number: u8, place: usize, out: &mut [u8], at: usize) -> usize
 
 // Writes the card's first line, and answers the place after it.
 pub fn write_head(answer: Answer, out: &mut [u8], at: usize) -> usize
-    requires { ⌜ at + longest-head ≤ length (now out) ⌝ }
+    requires { ⌜ at + head-room ≤ length (now out) ⌝ }
     ensures bytes { λ r. ⌜ Wrote (head answer) at r (now (out .entry)) (now (out .exit)) ⌝ }
-    ensures short { λ r. ⌜ r ≤ at + longest-head ⌝ }
+    ensures short { λ r. ⌜ r ≤ at + head-room ⌝ }
 {
     match answer {
         Answer::Accepted(count) => write_accepted(count, out, at),
@@ -111,6 +130,13 @@ fn part_of(size: usize, offset: usize, count: usize) -> Part
     }
 }
 
+// The smaller of the two.
+fn at_most(n: usize, most: usize) -> usize
+    ensures { λ r. ⌜ r ≡ min n most ⌝ }
+{
+    if n < most { n } else { most }
+}
+
 // The bytes of a name.
 fn name_of<'a>(text: &'a [u8], words: &[u32]) -> &'a [u8]
     ensures { λ r. ⌜ now r ≡ name (now (text .entry)) (now (words .entry)) ⌝ }
@@ -118,7 +144,7 @@ fn name_of<'a>(text: &'a [u8], words: &[u32]) -> &'a [u8]
     let part = part_of(
         text.len(),
         word(words, NAME_OFFSET) as usize,
-        word(words, NAME_LENGTH) as usize,
+        at_most(word(words, NAME_LENGTH) as usize, LONGEST_NAME),
     );
     let from = part.from;
     let to = part.to;
@@ -132,7 +158,7 @@ fn oid_of<'a>(numbers: &'a [u32], words: &[u32]) -> &'a [u32]
     let part = part_of(
         numbers.len(),
         word(words, OID_FIRST) as usize,
-        word(words, OID_COUNT) as usize,
+        at_most(word(words, OID_COUNT) as usize, LONGEST_OID),
     );
     let from = part.from;
     let to = part.to;
@@ -141,18 +167,18 @@ fn oid_of<'a>(numbers: &'a [u32], words: &[u32]) -> &'a [u32]
 
 // Writes a sub-identifier, and answers the place after it.
 fn write_number(n: u32, out: &mut [u8], at: usize) -> usize
-    requires { ⌜ at + longest-number ≤ length (now out) ⌝ }
+    requires { ⌜ at + number-room ≤ length (now out) ⌝ }
     ensures bytes { λ r. ⌜ Wrote (digits 10 n) at r (now (out .entry)) (now (out .exit)) ⌝ }
-    ensures short { λ r. ⌜ r ≤ at + longest-number ⌝ }
+    ensures short { λ r. ⌜ r ≤ at + number-room ⌝ }
 {
-    print_digits(n as u64, 10, out, at)
+    write_decimal(n as u64, out, at)
 }
 
 // Writes numbers, each behind a point.
 fn write_pointed(numbers: &[u32], out: &mut [u8], at: usize) -> usize
-    requires { ⌜ at + longest-pointed (length (now numbers)) ≤ length (now out) ⌝ }
+    requires { ⌜ at + pointed-room (length (now numbers)) ≤ length (now out) ⌝ }
     ensures bytes { λ r. ⌜ Wrote (pointed (now (numbers .entry))) at r (now (out .entry)) (now (out .exit)) ⌝ }
-    ensures short { λ r. ⌜ r ≤ at + longest-pointed (length (now (numbers .entry))) ⌝ }
+    ensures short { λ r. ⌜ r ≤ at + pointed-room (length (now (numbers .entry))) ⌝ }
 {
     let mut next = at;
     let mut i = 0;
@@ -166,10 +192,10 @@ fn write_pointed(numbers: &[u32], out: &mut [u8], at: usize) -> usize
 
 // Writes numbers with points between them, or a hyphen where there are none.
 fn write_dotted(numbers: &[u32], out: &mut [u8], at: usize) -> usize
-    requires numbers { ⌜ length (now numbers) ≤ number-words ⌝ }
-    requires room { ⌜ at + longest-oid ≤ length (now out) ⌝ }
+    requires numbers { ⌜ length (now numbers) ≤ longest-oid ⌝ }
+    requires room { ⌜ at + oid-room ≤ length (now out) ⌝ }
     ensures bytes { λ r. ⌜ Wrote (dotted (now (numbers .entry))) at r (now (out .entry)) (now (out .exit)) ⌝ }
-    ensures short { λ r. ⌜ r ≤ at + longest-oid ⌝ }
+    ensures short { λ r. ⌜ r ≤ at + oid-room ⌝ }
 {
     if numbers.len() == 0 {
         return put(out, at, b'-');
@@ -190,10 +216,10 @@ fn write_name(name: &[u8], out: &mut [u8], at: usize) -> usize
 
 // Writes an OID and a tab.
 fn write_oid(numbers: &[u32], out: &mut [u8], at: usize) -> usize
-    requires numbers { ⌜ length (now numbers) ≤ number-words ⌝ }
-    requires room { ⌜ at + longest-oid + 1 ≤ length (now out) ⌝ }
+    requires numbers { ⌜ length (now numbers) ≤ longest-oid ⌝ }
+    requires room { ⌜ at + oid-room + 1 ≤ length (now out) ⌝ }
     ensures bytes { λ r. ⌜ Wrote (oid-field (now (numbers .entry))) at r (now (out .entry)) (now (out .exit)) ⌝ }
-    ensures short { λ r. ⌜ r ≤ at + longest-oid + 1 ⌝ }
+    ensures short { λ r. ⌜ r ≤ at + oid-room + 1 ⌝ }
 {
     let next = write_dotted(numbers, out, at);
     put(out, next, TAB)
@@ -201,11 +227,9 @@ fn write_oid(numbers: &[u32], out: &mut [u8], at: usize) -> usize
 
 // Writes what a definition is: kind, name and OID.
 fn write_definition(text: &[u8], words: &[u32], numbers: &[u32], out: &mut [u8], at: usize) -> usize
-    requires text { ⌜ length (now text) ≤ longest-text ⌝ }
-    requires numbers { ⌜ length (now numbers) ≤ number-words ⌝ }
-    requires room { ⌜ at + longest-definition ≤ length (now out) ⌝ }
+    requires { ⌜ at + definition-room ≤ length (now out) ⌝ }
     ensures bytes { λ r. ⌜ Wrote (definition-fields (now (text .entry)) (now (words .entry)) (now (numbers .entry))) at r (now (out .entry)) (now (out .exit)) ⌝ }
-    ensures short { λ r. ⌜ r ≤ at + longest-definition ⌝ }
+    ensures short { λ r. ⌜ r ≤ at + definition-room ⌝ }
 {
     let next = write_field(word(words, KIND) as u64, TAB, out, at);
     let next = write_name(name_of(text, words), out, next);
@@ -214,9 +238,9 @@ fn write_definition(text: &[u8], words: &[u32], numbers: &[u32], out: &mut [u8],
 
 // Writes what is said of it: class, access and status.
 fn write_attributes(words: &[u32], out: &mut [u8], at: usize) -> usize
-    requires { ⌜ at + longest-attributes ≤ length (now out) ⌝ }
+    requires { ⌜ at + attributes-room ≤ length (now out) ⌝ }
     ensures bytes { λ r. ⌜ Wrote (attribute-fields (now (words .entry))) at r (now (out .entry)) (now (out .exit)) ⌝ }
-    ensures short { λ r. ⌜ r ≤ at + longest-attributes ⌝ }
+    ensures short { λ r. ⌜ r ≤ at + attributes-room ⌝ }
 {
     let next = write_field(word(words, CLASS) as u64, TAB, out, at);
     let next = write_field(word(words, ACCESS) as u64, TAB, out, next);
@@ -225,11 +249,9 @@ fn write_attributes(words: &[u32], out: &mut [u8], at: usize) -> usize
 
 // Writes the line of a record, and answers the place after it.
 pub fn write_record(text: &[u8], words: &[u32], numbers: &[u32], out: &mut [u8], at: usize) -> usize
-    requires text { ⌜ length (now text) ≤ longest-text ⌝ }
-    requires numbers { ⌜ length (now numbers) ≤ number-words ⌝ }
-    requires room { ⌜ at + longest-line ≤ length (now out) ⌝ }
+    requires { ⌜ at + line-room ≤ length (now out) ⌝ }
     ensures bytes { λ r. ⌜ Wrote (record-line (now (text .entry)) (now (words .entry)) (now (numbers .entry))) at r (now (out .entry)) (now (out .exit)) ⌝ }
-    ensures short { λ r. ⌜ r ≤ at + longest-line ⌝ }
+    ensures short { λ r. ⌜ r ≤ at + line-room ⌝ }
 {
     let next = write_definition(text, words, numbers, out, at);
     write_attributes(words, out, next)

@@ -6,7 +6,7 @@ use output::print_number;
 use reader::RECORD_WORDS;
 
 // The most records that there are.
-const RECORDS: usize = RECORD_WORDS / record::WIDTH;
+const RECORDS: usize = RECORD_WORDS / records::WIDTH;
 
 // How many records are of this kind. Words that are not used are 0, which is no kind.
 fn count_kind(records: &[u32], kind: u32) -> u64
@@ -15,7 +15,7 @@ fn count_kind(records: &[u32], kind: u32) -> u64
     let mut n: u64 = 0;
     let mut i = 0;
     while i < RECORDS {
-        if is_kind(records, record::WIDTH * i, kind) {
+        if is_kind(records, records::WIDTH * i, kind) {
             n += 1;
             i += 1;
         } else {

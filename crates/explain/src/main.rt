@@ -6,14 +6,13 @@ mod count;
 mod reason;
 mod source;
 
-use counterpart::Other;
-use counterpart::counterpart;
 use index::Place;
 use output::Output;
 use output::print;
-use reader::Answer;
+use reader::Examined;
 use reader::NUMBER_WORDS;
 use reader::RECORD_WORDS;
+use reader::Refusal;
 use source::print_source;
 
 fn main() {
@@ -63,37 +62,31 @@ fn explain_file(name: &[u8], buf: &mut [u8], out: Output) -> Output {
     explain_text(name, &buf[..n], out)
 }
 
-// The number and the place are the reader's.
+// Number, place, clause and the other place are the reader's.
 fn explain_text(name: &[u8], text: &[u8], out: Output) -> Output {
     let mut records = [0u32; RECORD_WORDS];
     let mut numbers = [0u32; NUMBER_WORDS];
-    match reader::read(text, &mut records, &mut numbers) {
-        Answer::Accepted(definitions) => {
+    match reader::examine(text, &mut records, &mut numbers) {
+        Examined::Accepted(definitions) => {
             let out = print(out, name);
             count::print_accepted(&records, definitions, out)
         }
-        Answer::Refused(number, place) => explain_refusal(
-            name,
-            text,
-            number,
-            place,
-            output::refuse(out),
-        ),
+        Examined::Refused(refusal) => explain_refusal(name, text, refusal, output::refuse(out)),
     }
 }
 
 // The place at fault with its reason, and then the other one, where the rule is about two.
-fn explain_refusal(name: &[u8], text: &[u8], number: u8, place: Place, out: Output) -> Output {
+fn explain_refusal(name: &[u8], text: &[u8], refusal: Refusal, out: Output) -> Output {
+    let place = refusal.place;
     let at = place.0;
-    let found = counterpart(text, number, place);
-    let out = source::print_head(name, text, at, number, out);
-    let out = reason::print_reason(text, at, number, found, out);
+    let out = source::print_head(name, text, at, refusal.number, out);
+    let out = reason::print_reason(text, refusal, out);
     let out = print_source(text, at, out);
-    let other = found.other;
-    match other {
-        Other::Nowhere => out,
-        Other::At(second) => explain_other(name, text, number, second, out),
+    let other = refusal.other;
+    if other.0 == at {
+        return out;
     }
+    explain_other(name, text, refusal.number, other, out)
 }
 
 fn explain_other(name: &[u8], text: &[u8], number: u8, place: Place, out: Output) -> Output {

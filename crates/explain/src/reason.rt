@@ -3,12 +3,10 @@ ghost use Prim.Native.Nat.{_≤_};
 ghost use lib.ListN.{length};
 use crate::source::within;
 use buffer::byte_at;
-use counterpart::Answer as Counterpart;
-use counterpart::Clause;
-use counterpart::Other;
 use output::Output;
 use output::print;
 use output::print_number;
+use reader::Refusal;
 
 // Whether a byte is a letter or a digit.
 fn is_word_byte(b: u8) -> bool {
@@ -71,20 +69,23 @@ fn print_quoted(text: &[u8], at: usize, out: Output) -> Output
 }
 
 // Why the place is refused.
-pub fn print_reason(
-    text: &[u8],
-    place: usize,
-    number: u8,
-    found: Counterpart,
-    out: Output,
-) -> Output {
+pub fn print_reason(text: &[u8], refusal: Refusal, out: Output) -> Output {
+    let number = refusal.number;
+    let place = refusal.place;
     match number {
         2 => print(out, b"the text has more than 65,536 bytes"),
         3 => print(out, b"no token starts here"),
-        4 => print_byte(text, place, out),
-        7 => print_misplaced(text, place, out),
-        _ => print_named(text, place, number, found, out),
+        4 => print_byte(text, place.0, out),
+        7 => print_misplaced(text, place.0, out),
+        _ => print_named(text, refusal, out),
     }
+}
+
+// Whether it stands against another place.
+fn has_other(refusal: Refusal) -> bool {
+    let place = refusal.place;
+    let other = refusal.other;
+    place.0 != other.0
 }
 
 fn print_byte(text: &[u8], place: usize, out: Output) -> Output {
@@ -103,13 +104,15 @@ fn print_misplaced(text: &[u8], place: usize, out: Output) -> Output {
 }
 
 // The rules whose reason starts with the word at fault.
-fn print_named(text: &[u8], place: usize, number: u8, found: Counterpart, out: Output) -> Output {
-    let out = print_word(text, place, out);
+fn print_named(text: &[u8], refusal: Refusal, out: Output) -> Output {
+    let place = refusal.place;
+    let out = print_word(text, place.0, out);
+    let number = refusal.number;
     match number {
-        9 => print_again(found, out),
-        16 => print_range(found, out),
-        18 => print_item(found, out),
-        20 => print_clause(found, out),
+        9 => print_again(refusal, out),
+        16 => print_range(refusal, out),
+        18 => print_item(refusal, out),
+        20 => print_clause(refusal.clause, out),
         5..=8 | 10..=15 => print_early(number, out),
         _ => print_late(number, out),
     }
@@ -167,69 +170,62 @@ fn print_late(number: u8, out: Output) -> Output {
 }
 
 // A name that stands against none is `iso`.
-fn print_again(found: Counterpart, out: Output) -> Output {
-    let other = found.other;
-    match other {
-        Other::At(_) => print(out, b" is defined or imported a second time"),
-        Other::Nowhere => print(out, b" is built in, and is neither defined nor imported"),
+fn print_again(refusal: Refusal, out: Output) -> Output {
+    if has_other(refusal) {
+        return print(out, b" is defined or imported a second time");
     }
+    print(out, b" is built in, and is neither defined nor imported")
 }
 
 // A range that stands against none is wrong in itself.
-fn print_range(found: Counterpart, out: Output) -> Output {
-    let other = found.other;
-    match other {
-        Other::At(_) => print(
+fn print_range(refusal: Refusal, out: Output) -> Output {
+    if has_other(refusal) {
+        return print(
             out,
             b" starts a range that does not lie above the one before it",
-        ),
-        Other::Nowhere => print(
-            out,
-            b" starts a range whose low number is not below its high one",
-        ),
+        );
     }
+    print(
+        out,
+        b" starts a range whose low number is not below its high one",
+    )
 }
 
 // So is an item.
-fn print_item(found: Counterpart, out: Output) -> Output {
-    let other = found.other;
-    match other {
-        Other::At(_) => print(out, b" has the label or the number of an earlier item"),
-        Other::Nowhere => print(
-            out,
-            b" has a number out of range: an INTEGER's may be -2147483648 to 2147483647, and none of BITS is negative",
-        ),
+fn print_item(refusal: Refusal, out: Output) -> Output {
+    if has_other(refusal) {
+        return print(out, b" has the label or the number of an earlier item");
     }
+    print(
+        out,
+        b" has a number out of range: an INTEGER's may be -2147483648 to 2147483647, and none of BITS is negative",
+    )
 }
 
 // The clause of the rules on tables.
-fn print_clause(found: Counterpart, out: Output) -> Output {
-    let clause = found.clause;
+fn print_clause(clause: u8, out: Output) -> Output {
     match clause {
-        Clause::RowlessTable => print(
+        1 => print(
             out,
             b" is a table whose SEQUENCE type has not exactly one row, at the table's OID followed by 1",
         ),
-        Clause::StrayRow => print(
+        2 => print(
             out,
             b" is a row, and not at the OID, followed by 1, of a table of its type",
         ),
-        Clause::UnindexedRow => print(out, b" is a row with neither INDEX nor AUGMENTS"),
-        Clause::IndexedObject => print(out, b" is no row, and has INDEX or AUGMENTS"),
-        Clause::RepeatingRow => print(out, b" is a row whose SEQUENCE type lists a name twice"),
-        Clause::MisnamingRow => print(
+        3 => print(out, b" is a row with neither INDEX nor AUGMENTS"),
+        4 => print(out, b" is no row, and has INDEX or AUGMENTS"),
+        5 => print(out, b" is a row whose SEQUENCE type lists a name twice"),
+        6 => print(
             out,
             b" is a row whose SEQUENCE type lists a name that is no object at the row's OID plus one number",
         ),
-        Clause::UnlistedColumn => print(
+        7 => print(
             out,
             b" is at a row's OID plus one number, and the row's SEQUENCE type does not list it",
         ),
-        Clause::UnfoundedAugments => print(
-            out,
-            b" has AUGMENTS with a name that is no row with INDEX",
-        ),
-        Clause::Kept => print(out, b" breaks a rule on tables"),
+        8 => print(out, b" has AUGMENTS with a name that is no row with INDEX"),
+        _ => print(out, b" breaks a rule on tables"),
     }
 }
 

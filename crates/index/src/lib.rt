@@ -1,5 +1,5 @@
-// Places and indices, each with a type of its own, so that they can't be mixed, and what rules say; in specs/ and proofs/ the
-// laws of searches by index, of rules and of walks that every layer cites.
+// Places and indices, each with a type of its own, so that they can't be mixed; in specs/ and proofs/ the laws of searches by
+// index and of walks that every layer cites.
 
 // A place: a byte offset in the text.
 pub struct Place(pub usize);
@@ -12,9 +12,3 @@ pub struct RecordIndex(pub usize);
 
 // An index into the number buffer, which holds the sub-identifiers.
 pub struct NumberIndex(pub usize);
-
-// What rules say: all are kept; or the rule of this number is broken, first at this token.
-pub enum Judgement {
-    Kept,
-    Broken(u8, TokenIndex),
-}

@@ -9,12 +9,12 @@ use native.Mathlib.Decide.{decLt}
 use native.Mathlib.Numerals.{add-one}
 use native.Mathlib.Omega.{arith}
 use lib.Dec.{T, eqb, eqb→eq, ltb, ltb→lt}
-use lib.ListN.{length, getD, take, drop, length-append, length-drop}
+use lib.ListN.{length, getD, take, drop, length-append, length-take, length-drop}
 use lib.Seq.{take-suc, getD-drop, take-append-seam, drop-append-seam, drop-append-add, getD-take, length-take-le}
 use borrow.Author.Tests.{eq-eqb, ne-eqb, eqb-true}
 use Rattle.terminal.specs.Terminal.{terminals, first-word, word-count}
 use Rattle.lexicon.specs.Word.{words, word-table, word-classes, word, bytes, same, place-in, joined, start-of}
-use Rattle.lexicon.specs.Word.{between, Within, slot, slot-of, slot-count, SlotWord, SlotTable, StartTable}
+use Rattle.lexicon.specs.Word.{between, Within, slot, slot-of, slot-count, SlotWord, row-start, lookup-size, LookupTable}
 use Rattle.lexicon.proofs.Places.{byte-there}
 use Rattle.index.proofs.Tested.{passes, tested}
 use Rattle.index.proofs.Search.{true-false}
@@ -40,24 +40,44 @@ in-words : (k : ℕ) → k < word-count → k < length words
 unfolding words word-table word bytes
 in-words k h = h
 
--- an entry of the slots is a class, and the slot of the word at k holds its class
+-- a test that is passed is true
+is-true : (b : Bool) → T b → b ≡ true
+is-true true t = refl
+is-true false t = absurd t
+
+-- Four tests of a table of the look-up, each computed once: a slot holds a class, the slot of the word at k holds its class, and its row
+-- has its length and its spelling.
 unfoldable pub some-class : ℕ → ℕ → Bool
-some-class i class = ltb class terminals
+some-class slot class = ltb class terminals
 
 unfoldable pub own-slot : List ℕ → ℕ → List ℕ → Bool
-own-slot slots k w = eqb (getD slots (slot-of w) 0) (first-word + k)
+own-slot table k w = eqb (getD table (slot-of w) 0) (first-word + k)
 
--- slots that pass both tests hold every word where its hash leads
-pub slot-table : (slots : List ℕ) → length slots ≡ slot-count → T (passes some-class 0 slots)
-    → T (passes (own-slot slots) 0 words) → SlotTable slots
-unfolding some-class own-slot
-slot-table slots long few own =
+unfoldable pub own-size : List ℕ → ℕ → List ℕ → Bool
+own-size table k w = eqb (getD table (row-start k) 0) (length w)
+
+unfoldable pub own-spelling : List ℕ → ℕ → List ℕ → Bool
+own-spelling table k w = same (take (length w) (drop (row-start k + 1) table)) w
+
+-- a table that passes them is one by which words are found
+pub lookup-table : (table : List ℕ) → length table ≡ lookup-size → T (passes some-class 0 (take slot-count table))
+    → T (passes (own-slot table) 0 words) → T (passes (own-size table) 0 words) → T (passes (own-spelling table) 0 words)
+    → LookupTable table
+unfolding some-class own-slot own-size own-spelling
+lookup-table table long few own sized spelled =
+    let size = length-take-le slot-count table (omega (arith, long)) in
     record {
-      gives = λ slot h. record {
-        few = ltb→lt (getD slots slot 0) terminals (tested some-class 0 slots few slot (omega arith));
+      long = long;
+      slots = λ slot h. record {
+        few =
+            rw (getD-take slot-count table slot 0 h) at
+            (ltb→lt (getD (take slot-count table) slot 0) terminals
+            (tested some-class 0 (take slot-count table) few slot (omega (arith, size))));
         own = λ k l e.
-            ap (λ (i : ℕ). getD slots i 0) (sym e) ∙ eqb→eq _ _ (tested (own-slot slots) [] words own k (in-words k l));
+            ap (λ (i : ℕ). getD table i 0) (sym e) ∙ eqb→eq _ _ (tested (own-slot table) [] words own k (in-words k l));
       };
+      sizes = λ k l. eqb→eq _ _ (tested (own-size table) [] words sized k (in-words k l));
+      spellings = λ k l. same-equal _ _ (is-true _ (tested (own-spelling table) [] words spelled k (in-words k l)));
     }
 
 -- the words stand in the order of the terminals: the word at k has the class k after the first
@@ -235,11 +255,6 @@ module _ (ws : List (List ℕ)) where
     pub word-compared : (name : List ℕ) {r : Bool} → r ≡ same name (between spellings from to) → r ≡ same name (getD ws k [])
     word-compared name q = q ∙ ap (same name) word-between
 
--- starts that pass the test for the words are the table of the words
-pub start-table : (starts : List ℕ) → length starts ≡ suc word-count → T (passes (starts-there words) 0 starts) → StartTable starts
-unfolding words word-table word bytes
-start-table starts long t = record { gives = starts-right words starts long t }
-
 -- a part of a text has as many bytes as its ends lie apart
 pub between-length : (t : List ℕ) (start end : ℕ) → Within t start end → length (between t start end) ≡ end - start
 between-length t start end w = length-take-le (end - start) (drop start t) (omega (arith, length-drop start t, w .inside))
@@ -247,6 +262,33 @@ between-length t start end w = length-take-le (end - start) (drop start t) (omeg
 -- and its byte n on is the text's at the place k
 pub between-byte : (t : List ℕ) (start end n k : ℕ) → start + n ≡ k → k < end → getD (between t start end) n 0 ≡ getD t k 0
 between-byte t start end n k e h = getD-take (end - start) (drop start t) n 0 (omega arith) ∙ byte-there t start n k e
+
+-- the row of the word at k, whose first byte is the length that was read
+module _ (table : List ℕ) (lookup : LookupTable table) (k size : ℕ) (h : k < word-count)
+    (read : size ≡ getD table (row-start k) 0) where
+  -- the spelling behind it lies in the table
+  pub row-within : Within table (row-start k + 1) (row-start k + 1 + size)
+  row-within =
+      let n = ap length (lookup .spellings k h) in
+      record {
+        ordered = omega arith;
+        inside =
+            omega (
+              arith,
+              n,
+              length-take (length (getD words k [])) (drop (row-start k + 1) table),
+              length-drop (row-start k + 1) table,
+              lookup .sizes k h,
+              lookup .long,
+            );
+      }
+
+  -- and is the word's own
+  pub row-compared : (name : List ℕ) {r : Bool} → r ≡ same name (between table (row-start k + 1) (row-start k + 1 + size))
+      → r ≡ same name (getD words k [])
+  row-compared name q =
+      let n : row-start k + 1 + size - (row-start k + 1) ≡ length (getD words k []) = omega (arith, lookup .sizes k h) in
+      q ∙ ap (λ (m : ℕ). same name (take m (drop (row-start k + 1) table))) n ∙ ap (same name) (lookup .spellings k h)
 
 -- the slot of the name from start to end of a text
 pub slot-part : (t : List ℕ) (start end : ℕ) → start < end → end ≤ length t

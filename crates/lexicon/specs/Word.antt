@@ -147,10 +147,22 @@ pub record SlotWord (slot class : ℕ) : Type 0 where
   pub few : class < terminals
   pub own : (k : ℕ) → k < word-count → slot-of (getD words k []) ≡ slot → class ≡ first-word + k
 
--- a table holds for each slot the class of its word
-pub record SlotTable (slots : List ℕ) : Type 0 where
-  pub gives : (slot : ℕ) → slot < slot-count → SlotWord slot (getD slots slot 0)
+-- how many bytes the row of a word has: one for its length, and as many as the longest word
+abbrev pub row-width : ℕ
+row-width = 22
 
--- a table holds for each word where its spelling starts among the joined spellings, and then where the last one ends
-pub record StartTable (starts : List ℕ) : Type 0 where
-  pub gives : (k : ℕ) → k ≤ word-count → getD starts k 0 ≡ start-of words k
+-- where the row of the word at k starts, behind the slots
+abbrev pub row-start : ℕ → ℕ
+row-start k = slot-count + row-width * k
+
+-- how many bytes the table of the look-up has: the slots, and a row for each word
+abbrev pub lookup-size : ℕ
+lookup-size = row-start word-count
+
+-- a table holds the class of each slot's word, and each word's row: its length, then its spelling
+pub record LookupTable (table : List ℕ) : Type 0 where
+  pub long : length table ≡ lookup-size
+  pub slots : (slot : ℕ) → slot < slot-count → SlotWord slot (getD table slot 0)
+  pub sizes : (k : ℕ) → k < word-count → getD table (row-start k) 0 ≡ length (getD words k [])
+  pub spellings : (k : ℕ) → k < word-count
+      → take (length (getD words k [])) (drop (row-start k + 1) table) ≡ getD words k []

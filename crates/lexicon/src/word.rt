@@ -1,41 +1,34 @@
 // The words of the grammar, looked up by a hash of a name's first byte, last byte and length: no two words share a slot, so
-// one comparison decides. specs/Word.antt has the words; those of the code stand in table.rt, in the same order.
+// one comparison decides. specs/Word.antt has the words; the table of the code, in table.rt, has them in the same order.
 ghost use mathlib.Core.Path.{_≡_};
 ghost use Prim.Native.Nat.{_+_, _-_, _<_, _≤_};
 ghost use lib.ListN.{length, getD, take, drop};
 ghost use mathlib.Core.List.{[]};
 ghost use Rattle.terminal.specs.Terminal.{word-count};
-ghost use Rattle.lexicon.specs.Word.{words, same, between, Within, NameWithin, start-of, place-in, slot-count, name-class, SlotWord, SlotTable, StartTable};
+ghost use Rattle.lexicon.specs.Word.{words, same, between, Within, NameWithin, place-in, name-class};
+ghost use Rattle.lexicon.specs.Word.{slot-count, SlotWord, LookupTable};
 ghost use Rattle.lexicon.specs.Byte.{ClassTable};
 use crate::byte::CAPITAL_HEX;
 use crate::byte::class_of;
+use crate::table::LOOKUP;
+pub use crate::table::LOOKUP_SIZE;
+use crate::table::ROW_WIDTH;
 use crate::table::SLOT_COUNT;
-use crate::table::SLOTS;
-use crate::table::SPELLINGS;
-use crate::table::STARTS;
 use terminal::FIRST_WORD;
 use terminal::WORDS;
 
 // The same number in a wider type.
-fn wide_u16(x: u16) -> usize
+fn wide(x: u8) -> usize
     ensures { λ r. ⌜ r ≡ x ⌝ }
 {
     x as usize
 }
 
-fn wide_u8(x: u8) -> usize
-    ensures { λ r. ⌜ r ≡ x ⌝ }
+// The table of the look-up. Who looks words up takes it once and lends it on, as the class table.
+pub fn lookup_table() -> [u8; LOOKUP_SIZE]
+    ensures { λ r. ⌜ LookupTable r ⌝ }
 {
-    x as usize
-}
-
-// Where the spelling of the word k starts; of WORDS, where the last one ends.
-fn spelling_start(starts: &[u16; WORDS + 1], k: usize) -> usize
-    requires word { ⌜ k ≤ word-count ⌝ }
-    requires table { ⌜ StartTable (now starts) ⌝ }
-    ensures { λ r. ⌜ r ≡ start-of words k ⌝ }
-{
-    wide_u16(starts[k])
+    LOOKUP
 }
 
 // Whether n bytes of a, from its place i on, are those of b from its place j on. The names of one module mostly begin alike, so the
@@ -69,53 +62,63 @@ pub fn same_spelling(a: &[u8], from: usize, to: usize, b: &[u8], start: usize, e
 }
 
 // Whether the name from start to end of the text is the word k.
-fn is_word(text: &[u8], start: usize, end: usize, k: usize) -> bool
+fn is_word(lookup: &[u8; LOOKUP_SIZE], text: &[u8], start: usize, end: usize, k: usize) -> bool
     requires part { ⌜ Within (now text) start end ⌝ }
     requires word { ⌜ k < word-count ⌝ }
+    requires lookup { ⌜ LookupTable (now lookup) ⌝ }
     ensures { λ r. ⌜ r ≡ same (between (now (text .entry)) start end) (getD words k []) ⌝ }
 {
-    let from = spelling_start(&STARTS, k);
-    let to = spelling_start(&STARTS, k + 1);
-    same_spelling(text, start, end, &SPELLINGS, from, to)
+    let row = SLOT_COUNT + ROW_WIDTH * k;
+    let from = row + 1;
+    let to = from + wide(lookup[row]);
+    same_spelling(text, start, end, lookup, from, to)
 }
 
 // The class of the word in a slot of the hash, or one that is no word's.
-fn slot_class(slots: &[u8; SLOT_COUNT], slot: usize) -> usize
+fn slot_class(lookup: &[u8; LOOKUP_SIZE], slot: usize) -> usize
     requires slot { ⌜ slot < slot-count ⌝ }
-    requires table { ⌜ SlotTable (now slots) ⌝ }
+    requires lookup { ⌜ LookupTable (now lookup) ⌝ }
     ensures { λ r. ⌜ SlotWord slot r ⌝ }
 {
-    wide_u8(slots[slot])
+    wide(lookup[slot])
 }
 
 // Which word the name from start to end of the text is, or WORDS where it is none.
-fn word_of(text: &[u8], start: usize, end: usize) -> usize
+fn word_of(lookup: &[u8; LOOKUP_SIZE], text: &[u8], start: usize, end: usize) -> usize
     requires name { ⌜ NameWithin (now text) start end ⌝ }
+    requires lookup { ⌜ LookupTable (now lookup) ⌝ }
     ensures { λ r. ⌜ r ≡ place-in (between (now (text .entry)) start end) words ⌝ }
 {
     let first = text[start] as usize;
     let last = text[end - 1] as usize;
     let class = slot_class(
-        &SLOTS,
+        lookup,
         (5 * first + 3 * last + 7 * (end - start)) % SLOT_COUNT,
     );
     if class < FIRST_WORD {
         return WORDS;
     }
     let k = class - FIRST_WORD;
-    if is_word(text, start, end, k) {
+    if is_word(lookup, text, start, end, k) {
         return k;
     }
     WORDS
 }
 
 // The class of the name from start to end of the text: a word's own, UPPER or LOWER.
-pub fn name_class(table: &[u8; 256], text: &[u8], start: usize, end: usize) -> u8
+pub fn name_class(
+    table: &[u8; 256],
+    lookup: &[u8; LOOKUP_SIZE],
+    text: &[u8],
+    start: usize,
+    end: usize,
+) -> u8
     requires name { ⌜ NameWithin (now text) start end ⌝ }
     requires table { ⌜ ClassTable (now table) ⌝ }
+    requires lookup { ⌜ LookupTable (now lookup) ⌝ }
     ensures { λ r. ⌜ r ≡ name-class (between (now (text .entry)) start end) ⌝ }
 {
-    let k = word_of(text, start, end);
+    let k = word_of(lookup, text, start, end);
     if k < WORDS {
         return (FIRST_WORD + k) as u8;
     }

@@ -3,9 +3,9 @@
 use mathlib.Core.Path.{_≡_, refl, sym, ap, _∙_}
 use mathlib.Core.List.{List, [], _∷_}
 use Prim.Native.Nat.{ℕ, zero, suc, _+_, _≤_, _<_}
-use native.Mathlib.Decide.{ℕ-discrete}
+use native.Mathlib.Decide.{decLt, ℕ-discrete}
 use native.Mathlib.Omega.{arith}
-use lib.ListN.{length, set, length-set}
+use lib.ListN.{length, set, length-set, List·getD-eq-default}
 use lib.Seq.{getD-set-same, getD-set-other, ext-getD}
 use Rattle.module_table.specs.declared.Definition.{Definition}
 use Rattle.module_table.specs.Definition.{definitions-in, absent, entry, changed-from, changed, Stored}
@@ -77,3 +77,14 @@ filling-end f old k new s all =
     (λ i h.
     s .done i (omega (arith, s .counted)) (omega (arith, s .counted))
     ∙ sym (changed-entry f (definitions-in old) i (omega (arith, s .counted))))
+
+-- what a stage leaves as it was
+pub column-kept : {B : Type 0} (g : Definition → B) (f : ℕ → Definition → Definition) → ((k : ℕ) (d : Definition) → g (f k d) ≡ g d)
+    → (ds : List Definition) (k : ℕ) → g (entry (changed f ds) k) ≡ g (entry ds k)
+column-kept g f kept ds k = go (decLt k (length ds))
+  where
+    go : Dec (k < length ds) → g (entry (changed f ds) k) ≡ g (entry ds k)
+    go (yes h) = ap g (changed-entry f ds k h) ∙ kept k (entry ds k)
+    go (no h) =
+        ap g (List·getD-eq-default (changed f ds) absent (omega (arith, changed-counted f ds)))
+        ∙ sym (ap g (List·getD-eq-default ds absent (omega arith)))

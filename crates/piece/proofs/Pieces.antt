@@ -8,7 +8,7 @@ use Prim.Native.Nat.{ℕ, _+_, _-_, _≤_, _<_}
 use native.Mathlib.Omega.{arith}
 use lib.Dec.{T, leb, ltb, eqb, leb→le}
 use lib.ListN.{length, getD, take, drop, length-drop}
-use borrow.Author.Tests.{leb-true, leb-false, ltb-true, eqb-true}
+use borrow.Author.Tests.{leb-true, leb-false, ltb-true, eqb-true, lt-leb}
 use Rattle.terminal.specs.Terminal.{number, negative, text, hex, assign, dots, left-brace, bar, lower, Upper, terminals}
 use Rattle.terminal.specs.Terminal.{word-count}
 use Rattle.lexicon.specs.Byte.{class-of, quote, newline, feed, hyphen, apostrophe, colon, dot, digit, capital-hex, capital}
@@ -239,3 +239,11 @@ piece-fits b bs =
     (λ e. by-test s (leb newline (class-of b) && leb (class-of b) feed)
     (λ q. record { fits = (starts-span blank-byte b bs q, span-in blank-byte s) })
     (λ q. punctuation-fits (class-of b) b bs refl))
+
+-- where the first byte is a blank, the piece is the blanks
+pub blank-piece : (s : List ℕ) → blank-byte (getD s 0 0) 0 ≡ true → piece s ≡ gap (span blank-byte s)
+unfolding piece
+blank-piece s e =
+    let c = class-of (getD s 0 0) in
+    let low : newline ≤ c = leb-true newline c (both-true (leb newline c) (leb c feed) e .0) in
+    simp (lt-leb c capital (omega arith), e)

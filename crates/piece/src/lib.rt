@@ -1,11 +1,12 @@
 // What the text holds at a place: a token, a gap (blanks or a comment), or a refusal.
 ghost use mathlib.Core.Path.{_≡_};
 ghost use Prim.Native.Nat.{_+_, _≤_, _<_};
-ghost use lib.ListN.{length, drop};
-ghost use mathlib.Core.Bool.{_&&_};
+ghost use lib.ListN.{length, getD, drop};
+ghost use mathlib.Core.Bool.{true, _&&_};
 ghost use lib.Dec.{leb};
 ghost use Rattle.terminal.specs.Terminal.{left-brace, bar};
-ghost use Rattle.lexicon.specs.Byte.{ClassTable, digit-byte, name-byte};
+ghost use Rattle.lexicon.specs.Byte.{ClassTable, digit-byte, alphanumeric};
+ghost use Rattle.lexicon.specs.Word.{LookupTable};
 ghost use Rattle.piece.specs.Piece.{span, name, misfit, non-negative, below-zero, comment, after-hyphen};
 ghost use Rattle.piece.specs.Piece.{quoted, hex-string, after-colon, after-dot, punctuation, piece};
 ghost use Rattle.piece.specs.Found.{found-at};
@@ -33,6 +34,7 @@ use lexicon::byte::SMALL;
 use lexicon::byte::SMALL_HEX;
 use lexicon::byte::SPACE;
 use lexicon::byte::class_of;
+use lexicon::word::LOOKUP_SIZE;
 use lexicon::word::name_class;
 
 // The class that a gap has: no terminal's.
@@ -61,17 +63,18 @@ pub enum Found {
 }
 
 // At a letter: a name.
-fn name_at(table: &[u8; 256], text: &[u8], at: usize) -> Found
+fn name_at(table: &[u8; 256], lookup: &[u8; LOOKUP_SIZE], text: &[u8], at: usize) -> Found
     requires inside { ⌜ at < length (now text) ⌝ }
-    requires letter { ⌜ 1 ≤ span name-byte (drop at (now text)) ⌝ }
+    requires letter { ⌜ alphanumeric (getD (now text) at 0) ≡ true ⌝ }
     requires table { ⌜ ClassTable (now table) ⌝ }
+    requires lookup { ⌜ LookupTable (now lookup) ⌝ }
     ensures { λ r. ⌜ r ≡ found-at at (name (drop at (now (text .entry)))) ⌝ }
 {
-    let end = run_end(table, text, at, Run::Name);
+    let end = run_end(table, text, at + 1, Run::Name);
     if LONGEST_NAME < end - at {
         return Found::Refused(LONG_NAME, Place(at));
     }
-    Found::Piece(name_class(table, text, at, end), end)
+    Found::Piece(name_class(table, lookup, text, at, end), end)
 }
 
 // Whether the run of digits from at to end is none of a number, because it starts with 0 and goes on or a letter follows.
@@ -249,9 +252,10 @@ fn punctuation_at(table: &[u8; 256], text: &[u8], at: usize, class: u8) -> Found
 }
 
 // What the text holds at a place before its end.
-pub fn piece_at(table: &[u8; 256], text: &[u8], at: usize) -> Found
+pub fn piece_at(table: &[u8; 256], lookup: &[u8; LOOKUP_SIZE], text: &[u8], at: usize) -> Found
     requires inside { ⌜ at < length (now text) ⌝ }
     requires table { ⌜ ClassTable (now table) ⌝ }
+    requires lookup { ⌜ LookupTable (now lookup) ⌝ }
     ensures { λ r. ⌜ r ≡ found-at at (piece (drop at (now (text .entry)))) ⌝ }
 {
     let class = class_of(table, text[at]);
@@ -259,7 +263,7 @@ pub fn piece_at(table: &[u8; 256], text: &[u8], at: usize) -> Found
         if class == DIGIT {
             return number_at(table, text, at);
         }
-        return name_at(table, text, at);
+        return name_at(table, lookup, text, at);
     }
     if NEWLINE <= class {
         if class <= FEED {

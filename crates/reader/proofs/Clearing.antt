@@ -7,7 +7,7 @@ use native.Mathlib.Omega.{arith}
 use lib.ListN.{length, getD, drop, length-drop, length-replicate, getD-replicate}
 use lib.Seq.{drop-length, getD-drop, ext-getD}
 use Rattle.token.specs.Table.{overlaid}
-use Rattle.number_buffer.specs.Writing.{Written}
+use Rattle.overlay.specs.Writing.{Written}
 use Rattle.reader.specs.Buffers.{zeros}
 
 -- each of them is 0

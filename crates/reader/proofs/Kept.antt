@@ -5,35 +5,35 @@ use mathlib.Core.List.{List}
 use Prim.Native.Nat.{ℕ, _≤_, _<_}
 use native.Mathlib.Decide.{decLt}
 use native.Mathlib.Omega.{arith}
-use borrow.Author.Tests.{leb-false}
-use Rattle.index.specs.Rule.{judge}
-use Rattle.index.specs.declared.Judgement.{Judgement}
-use Rattle.index.specs.declared.Judgement.the-variants.{Kept, Broken}
-use Rattle.index.proofs.Judged.{NeverBroken, AllKept}
+use borrow.Author.Tests.{le-leb}
+use lib.ListN.{length}
+use Rattle.index.proofs.Search.{true-false}
+use Rattle.rule.specs.Rule.{judge}
+use Rattle.rule.specs.declared.Judgement.{Judgement}
+use Rattle.rule.specs.declared.Judgement.the-variants.{Kept, Broken}
+use Rattle.rule.proofs.Judged.{AllKept}
 use Rattle.token.specs.Token.{Meaning}
 use Rattle.token.specs.Cut.{cut, meanings-in}
 use Rattle.syntax.specs.declared.Answer.{Answer as Parsing}
 use Rattle.syntax.specs.declared.Answer.the-variants.{Derived, Underived, Uncut}
-use Rattle.name.specs.Collect.{most-definitions}
-use Rattle.name_rule.specs.Refusal.{too-many, name-rules}
-use Rattle.oid.specs.Oid.{count-of}
-use Rattle.reader.specs.Reading.{rules, judged, outcome}
+use Rattle.definition.specs.Landmark.{definitions}
+use Rattle.module_table.specs.Module.{count-of, most-definitions}
+use Rattle.scope.specs.Token.{classes-of}
+use Rattle.outline.proofs.Outline.{outline-counted}
+use Rattle.naming.specs.Rules.{too-many}
+use Rattle.reader.specs.Reading.{rules, module-of, judged, outcome}
 use Rattle.reader.specs.Buffers.{answer-to}
 use Rattle.reader.specs.declared.Answer.the-variants.{Accepted}
+use Rattle.reader.proofs.Counting.{module-counted}
 
-module _ (ms : List Meaning) where
-  -- there are at most 512 definitions where refusal 8 is kept
-  few : NeverBroken (too-many ms) → count-of ms ≤ most-definitions
-  unfolding too-many
-  few never = go (decLt most-definitions (count-of ms))
-    where
-      go : Dec (most-definitions < count-of ms) → count-of ms ≤ most-definitions
-      go (yes more) = absurd (omega (arith, leb-false most-definitions most-definitions (never most-definitions (omega arith) more)))
-      go (no e) = omega arith
-
-  pub few-definitions : AllKept (rules ms) → count-of ms ≤ most-definitions
-  unfolding rules name-rules
-  few-definitions kept = few (kept .0)
+-- there are at most 512 definitions where refusal 8 is kept
+pub few-definitions : (ms : List Meaning) → AllKept (rules ms) → count-of (module-of ms) ≤ most-definitions
+unfolding rules too-many
+few-definitions ms kept = go (decLt most-definitions (length (definitions (classes-of ms))))
+  where
+    go : Dec (most-definitions < length (definitions (classes-of ms))) → count-of (module-of ms) ≤ most-definitions
+    go (yes h) = absurd (true-false (le-leb most-definitions most-definitions (omega arith)) (kept .0 most-definitions (omega arith) h))
+    go (no h) = omega (arith, module-counted ms, outline-counted (classes-of ms))
 
 -- a text is accepted where all rules are kept
 pub accepted-kept : (text : List ℕ) (p : Parsing) (count : ℕ) → answer-to (outcome text p) ≡ Accepted count
@@ -43,8 +43,8 @@ accepted-kept text (Derived n) count e = go (judge (rules (meanings-in text))) r
     go : (j : Judgement) → judge (rules (meanings-in text)) ≡ j
         → (judge (rules (meanings-in text)) ≡ Kept) × (judged (cut text .tokens) (judge (rules (meanings-in text))) ≡ judged (cut text .tokens) Kept)
     go Kept is = (is, ap (judged (cut text .tokens)) is)
-    go (Broken number token) is =
-        let same : answer-to (judged (cut text .tokens) (Broken number token)) ≡ Accepted count =
+    go (Broken f) is =
+        let same : answer-to (judged (cut text .tokens) (Broken f)) ≡ Accepted count =
         sym (ap (λ (j : Judgement). answer-to (judged (cut text .tokens) j)) is) ∙ e in
         let z : _≡_ {A = ℕ} 0 1 = cc in
         absurd (omega arith)

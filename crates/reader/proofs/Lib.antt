@@ -1,5 +1,10 @@
-pub mod Laying
 pub mod Clearing
-pub mod Parts
 pub mod Ends
 pub mod Kept
+pub mod Laying
+pub mod Parts
+pub mod Row
+pub mod Counting
+pub mod Stages
+pub mod Spelled
+pub mod Derived

@@ -2,7 +2,7 @@
 -- Assumes nothing.
 use mathlib.Core.Bool.{Bool, cond, _||_}
 use mathlib.Core.List.{List, [], _∷_, _++_}
-use Prim.Native.Nat.{ℕ, zero, suc, _-_, _<_}
+use Prim.Native.Nat.{ℕ, zero, suc, _-_}
 use lib.Dec.{ltb, eqb}
 use lib.ListN.{getD}
 use Rattle.definition.specs.Landmark.{object, convention}
@@ -26,6 +26,10 @@ has-syntax kind = eqb kind object || eqb kind convention
 abbrev pub syntax-tokens : Definition → Span
 syntax-tokens d = cond (has-syntax (d .kind)) (d .syntax) (span 0 0)
 
+-- a word of 32 bits holds a number; one that it cannot hold would be 0, and no definition of a module has such a one
+abbrev pub word : ℕ → ℕ
+word x = cond (ltb x 4294967296) x 0
+
 -- how many words a record has
 abbrev pub record-width : ℕ
 record-width = 10
@@ -34,28 +38,19 @@ record-width = 10
 -- syntax; access; status; class. Absent fields are 0
 unfoldable pub record-of : List ℕ → List ℕ → Definition → List ℕ
 record-of starts ends d =
-    d .kind
+    word (d .kind)
     ∷ getD starts (d .name .0) 0
     ∷ (getD ends (d .name .0) 0 - getD starts (d .name .0) 0)
-    ∷ d .start .0
-    ∷ d .count
+    ∷ word (d .start .0)
+    ∷ word (d .count)
     ∷ offset-in starts (syntax-tokens d)
     ∷ length-in starts ends (syntax-tokens d)
-    ∷ d .access
-    ∷ d .status
-    ∷ d .class
+    ∷ word (d .access)
+    ∷ word (d .status)
+    ∷ word (d .class)
     ∷ []
 
 -- the records of the first k definitions, one after the other
 unfoldable pub records-before : List ℕ → List ℕ → List Definition → ℕ → List ℕ
 records-before starts ends ds zero = []
 records-before starts ends ds (suc k) = records-before starts ends ds k ++ record-of starts ends (entry ds k)
-
--- its numbers fit the words of a record
-pub record Narrow (d : Definition) : Type 0 where
-  pub kind : d .kind < 4294967296
-  pub start : d .start .0 < 4294967296
-  pub count : d .count < 4294967296
-  pub access : d .access < 4294967296
-  pub status : d .status < 4294967296
-  pub class : d .class < 4294967296

@@ -1,10 +1,10 @@
 // The records of a module's definitions, ten words each, written in text order.
 ghost use mathlib.Core.Path.{_≡_};
-ghost use Prim.Native.Nat.{ℕ, _-_, _≤_, _<_, _*_};
+ghost use Prim.Native.Nat.{_-_, _≤_, _*_};
 ghost use lib.ListN.{length, getD};
 ghost use Rattle.overlay.specs.Writing.{Written};
-ghost use Rattle.module_table.specs.Definition.{definitions-in, entry};
-ghost use Rattle.records.specs.Record.{offset-in, length-in, syntax-tokens, record-width, record-of, records-before, Narrow};
+ghost use Rattle.module_table.specs.Definition.{definitions-in};
+ghost use Rattle.records.specs.Record.{offset-in, length-in, syntax-tokens, record-width, record-of, records-before, word};
 use definition::Span;
 use definition::kind;
 use index::RecordIndex;
@@ -70,25 +70,34 @@ fn syntax_tokens(d: Definition) -> Span
     Span { from: 0, to: 0 }
 }
 
+// A number as a word of a record.
+fn word(x: usize) -> u32
+    ensures { λ r. ⌜ r ≡ word x ⌝ }
+{
+    if x < 4294967296 {
+        return x as u32;
+    }
+    0
+}
+
 // The record of a definition.
 fn record_of(starts: &[u32], ends: &[u32], d: Definition) -> [u32; WIDTH]
-    requires { ⌜ Narrow d ⌝ }
     ensures { λ r. ⌜ r ≡ record-of (now (starts .entry)) (now (ends .entry)) d ⌝ }
 {
     let name = d.name.0;
     let offset = place_at(starts, name);
     let syntax = bytes_of(starts, ends, syntax_tokens(d));
     [
-        d.kind as u32,
+        word(d.kind),
         offset,
         distance(offset, place_at(ends, name)),
-        d.start.0 as u32,
-        d.count as u32,
+        word(d.start.0),
+        word(d.count),
         syntax.offset,
         syntax.length,
-        d.access as u32,
-        d.status as u32,
-        d.class as u32,
+        word(d.access),
+        word(d.status),
+        word(d.class),
     ]
 }
 
@@ -113,8 +122,7 @@ pub fn write_records(
     definitions: &[usize],
     records: &mut [u32],
 ) -> usize
-    requires narrow { ⌜ ((k : ℕ) → Narrow (entry (definitions-in (now definitions)) k)) ⌝ }
-    requires room { ⌜ length (definitions-in (now definitions)) * record-width ≤ length (now records) ⌝ }
+    requires { ⌜ length (definitions-in (now definitions)) * record-width ≤ length (now records) ⌝ }
     ensures { λ r. ⌜ Written (records-before (now (starts .entry)) (now (ends .entry)) (definitions-in (now (definitions .entry))) (length (definitions-in (now (definitions .entry))))) r (now (records .entry)) (now (records .exit)) ⌝ }
 {
     let count = module_table::count(definitions);

@@ -6,7 +6,7 @@ use mathlib.Core.List.{List}
 use Prim.Native.Nat.{ℕ}
 use native.Mathlib.Omega.{arith}
 use lib.ListN.{length}
-use Rattle.index.specs.Rule.{judge}
+use Rattle.rule.specs.Rule.{judge}
 use Rattle.token.specs.Token.{meanings}
 use Rattle.token.specs.Cut.{Cut, cut}
 use Rattle.token.specs.Law.{QuotedChange}

@@ -7,15 +7,15 @@ use mathlib.Core.List.{List, [], _∷_}
 use Prim.Native.Nat.{ℕ, _≤_, _<_}
 use native.Mathlib.Omega.{arith}
 use lib.ListN.{length, length-map}
-use Rattle.index.specs.Rule.{Rule}
-use Rattle.index.proofs.Judged.{AllKept, FirstBroken}
+use Rattle.rule.specs.Rule.{Rule}
+use Rattle.rule.proofs.Judged.{AllKept, FirstBroken}
 use Rattle.token.specs.Token.{Tok, Meaning}
 use Rattle.token.specs.Cut.{cut, refused, meanings-in}
 use Rattle.token.specs.Table.{longest-text}
 use Rattle.syntax.specs.Parsing.{Fault}
-use Rattle.name_rule.specs.Refusal.{too-many, name-rules}
-use Rattle.record.specs.Record.{start-of}
-use Rattle.reader.specs.Reading.{rules}
+use Rattle.rule.specs.declared.Finding.{Finding}
+use Rattle.naming.specs.Rules.{too-many}
+use Rattle.reader.specs.Reading.{rules, start-of}
 use Rattle.reader.specs.Buffers.{record-words, number-words}
 use Rattle.statements.specs.Order.{Before, InOrder, Placed}
 use Rattle.statements.specs.Breach.{WithinLimits, Cuts, Derives, _listed-in_, BrokenIn, InBreach, short-buffer, long-text, not-cut, not-derived, rule-broken, FirstBreach}
@@ -41,7 +41,7 @@ head-smallest (r ∷ rs) order s (inr l) = before-number r s (before-listed r rs
 
 -- the rules after the grammar have numbers from 8 on
 pub from-eight : (ms : List Meaning) → InOrder (rules ms) → (s : Rule) → s listed-in rules ms → 8 ≤ s .number
-unfolding rules name-rules too-many
+unfolding rules too-many
 from-eight ms order s l = head-smallest (rules ms) order s l
 
 -- ---- the first breach
@@ -181,12 +181,12 @@ module _ (text : List ℕ) (a b : ℕ) where
               kept-none (rules (meanings-in text)) kept (y .rule) (y .listed) (y .index) (y .broken)
 
           -- one is broken: the first is broken first at its token's start, since starts rise
-          pub first-broken : Placed (length (meanings-in text)) (rules (meanings-in text)) → (n token : ℕ)
-              → FirstBroken n token (rules (meanings-in text)) → First n (start-of (cut text .tokens) token)
-          first-broken placed n token first =
-              least-first n (start-of (cut text .tokens) token) (rule-broken cuts derives (first-found first)) least
+          pub first-broken : Placed (length (meanings-in text)) (rules (meanings-in text)) → (f : Finding)
+              → FirstBroken f (rules (meanings-in text)) → First (f .number) (start-of (cut text .tokens) (f .token .0))
+          first-broken placed f first =
+              least-first (f .number) (start-of (cut text .tokens) (f .token .0)) (rule-broken cuts derives (first-found first)) least
             where
-              least : (m q : ℕ) → In m q → NoLater n (start-of (cut text .tokens) token) m q
+              least : (m q : ℕ) → In m q → NoLater (f .number) (start-of (cut text .tokens) (f .token .0)) m q
               least m q x =
                   let o = by-rules m q x in
                   let y = o .broken in
@@ -194,5 +194,5 @@ module _ (text : List ℕ) (a b : ℕ) where
                   let inside : o .token < length (cut text .tokens) = omega (arith, at, y .placed, length-map (cut text .tokens) (λ (t : Tok). t .says)) in
                   ⊎-elim
                   (λ less. inl (omega (arith, y .numbered)))
-                  (λ same. inr (same .0 ∙ y .numbered, omega (arith, o .starts, starts-rise text token (o .token) (omega (arith, same .1, y .placed)) inside)))
+                  (λ same. inr (same .0 ∙ y .numbered, omega (arith, o .starts, starts-rise text (f .token .0) (o .token) (omega (arith, same .1, y .placed)) inside)))
                   (first-least (rules (meanings-in text)) first (order derives) (y .rule) (y .listed) (y .index) (y .broken))

@@ -7,22 +7,28 @@ use mathlib.Core.List.{List, []}
 use Prim.Native.Nat.{ℕ, _-_, _*_, _≤_, _<_}
 use native.Mathlib.Omega.{arith}
 use lib.ListN.{length, take, drop}
-use Rattle.index.specs.Rule.{judge}
-use Rattle.index.specs.declared.Judgement.the-variants.{Kept}
-use Rattle.index.proofs.Judged.{AllKept, judged-kept}
+use Rattle.rule.specs.Rule.{judge}
+use Rattle.rule.specs.declared.Judgement.the-variants.{Kept}
+use Rattle.rule.proofs.Judged.{AllKept, judged-kept}
 use Rattle.token.specs.Token.{Meaning}
 use Rattle.token.specs.Cut.{cut, meanings-in}
 use Rattle.syntax.specs.declared.Answer.{Answer as Parsing}
-use Rattle.definition.specs.Landmark.{has-oid}
-use Rattle.name_rule.specs.Refusal.{name-rules}
-use Rattle.oid.specs.Oid.{first-number, kind-of, oid-of}
-use Rattle.oid.specs.Refusal.{unreached}
-use Rattle.oid.proofs.Unreached.{kept-has-oid, kept-one-oid}
-use Rattle.oid_rule.specs.Rules.{oid-rules}
-use Rattle.oid.specs.Oid.{count-of as definitions-in}
-use Rattle.record.specs.Record.{record-width}
-use Rattle.record.proofs.Words.{before-long}
-use Rattle.reader.specs.Reading.{Outcome, accepted, refused, rules, later-rules, judged, outcome}
+use Rattle.module_table.specs.declared.Definition.{Definition}
+use Rattle.module_table.specs.Module.{at, oid-in, oid-of}
+use Rattle.module_table.proofs.Filled.{column-kept}
+use Rattle.module_table.specs.Module.{count-of as definitions-in}
+use Rattle.naming.specs.Rules.{name-rules}
+use Rattle.naming.specs.Values.{named}
+use Rattle.oid_head.specs.Oid.{has-value, resolved-oid}
+use Rattle.oid_head.specs.Unreached.{unreached}
+use Rattle.oid_head.proofs.Unreached.{kept-has-oid, kept-one-oid}
+use Rattle.oid_tree.specs.Stage.{with-oids}
+use Rattle.oid_tree.proofs.Cut.{stage-oid}
+use Rattle.object_tree.specs.Tree.{parent-of, with-parent, parents-added}
+use Rattle.reader.proofs.Counting.{module-counted}
+use Rattle.records.specs.Record.{record-width}
+use Rattle.records.proofs.Words.{before-long}
+use Rattle.reader.specs.Reading.{Outcome, accepted, refused, rules, later-rules, oid-rules, numbered, classed, module-of, starts-of, ends-of, judged, outcome}
 use Rattle.reader.specs.Buffers.{number-of, place-of, count-of, record-words, number-words, filled, answer-to, records-in, numbers-in, Left, Reads}
 use Rattle.reader.specs.declared.Answer.{Answer}
 use Rattle.reader.specs.declared.Answer.the-variants.{Accepted, Refused}
@@ -32,20 +38,29 @@ use Rattle.statements.specs.Breach.{WithinLimits, Derives}
 use Rattle.statements.specs.Statements.{OidIs, FirstDemand, SecondDemand}
 use Rattle.statements.proofs.Limits.{Lent, short, long, within, lent}
 use Rattle.statements.proofs.Filled.{filled-beyond, filled-unused}
+use Rattle.statements.proofs.RisingModule.{classes-leave}
 use Rattle.statements.proofs.Room.{kept-rest, words-fit}
 use Rattle.statements.proofs.Right.{refused-exactly, accepted-exactly, accepted-is, later-refusal}
 
 -- where all rules are kept, each definition of a kind with an OID has the numbers recorded, and no others
-resolved-of : (ms : List Meaning) → AllKept (rules ms) → (k : ℕ) → k < definitions-in ms → has-oid (kind-of ms k) ≡ true → OidIs ms k (oid-of ms k)
-unfolding rules later-rules oid-rules unreached
-resolved-of ms kept k h has =
-    let reached : unreached ms .breach k ≡ false = kept-rest (name-rules ms) (later-rules ms) kept .0 k (omega arith) h in
-    (kept-has-oid ms k h reached has, kept-one-oid ms k h reached has)
+resolved-of : (ms : List Meaning) → AllKept (rules ms) → (k : ℕ) → k < definitions-in (module-of ms) → has-value (at (named ms) k) ≡ true
+    → OidIs (named ms) k (oid-of (module-of ms) k)
+unfolding rules later-rules oid-rules unreached with-oids parents-added
+resolved-of ms kept k h has = rw (numbers-same) (kept-has-oid (named ms) k reached has, kept-one-oid (named ms) k reached has)
+  where
+    reached : unreached (named ms) .breach k ≡ false
+    reached = kept-rest (name-rules ms) (later-rules ms) kept .0 k (omega arith) (omega (arith, module-counted ms))
+
+    numbers-same : oid-of (module-of ms) k ≡ resolved-oid (named ms) k
+    numbers-same =
+        column-kept (oid-in (numbered ms .numbers)) (λ (i : ℕ) (d : Definition). with-parent (parent-of (classed ms .definitions) (numbered ms .numbers) i) d) (λ i d. refl) (classed ms .definitions) k
+        ∙ classes-leave (oid-in (numbered ms .numbers)) (λ d class sequence. refl) (numbered ms .classes) (numbered ms .values) (numbered ms .definitions) k
+        ∙ stage-oid (named ms) k
 
 -- after a refusal no word is read
 none-read : (o : Outcome) → 0 < number-of (answer-to o) → (records-in o ≡ []) × (numbers-in o ≡ [])
 none-read (accepted count records numbers) some = absurd (omega arith)
-none-read (refused number place) some = (refl, refl)
+none-read (refused number clause place other) some = (refl, refl)
 
 module _ (text : List ℕ) (order : Derives text → InOrder (rules (meanings-in text))) (placed : Placed (length (meanings-in text)) (rules (meanings-in text)))
     (answer : Answer) (records records′ numbers numbers′ : List ℕ) (reads : Reads text answer records records′ numbers numbers′) where
@@ -86,18 +101,17 @@ module _ (text : List ℕ) (order : Derives text → InOrder (rules (meanings-in
       found-all : found ≡ judged (cut text .tokens) Kept
       found-all = all-kept .1
 
-      all-counted : count-of answer ≡ definitions-in (meanings-in text)
+      all-counted : count-of answer ≡ definitions-in (module-of (meanings-in text))
       all-counted = ap count-of (left .answered) ∙ ap (λ (o : Outcome). count-of (answer-to o)) found-all
 
       records-long : length (records-in found) ≡ count-of answer * record-width
       records-long =
           ap (λ (o : Outcome). length (records-in o)) found-all
-          ∙ before-long (cut text .tokens) (definitions-in (meanings-in text))
+          ∙ before-long (starts-of (cut text .tokens)) (ends-of (cut text .tokens)) (module-of (meanings-in text) .definitions) (definitions-in (module-of (meanings-in text)))
           ∙ ap (λ (c : ℕ). c * record-width) (sym all-counted)
 
-      numbers-long : length (numbers-in found) ≡ first-number (meanings-in text) (count-of answer)
-      numbers-long =
-          ap (λ (o : Outcome). length (numbers-in o)) found-all ∙ ap (first-number (meanings-in text)) (sym all-counted)
+      numbers-long : length (numbers-in found) ≡ length (module-of (meanings-in text) .numbers)
+      numbers-long = ap (λ (o : Outcome). length (numbers-in o)) found-all
 
     first-within : FirstDemand text answer records records′ numbers numbers′
     first-within = record {
@@ -116,7 +130,7 @@ module _ (text : List ℕ) (order : Derives text → InOrder (rules (meanings-in
       unused = λ zero. (
         ap (λ (w : List ℕ). drop (count-of answer * record-width) (take record-words w)) (left .records-left)
             ∙ filled-unused record-words (records-in found) records (fit .0) _ (records-long zero),
-        ap (λ (w : List ℕ). drop (first-number (meanings-in text) (count-of answer)) (take number-words w)) (left .numbers-left)
+        ap (λ (w : List ℕ). drop (length (module-of (meanings-in text) .numbers)) (take number-words w)) (left .numbers-left)
             ∙ filled-unused number-words (numbers-in found) numbers (fit .1) _ (numbers-long zero),
       );
     }

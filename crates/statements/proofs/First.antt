@@ -7,9 +7,10 @@ use mathlib.Core.List.{List, _∷_}
 use Prim.Native.Nat.{ℕ, _≤_, _<_}
 use native.Mathlib.Decide.{decLt}
 use native.Mathlib.Omega.{arith}
-use Rattle.index.specs.Rule.{Rule}
+use Rattle.rule.specs.declared.Finding.{Finding}
+use Rattle.rule.specs.Rule.{Rule}
 use Rattle.index.proofs.Search.{true-false}
-use Rattle.index.proofs.Judged.{AllKept, NeverBroken, BrokenAt, FirstBroken, here, later}
+use Rattle.rule.proofs.Judged.{AllKept, NeverBroken, BrokenAt, FirstBroken, here, later}
 use Rattle.statements.specs.Order.{Broken, Rises, Before, BeforeAll, InOrder, Placed}
 use Rattle.statements.specs.Breach.{_listed-in_, BrokenIn}
 
@@ -18,21 +19,28 @@ abbrev pub NoLater : ℕ → ℕ → ℕ → ℕ → Type 0
 NoLater number token m i = (number < m) ⊎ ((number ≡ m) × (token ≤ i))
 
 -- where a rule is broken first, it is broken
-broken-here : {r : Rule} {number token : ℕ} → (b : BrokenAt r number token) → Broken r (b .index)
+broken-here : {r : Rule} {f : Finding} → (b : BrokenAt r f) → Broken r (b .index)
 broken-here b = record { from = b .inside .0; below = b .inside .1; breaks = b .breaks }
 
+-- its number and its place
+its-number : {r : Rule} {f : Finding} → BrokenAt r f → r .number ≡ f .number
+its-number b = ap (λ (x : Finding). x .number) (b .found)
+
+its-place : {r : Rule} {f : Finding} → (b : BrokenAt r f) → r .place (b .index) ≡ f .token .0
+its-place b = ap (λ (x : Finding). x .token .0) (b .found)
+
 -- the first rule that is broken is one that is
-pub first-found : {number token : ℕ} {rs : List Rule} → FirstBroken number token rs → BrokenIn rs number token
+pub first-found : {f : Finding} {rs : List Rule} → FirstBroken f rs → BrokenIn rs (f .number) (f .token .0)
 first-found (here {r = r} b) = record {
   rule = r;
   listed = inl refl;
-  numbered = b .its-number;
+  numbered = its-number b;
   index = b .index;
   broken = broken-here b;
-  placed = b .its-place;
+  placed = its-place b;
 }
-first-found (later never f) =
-    let x = first-found f in
+first-found (later never g) =
+    let x = first-found g in
     record {
       rule = x .rule;
       listed = inr (x .listed);
@@ -63,28 +71,28 @@ placed-listed n (r ∷ rs) all s (inl same) k b =
 placed-listed n (r ∷ rs) all s (inr l) k b = placed-listed n rs (all .1) s l k b
 
 -- of one rule
-least-here : {number token : ℕ} (r : Rule) → BrokenAt r number token → Rises r → (k : ℕ) → Broken r k → NoLater number token (r .number) (r .place k)
-least-here {token = token} r b rises k broken = inr (sym (b .its-number), go (decLt k (b .index)) (decLt (b .index) k))
+least-here : {f : Finding} (r : Rule) → BrokenAt r f → Rises r → (k : ℕ) → Broken r k → NoLater (f .number) (f .token .0) (r .number) (r .place k)
+least-here {f} r b rises k broken = inr (sym (its-number b), go (decLt k (b .index)) (decLt (b .index) k))
   where
-    go : Dec (k < b .index) → Dec (b .index < k) → token ≤ r .place k
+    go : Dec (k < b .index) → Dec (b .index < k) → f .token .0 ≤ r .place k
     go (yes earlier) d = absurd (true-false (broken .breaks) (b .none-before k (broken .from) earlier))
-    go (no n) (yes h) = omega (arith, b .its-place, rises (b .index) k h (broken-here b) broken)
+    go (no n) (yes h) = omega (arith, its-place b, rises (b .index) k h (broken-here b) broken)
     go (no n) (no m) =
         let same : b .index ≡ k = omega arith in
-        omega (arith, sym (b .its-place) ∙ ap (r .place) same)
+        omega (arith, sym (its-place b) ∙ ap (r .place) same)
 
 -- of one rule and a later one
-least-after : {number token : ℕ} (r s : Rule) → BrokenAt r number token → Before r s → (k : ℕ) → Broken s k → NoLater number token (s .number) (s .place k)
-least-after r s b (inl less) k broken = inl (omega (arith, b .its-number))
+least-after : {f : Finding} (r s : Rule) → BrokenAt r f → Before r s → (k : ℕ) → Broken s k → NoLater (f .number) (f .token .0) (s .number) (s .place k)
+least-after r s b (inl less) k broken = inl (omega (arith, its-number b))
 least-after r s b (inr same) k broken =
-    inr (sym (b .its-number) ∙ same .0, omega (arith, b .its-place, same .1 (b .index) k (broken-here b) broken))
+    inr (sym (its-number b) ∙ same .0, omega (arith, its-place b, same .1 (b .index) k (broken-here b) broken))
 
 -- of all of them
-pub first-least : {number token : ℕ} (rs : List Rule) → FirstBroken number token rs → InOrder rs
-    → (s : Rule) → s listed-in rs → (k : ℕ) → Broken s k → NoLater number token (s .number) (s .place k)
-first-least {number} {token} (r ∷ rs) (here b) order s (inl same) k broken =
-    subst (λ (x : Rule). Broken x k → NoLater number token (x .number) (x .place k)) (sym same) (least-here r b (order .0) k) broken
+pub first-least : {f : Finding} (rs : List Rule) → FirstBroken f rs → InOrder rs
+    → (s : Rule) → s listed-in rs → (k : ℕ) → Broken s k → NoLater (f .number) (f .token .0) (s .number) (s .place k)
+first-least {f} (r ∷ rs) (here b) order s (inl same) k broken =
+    subst (λ (x : Rule). Broken x k → NoLater (f .number) (f .token .0) (x .number) (x .place k)) (sym same) (least-here r b (order .0) k) broken
 first-least (r ∷ rs) (here b) order s (inr l) k broken = least-after r s b (before-listed r rs (order .1) s l) k broken
-first-least (r ∷ rs) (later never f) order s (inl same) k broken =
+first-least (r ∷ rs) (later never g) order s (inl same) k broken =
     absurd (never-here never (subst (λ (x : Rule). Broken x k) same broken))
-first-least (r ∷ rs) (later never f) order s (inr l) k broken = first-least rs f (order .2) s l k broken
+first-least (r ∷ rs) (later never g) order s (inr l) k broken = first-least rs g (order .2) s l k broken

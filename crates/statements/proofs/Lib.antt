@@ -16,8 +16,6 @@ pub mod Examples
 pub mod RisingHits
 pub mod RisingRun
 pub mod RisingDefinitions
-pub mod RisingSyntax
-pub mod RisingImports
+pub mod RisingModule
 pub mod Rising
-pub mod RisingNeeded
 pub mod Statements

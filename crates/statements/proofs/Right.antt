@@ -6,10 +6,10 @@ use mathlib.Core.List.{List}
 use Prim.Native.Nat.{ℕ, _<_}
 use native.Mathlib.Omega.{arith}
 use lib.ListN.{length}
-use Rattle.index.specs.Rule.{judge}
-use Rattle.index.specs.declared.Judgement.{Judgement}
-use Rattle.index.specs.declared.Judgement.the-variants.{Kept, Broken}
-use Rattle.index.proofs.Judged.{judged-kept, judged-broken}
+use Rattle.rule.specs.Rule.{judge}
+use Rattle.rule.specs.declared.Judgement.{Judgement}
+use Rattle.rule.specs.declared.Judgement.the-variants.{Kept, Broken}
+use Rattle.rule.proofs.Judged.{judged-kept, judged-broken}
 use Rattle.token.specs.Cut.{Ending, whole, refused, cut, meanings-in}
 use Rattle.grammar.specs.Answer.{Verdict, derived}
 use Rattle.grammar.specs.Answer.{refused as refused-at}
@@ -43,9 +43,8 @@ module _ (text : List ℕ) (order : Derives text → InOrder (rules (meanings-in
       where
         go : (j : Judgement) → judge (rules (meanings-in text)) ≡ j → Right text a b (answer-to (judged (cut text .tokens) j))
         go Kept is = none-broken text a b order limits cuts (d .otherwise .0 refl) (judged-kept (rules (meanings-in text)) is)
-        go (Broken number token) is =
-            first-broken text a b order limits cuts (d .otherwise .0 refl) placed number (token .0)
-            (judged-broken (rules (meanings-in text)) number (token .0) is)
+        go (Broken f) is =
+            first-broken text a b order limits cuts (d .otherwise .0 refl) placed f (judged-broken (rules (meanings-in text)) f is)
     by-verdict cuts (refused-at i) d = first-underived text a b order limits cuts _ (d .exactly .0 refl) (d .at-fault refl)
 
     right-outcome : (p : Parsing) → Parses text p → RightOutcome p

@@ -1,36 +1,39 @@
 -- The rules from 8 on stand in the order of their numbers, and those of one number in the order of their places; so the first that
 -- is broken has the smallest number, and its first breach the earliest place. Each place is that of a token.
--- Rule 9 is two rules, of the imports and of the definitions: that the imports come first is what the grammar says, and so the order
--- is that of a derived module.
 -- Assumes nothing.
-use mathlib.Core.Path.{_≡_, refl, sym, ap, _∙_}
-use mathlib.Core.List.{List, [], _∷_, _++_, map, map-map}
+use mathlib.Core.Path.{_≡_, refl, ap, _∙_}
+use mathlib.Core.List.{List, [], _∷_, _++_}
 use Prim.Native.Nat.{ℕ, suc, _+_, _-_, _≤_, _<_}
 use native.Mathlib.Omega.{arith}
 use lib.ListN.{length, getD, length-map}
-use Rattle.index.specs.Rule.{Rule, each}
-use Rattle.token.specs.Token.{Meaning, Tok, meanings, class-of-token}
-use Rattle.grammar.specs.Answer.{Derives}
-use Rattle.grammar.specs.Derivation.{DerivesTokens}
-use Rattle.grammar.proofs.Derivation.{tree-of, tree-yield}
-use Rattle.grammar.specs.Grammar.{smi-module}
+use Rattle.rule.specs.Rule.{Rule, each}
+use Rattle.token.specs.Token.{Meaning}
 use Rattle.definition.specs.Landmark.{begins, last, definitions}
-use Rattle.name.specs.Import.{classes-of, imports-start, imports-end, is-symbol, imports}
-use Rattle.name_rule.specs.Refusal.{too-many, imported-again, defined-again, not-offered, unknown-name, name-rules}
-use Rattle.oid.specs.Refusal.{unreached, too-long, past-room}
-use Rattle.number_buffer.specs.Refusal.{held-twice}
-use Rattle.oid_rule.specs.Rules.{oid-rules}
-use Rattle.syntax_rule.specs.Refusal.{misplaced-in, outside-in, misfit-in, indirect-convention, syntax-rules}
-use Rattle.table_rule.specs.Refusal.{table-broken, table-rules}
-use Rattle.access_rule.specs.Access.{access-broken}
-use Rattle.access_rule.specs.Notification.{notification-broken}
-use Rattle.reader.specs.Reading.{rules, later-rules}
+use Rattle.definition.specs.declared.Span.{Span}
+use Rattle.module_table.specs.declared.Definition.{Definition}
+use Rattle.module_table.specs.Definition.{entry}
+use Rattle.scope.specs.Token.{classes-of, spelled}
+use Rattle.outline.specs.Outline.{outline}
+use Rattle.naming.specs.Rules.{too-many, introduced-again, not-offered, unknown-name, name-rules}
+use Rattle.naming.specs.Values.{named}
+use Rattle.oid_head.specs.Unreached.{unreached}
+use Rattle.oid_tree.specs.Refusal.{too-long, past-room}
+use Rattle.oid_holder.specs.Holder.{held-twice}
+use Rattle.syntax_check.specs.Refusal.{demand-number, range-rule-of, item-rule-of, indirect-convention, rules-over}
+use Rattle.syntax_check.specs.declared.Demand.{Demand}
+use Rattle.syntax_check.specs.declared.Demand.the-variants.{Order, Limits}
+use Rattle.syntax_check.proofs.Places.{Inside, range-rule-inside, item-rule-inside}
+use Rattle.table_check.specs.Refusal.{table-broken}
+use Rattle.access_check.specs.Access.{access-broken}
+use Rattle.access_check.specs.Notification.{notification-broken}
+use Rattle.reader.specs.Reading.{numbered, classed, module-of, oid-rules, object-rules, later-rules, rules}
 use Rattle.statements.specs.Order.{Broken, InOrder, Placed}
-use Rattle.statements.proofs.RisingHits.{Confined, confined-wider, hits-confined}
-use Rattle.statements.proofs.RisingRun.{Run, run-row, run-then, run-none, run-two, run-each, placed-row, placed-each}
-use Rattle.statements.proofs.RisingDefinitions.{name-of, end-of, ends-before, end-inside}
-use Rattle.statements.proofs.RisingSyntax.{misplaced-in-home, outside-in-home, misfit-in-home, indirect-confined}
-use Rattle.statements.proofs.RisingImports.{import-inside, imports-first}
+use Rattle.statements.proofs.RisingHits.{Confined, hits-confined, confined-wider}
+use Rattle.statements.proofs.RisingRun.{Run, run-row, run-then, run-none, run-each, placed-row, placed-each}
+use Rattle.scope.proofs.Imports as imports
+use Rattle.outline.proofs.Outline.{outline-counted}
+use Rattle.statements.proofs.RisingDefinitions.{name-of, end-of, ends-before, end-inside, syntax-at-home}
+use Rattle.statements.proofs.RisingModule.{Keeps, keeps-then, oids-keep, classes-keep, parents-keep, outline-name, outline-syntax}
 
 module _ (ms : List Meaning) where
   -- how many definitions there are
@@ -45,138 +48,202 @@ module _ (ms : List Meaning) where
   Rising n r = Confined n 0 (length ms) r
 
   -- a rule tested at each definition, placed at its name
-  of-definitions : (r : Rule) → r .to ≡ count → ((k : ℕ) → r .place k ≡ getD (definitions (classes-of ms)) k 0) → Rising (r .number) r
+  of-names : (r : Rule) → r .to ≡ count → ((k : ℕ) → r .place k ≡ getD (definitions (classes-of ms)) k 0) → Rising (r .number) r
   unfolding definitions
-  of-definitions r to at =
+  of-names r to at =
       confined-wider (λ p l h. (l, omega (arith, counted)))
       (hits-confined (begins (classes-of ms)) 0 (last (classes-of ms)) r to (λ k h. at k))
 
-  -- a rule tested at each import, placed there
-  of-imports : (r : Rule) → r .to ≡ length (imports (classes-of ms)) → ((k : ℕ) → r .place k ≡ getD (imports (classes-of ms)) k 0) → Rising (r .number) r
-  unfolding imports
-  of-imports r to at =
-      confined-wider (λ p l h. (omega arith, omega (arith, counted, import-inside (classes-of ms) p l h)))
-      (hits-confined (is-symbol (classes-of ms)) imports-start (imports-end (classes-of ms)) r to (λ k h. at k))
+  -- the same of the definitions of a stage
+  of-definitions : {ds : List Definition} → Keeps (outline (classes-of ms)) ds → (r : Rule) → r .to ≡ length ds → ((k : ℕ) → r .place k ≡ entry ds k .name .0)
+      → Rising (r .number) r
+  of-definitions keeps r to at =
+      of-names r (to ∙ keeps .counted ∙ outline-counted (classes-of ms)) (λ k. at k ∙ keeps .names k ∙ outline-name (classes-of ms) k)
+
+  -- a rule tested at tokens up to e, each placed there
+  of-tokens : (r : Rule) → r .to ≤ length ms → ((i : ℕ) → r .place i ≡ i) → Rising (r .number) r
+  of-tokens r to at = record {
+    numbered = refl;
+    rises = λ i j l p q. omega (arith, at i, at j);
+    inside = λ i p. (omega arith, omega (arith, at i, p .below));
+  }
+
+  -- ---- the stages keep the definitions where they are
+
+  named-keeps : Keeps (outline (classes-of ms)) (named ms .definitions)
+  named-keeps = record { counted = refl; names = λ k. refl; syntaxes = λ k. refl }
+
+  numbered-keeps : Keeps (outline (classes-of ms)) (numbered ms .definitions)
+  numbered-keeps = keeps-then named-keeps (oids-keep (named ms))
+
+  classed-keeps : Keeps (outline (classes-of ms)) (classed ms .definitions)
+  classed-keeps = keeps-then numbered-keeps (classes-keep (numbered ms .classes) (numbered ms .values) (numbered ms .definitions))
+
+  module-keeps : Keeps (outline (classes-of ms)) (module-of ms .definitions)
+  module-keeps = keeps-then classed-keeps (parents-keep (classed ms .numbers) (classed ms .definitions))
 
   -- ---- the rules, one by one
 
   too-many-rises : Rising 8 (too-many ms)
   unfolding too-many
-  too-many-rises = of-definitions (too-many ms) refl (λ k. refl)
+  too-many-rises = of-names (too-many ms) refl (λ k. refl)
 
-  imported-again-rises : Rising 9 (imported-again ms)
-  unfolding imported-again
-  imported-again-rises = of-imports (imported-again ms) refl (λ k. refl)
-
-  defined-again-rises : Rising 9 (defined-again ms)
-  unfolding defined-again
-  defined-again-rises = of-definitions (defined-again ms) refl (λ k. refl)
+  introduced-again-rises : Rising 9 (introduced-again ms)
+  unfolding introduced-again
+  introduced-again-rises = of-tokens (introduced-again ms) (omega arith) (λ i. refl)
 
   not-offered-rises : Rising 10 (not-offered ms)
   unfolding not-offered
-  not-offered-rises = of-imports (not-offered ms) refl (λ k. refl)
+  not-offered-rises = of-tokens (not-offered ms) (omega (arith, imports.end-inside (classes-of ms), counted)) (λ i. refl)
 
   unknown-name-rises : Rising 11 (unknown-name ms)
   unfolding unknown-name
-  unknown-name-rises = record {
-    numbered = refl;
-    rises = λ i j l p q. omega arith;
-    inside = λ i p. (omega arith, p .below);
-  }
+  unknown-name-rises = of-tokens (unknown-name ms) (omega arith) (λ i. refl)
 
-  unreached-rises : Rising 12 (unreached ms)
+  unreached-rises : Rising 12 (unreached (named ms))
   unfolding unreached
-  unreached-rises = of-definitions (unreached ms) refl (λ k. refl)
+  unreached-rises = of-definitions named-keeps (unreached (named ms)) refl (λ k. refl)
 
-  too-long-rises : Rising 13 (too-long ms)
+  too-long-rises : Rising 13 (too-long (named ms))
   unfolding too-long
-  too-long-rises = of-definitions (too-long ms) refl (λ k. refl)
+  too-long-rises = of-definitions named-keeps (too-long (named ms)) refl (λ k. refl)
 
-  past-room-rises : Rising 14 (past-room ms)
+  past-room-rises : Rising 14 (past-room (named ms))
   unfolding past-room
-  past-room-rises = of-definitions (past-room ms) refl (λ k. refl)
+  past-room-rises = of-definitions named-keeps (past-room (named ms)) refl (λ k. refl)
 
-  held-twice-rises : Rising 15 (held-twice ms)
+  held-twice-rises : Rising 15 (held-twice (numbered ms .definitions) (numbered ms .numbers))
   unfolding held-twice
-  held-twice-rises = of-definitions (held-twice ms) refl (λ k. refl)
+  held-twice-rises = of-definitions numbered-keeps (held-twice (numbered ms .definitions) (numbered ms .numbers)) refl (λ k. refl)
 
-  table-broken-rises : Rising 20 (table-broken ms)
+  abbrev objects : List Definition
+  objects = module-of ms .definitions
+
+  table-broken-rises : Rising 20 (table-broken objects (module-of ms .values) (module-of ms .numbers))
   unfolding table-broken
-  table-broken-rises = of-definitions (table-broken ms) refl (λ k. refl)
+  table-broken-rises = of-definitions module-keeps (table-broken objects (module-of ms .values) (module-of ms .numbers)) refl (λ k. refl)
 
-  access-broken-rises : Rising 21 (access-broken ms)
+  access-broken-rises : Rising 21 (access-broken objects (module-of ms .values))
   unfolding access-broken
-  access-broken-rises = of-definitions (access-broken ms) refl (λ k. refl)
+  access-broken-rises = of-definitions module-keeps (access-broken objects (module-of ms .values)) refl (λ k. refl)
 
-  notification-broken-rises : Rising 22 (notification-broken ms)
+  notification-broken-rises : Rising 22 (notification-broken objects (module-of ms .values) (module-of ms .numbers))
   unfolding notification-broken
-  notification-broken-rises = of-definitions (notification-broken ms) refl (λ k. refl)
+  notification-broken-rises =
+      of-definitions module-keeps (notification-broken objects (module-of ms .values) (module-of ms .numbers)) refl (λ k. refl)
+
+  -- ---- the rules on syntaxes, each inside its definition
+
+  abbrev shapes : List Definition
+  shapes = classed ms .definitions
+
+  shapes-counted : length shapes ≡ count
+  shapes-counted = classed-keeps .counted ∙ outline-counted (classes-of ms)
+
+  -- the syntax of definition k stands between its name and its end
+  module _ (k : ℕ) (h : k < count) where
+    syntax-home : (name-of (classes-of ms) k ≤ entry shapes k .syntax .from) × (entry shapes k .syntax .from ≤ entry shapes k .syntax .to)
+        × (entry shapes k .syntax .to ≤ end-of (classes-of ms) k)
+    syntax-home =
+        let home = syntax-at-home (classes-of ms) k h in
+        let same = classed-keeps .syntaxes k ∙ outline-syntax (classes-of ms) k h in
+        let from = ap (λ (s : Span). s .from) same in
+        let to = ap (λ (s : Span). s .to) same in
+        (omega (arith, home .starts, from), omega (arith, home .ordered, from, to), omega (arith, home .ends, to))
+
+    at-home : {n : ℕ} {r : Rule} → Inside n (entry shapes k .syntax .from) (entry shapes k .syntax .to) r
+        → Confined n (name-of (classes-of ms) k) (end-of (classes-of ms) k) r
+    at-home {r = r} p = record {
+      numbered = p .numbered;
+      rises = λ i j l a b. omega (arith, p .placed i, p .placed j);
+      inside = λ i b.
+          let within = p .between i (b .from) (b .below) in
+          (omega (arith, p .placed i, within .0, syntax-home .0), omega (arith, p .placed i, within .1, syntax-home .2));
+    }
+
+  -- 19: its place is the first token of the syntax
+  indirect-rises : Rising 19 (indirect-convention (classed ms .classes) (classed ms .values) shapes)
+  indirect-rises = record {
+    numbered = refl;
+    rises = λ i j l p q.
+        let later : j < count = omega (arith, q .below, shapes-counted) in
+        omega (arith, syntax-home i (omega arith) .1, syntax-home i (omega arith) .2, ends-before (classes-of ms) i j l later, syntax-home j later .0);
+    inside = λ i p.
+        let here : i < count = omega (arith, p .below, shapes-counted) in
+        (omega arith, omega (arith, syntax-home i here .1, syntax-home i here .2, end-inside (classes-of ms) i here .1, end-inside (classes-of ms) i here .0, counted));
+  }
 
   -- ---- in a row
 
   -- a rule for each definition, its places inside it
   of-each : (n : ℕ) (rule : ℕ → Rule) → ((k : ℕ) → k < count → Confined n (name-of (classes-of ms) k) (end-of (classes-of ms) k) (rule k))
-      → Run n (suc n) (each rule 0 count)
+      → Run n (suc n) (each rule 0 (length shapes))
   unfolding each
   of-each n rule home =
-      run-each rule n count (name-of (classes-of ms)) (end-of (classes-of ms)) home (ends-before (classes-of ms)) (count - 0) 0 (omega arith)
+      rw shapes-counted
+      (run-each rule n count (name-of (classes-of ms)) (end-of (classes-of ms)) home (ends-before (classes-of ms)) (count - 0) 0 (omega arith))
 
   placed-of-each : (n : ℕ) (rule : ℕ → Rule) → ((k : ℕ) → k < count → Confined n (name-of (classes-of ms) k) (end-of (classes-of ms) k) (rule k))
-      → Placed (length ms) (each rule 0 count)
+      → Placed (length ms) (each rule 0 (length shapes))
   unfolding each
   placed-of-each n rule home =
-      placed-each (length ms) count rule
+      rw shapes-counted
+      (placed-each (length ms) count rule
       (λ k h i p. omega (arith, counted, home k h .inside i p .1, end-inside (classes-of ms) k h))
-      (count - 0) 0 (omega arith)
+      (count - 0) 0 (omega arith))
 
-  -- the imports come first: each stands before each definition
-  abbrev pub ImportsFirst : Type 0
-  ImportsFirst = (i j : ℕ) → i < length (imports (classes-of ms)) → j < count → getD (imports (classes-of ms)) i 0 < getD (definitions (classes-of ms)) j 0
-
-  imports-before : ImportsFirst → (i j : ℕ) → Broken (imported-again ms) i → Broken (defined-again ms) j → imported-again ms .place i ≤ defined-again ms .place j
-  unfolding imported-again defined-again
-  imports-before first i j p q = omega (arith, first i j (p .below) (q .below))
-
-  names-run : ImportsFirst → Run 8 12 (name-rules ms)
-  unfolding name-rules
-  names-run first =
+  names-run : Run 8 12 (name-rules ms)
+  names-run =
       run-then (omega arith) too-many-rises
-      (run-row (omega arith) (omega arith) (run-two imported-again-rises defined-again-rises (imports-before first))
+      (run-then (omega arith) introduced-again-rises
       (run-then (omega arith) not-offered-rises (run-then (omega arith) unknown-name-rises (run-none 12))))
 
-  oids-run : Run 12 16 (oid-rules ms)
+  oids-run : Run 12 16 (oid-rules (named ms))
   unfolding oid-rules
   oids-run =
       run-then (omega arith) unreached-rises
       (run-then (omega arith) too-long-rises
       (run-then (omega arith) past-room-rises (run-then (omega arith) held-twice-rises (run-none 16))))
 
-  syntax-run : Run 16 20 (syntax-rules ms)
-  unfolding syntax-rules
-  syntax-run =
-      run-row (omega arith) (omega arith) (of-each 16 (misplaced-in ms) (misplaced-in-home ms))
-      (run-row (omega arith) (omega arith) (of-each 17 (outside-in ms) (outside-in-home ms))
-      (run-row (omega arith) (omega arith) (of-each 18 (misfit-in ms) (misfit-in-home ms))
-      (run-then (omega arith) (indirect-confined ms) (run-none 20))))
+  abbrev ranges : Demand → ℕ → Rule
+  ranges demand = range-rule-of (classed ms .classes) (classed ms .values) shapes demand
 
-  tables-run : Run 20 23 (table-rules ms)
-  unfolding table-rules
-  tables-run =
+  abbrev items : ℕ → Rule
+  items = item-rule-of (spelled ms) (classed ms .classes) (classed ms .values) shapes
+
+  ranges-home : (demand : Demand) (k : ℕ) → k < count → Confined (demand-number demand) (name-of (classes-of ms) k) (end-of (classes-of ms) k) (ranges demand k)
+  ranges-home demand k h = at-home k h (range-rule-inside (classed ms .classes) (classed ms .values) shapes k demand)
+
+  items-home : (k : ℕ) → k < count → Confined 18 (name-of (classes-of ms) k) (end-of (classes-of ms) k) (items k)
+  items-home k h = at-home k h (item-rule-inside (classed ms .classes) (classed ms .values) shapes k (spelled ms))
+
+  abbrev of-syntax : List Rule
+  of-syntax = rules-over (spelled ms) (classed ms .classes) (classed ms .values) shapes
+
+  syntax-run : Run 16 20 of-syntax
+  unfolding rules-over
+  syntax-run =
+      run-row (omega arith) (omega arith) (of-each 16 (ranges Order) (ranges-home Order))
+      (run-row (omega arith) (omega arith) (of-each 17 (ranges Limits) (ranges-home Limits))
+      (run-row (omega arith) (omega arith) (of-each 18 items items-home)
+      (run-then (omega arith) indirect-rises (run-none 20))))
+
+  abbrev of-objects : List Rule
+  of-objects = object-rules objects (module-of ms .values) (module-of ms .numbers)
+
+  objects-run : Run 20 23 of-objects
+  unfolding object-rules
+  objects-run =
       run-then (omega arith) table-broken-rises
       (run-then (omega arith) access-broken-rises (run-then (omega arith) notification-broken-rises (run-none 23)))
 
-  -- the rules are in order wherever the imports come first
-  pub imports-first-in-order : ImportsFirst → InOrder (rules ms)
+  pub rules-in-order : InOrder (rules ms)
   unfolding rules later-rules
-  imports-first-in-order first =
+  rules-in-order =
       let all : Run 8 23 (rules ms) =
-      run-row (omega arith) (omega arith) (names-run first)
-      (run-row (omega arith) (omega arith) oids-run (run-row (omega arith) (omega arith) syntax-run tables-run)) in
+      run-row (omega arith) (omega arith) names-run
+      (run-row (omega arith) (omega arith) oids-run (run-row (omega arith) (omega arith) syntax-run objects-run)) in
       all .in-order
-
-  -- as they do in a module that the grammar derives
-  pub rules-in-order : Derives smi-module (classes-of ms) → InOrder (rules ms)
-  rules-in-order derived = imports-first-in-order (imports-first (classes-of ms) derived)
 
   -- ---- places
 
@@ -184,43 +251,28 @@ module _ (ms : List Meaning) where
   at-tokens c i p = c .inside i p .1
 
   names-placed : Placed (length ms) (name-rules ms)
-  unfolding name-rules
-  names-placed =
-      (at-tokens too-many-rises, (at-tokens imported-again-rises, (at-tokens defined-again-rises, (at-tokens not-offered-rises, (at-tokens unknown-name-rises, tt)))))
+  names-placed = (at-tokens too-many-rises, (at-tokens introduced-again-rises, (at-tokens not-offered-rises, (at-tokens unknown-name-rises, tt))))
 
-  oids-placed : Placed (length ms) (oid-rules ms)
+  oids-placed : Placed (length ms) (oid-rules (named ms))
   unfolding oid-rules
   oids-placed = (at-tokens unreached-rises, (at-tokens too-long-rises, (at-tokens past-room-rises, (at-tokens held-twice-rises, tt))))
 
-  syntax-placed : Placed (length ms) (syntax-rules ms)
-  unfolding syntax-rules
+  syntax-placed : Placed (length ms) of-syntax
+  unfolding rules-over
   syntax-placed =
-      placed-row (length ms) (each (misplaced-in ms) 0 count) _ (placed-of-each 16 (misplaced-in ms) (misplaced-in-home ms))
-      (placed-row (length ms) (each (outside-in ms) 0 count) _ (placed-of-each 17 (outside-in ms) (outside-in-home ms))
-      (placed-row (length ms) (each (misfit-in ms) 0 count) (indirect-convention ms ∷ []) (placed-of-each 18 (misfit-in ms) (misfit-in-home ms))
-      (at-tokens (indirect-confined ms), tt)))
+      placed-row (length ms) (each (ranges Order) 0 (length shapes)) _ (placed-of-each 16 (ranges Order) (ranges-home Order))
+      (placed-row (length ms) (each (ranges Limits) 0 (length shapes)) _ (placed-of-each 17 (ranges Limits) (ranges-home Limits))
+      (placed-row (length ms) (each items 0 (length shapes)) (indirect-convention (classed ms .classes) (classed ms .values) shapes ∷ []) (placed-of-each 18 items items-home)
+      (at-tokens indirect-rises, tt)))
 
-  tables-placed : Placed (length ms) (table-rules ms)
-  unfolding table-rules
-  tables-placed = (at-tokens table-broken-rises, (at-tokens access-broken-rises, (at-tokens notification-broken-rises, tt)))
+  objects-placed : Placed (length ms) of-objects
+  unfolding object-rules
+  objects-placed = (at-tokens table-broken-rises, (at-tokens access-broken-rises, (at-tokens notification-broken-rises, tt)))
 
   -- each place is that of a token
   pub rules-placed : Placed (length ms) (rules ms)
   unfolding rules later-rules
   rules-placed =
-      placed-row (length ms) (name-rules ms) (oid-rules ms ++ (syntax-rules ms ++ table-rules ms)) names-placed
-      (placed-row (length ms) (oid-rules ms) (syntax-rules ms ++ table-rules ms) oids-placed
-      (placed-row (length ms) (syntax-rules ms) (table-rules ms) syntax-placed tables-placed))
-
--- the classes of tokens that the grammar derives are derived
-derived-classes : (ts : List Tok) → DerivesTokens class-of-token smi-module ts → Derives smi-module (classes-of (meanings ts))
-derived-classes ts derived = (
-  tree-of class-of-token smi-module (derived .0),
-  tree-yield class-of-token smi-module (derived .0)
-      ∙ ap (map class-of-token) (derived .1)
-      ∙ sym (map-map (λ (m : Meaning). m .class) (λ (t : Tok). t .says) ts),
-)
-
--- the same of the tokens of a text
-pub tokens-in-order : (ts : List Tok) → DerivesTokens class-of-token smi-module ts → InOrder (rules (meanings ts))
-tokens-in-order ts derived = rules-in-order (meanings ts) (derived-classes ts derived)
+      placed-row (length ms) (name-rules ms) (oid-rules (named ms) ++ (of-syntax ++ of-objects)) names-placed
+      (placed-row (length ms) (oid-rules (named ms)) (of-syntax ++ of-objects) oids-placed
+      (placed-row (length ms) of-syntax of-objects syntax-placed objects-placed))

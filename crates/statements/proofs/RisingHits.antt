@@ -7,7 +7,7 @@ use native.Mathlib.Decide.{decLt}
 use native.Mathlib.Omega.{arith}
 use lib.ListN.{length, getD}
 use Rattle.index.specs.First.{hits}
-use Rattle.index.specs.Rule.{Rule}
+use Rattle.rule.specs.Rule.{Rule}
 use Rattle.index.proofs.Search.{first-from}
 use Rattle.index.proofs.Hits.{hits-few, hit-inside, next-hit, inside-same}
 use Rattle.statements.specs.Order.{Broken, Rises}

@@ -5,7 +5,7 @@ use mathlib.Core.List.{List, [], _∷_, _++_}
 use mathlib.Core.Logic.{inl, inr}
 use Prim.Native.Nat.{ℕ, zero, suc, _+_, _≤_, _<_}
 use native.Mathlib.Omega.{arith}
-use Rattle.index.specs.Rule.{Rule, each-of}
+use Rattle.rule.specs.Rule.{Rule, each-of}
 use Rattle.statements.specs.Order.{Broken, Before, BeforeAll, InOrder, Placed}
 use Rattle.statements.proofs.RisingHits.{Confined}
 

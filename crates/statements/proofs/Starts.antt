@@ -8,7 +8,7 @@ use Rattle.token.specs.Token.{Tok}
 use Rattle.token.specs.Cut.{cut}
 use Rattle.token.specs.Law.{Rising}
 use Rattle.token.proofs.Laws.{rising}
-use Rattle.record.specs.Record.{start-of}
+use Rattle.reader.specs.Reading.{start-of}
 
 -- no token starts before the place that they rise from
 from-there : (text : List ℕ) (from : ℕ) (ts : List Tok) → Rising text from ts → (j : ℕ) → j < length ts → from ≤ start-of ts j

@@ -3,13 +3,13 @@
 use mathlib.Core.Path.{ap, sym, _∙_}
 use mathlib.Core.List.{List}
 use Prim.Native.Nat.{ℕ}
-use Rattle.token.specs.Cut.{cut, meanings-in}
+use Rattle.token.specs.Cut.{meanings-in}
 use Rattle.row_status.specs.RowStatus.{Outcome}
 use Rattle.reader.specs.Reading.{rules}
 use Rattle.statements.specs.Order.{InOrder}
 use Rattle.statements.specs.Breach.{Derives}
 use Rattle.statements.specs.Statements.{Statements}
-use Rattle.statements.proofs.Rising.{tokens-in-order, rules-placed}
+use Rattle.statements.proofs.Rising.{rules-in-order, rules-placed}
 use Rattle.statements.proofs.Demands.{first-demand, second-demand}
 use Rattle.statements.proofs.Third.{third-demand}
 use Rattle.statements.proofs.Alike.{quotes-alike, read-once}
@@ -17,9 +17,9 @@ use Rattle.statements.proofs.Printing.{prints, printed-alike, octets-bo
 use Rattle.statements.proofs.Rows.{state-kept, same-answer}
 use Rattle.statements.proofs.Examples.{examples}
 
--- the rules of a derived text are in order
+-- the rules of any text are in order, and so those of a derived one
 order : (text : List ℕ) → Derives text → InOrder (rules (meanings-in text))
-order text = tokens-in-order (cut text .tokens)
+order text derives = rules-in-order (meanings-in text)
 
 pub statements : Statements
 statements = record {

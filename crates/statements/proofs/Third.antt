@@ -6,10 +6,10 @@ use mathlib.Core.List.{List}
 use Prim.Native.Nat.{ℕ}
 use native.Mathlib.Omega.{arith}
 use lib.ListN.{length}
-use Rattle.index.specs.Rule.{judge}
-use Rattle.index.specs.declared.Judgement.{Judgement}
-use Rattle.index.specs.declared.Judgement.the-variants.{Kept, Broken}
-use Rattle.index.proofs.Judged.{judged-broken}
+use Rattle.rule.specs.Rule.{judge}
+use Rattle.rule.specs.declared.Judgement.{Judgement}
+use Rattle.rule.specs.declared.Judgement.the-variants.{Kept, Broken}
+use Rattle.rule.proofs.Judged.{judged-broken}
 use Rattle.token.specs.Cut.{cut, meanings-in}
 use Rattle.grammar.specs.Answer.{Verdict, derived}
 use Rattle.grammar.specs.Answer.{refused as refused-at}
@@ -29,8 +29,8 @@ module _ (text : List ℕ) (order : Derives text → InOrder (rules (meanings-in
   -- an answer to the rules is not refusal 7
   not-seven : Derives text → (j : Judgement) → judge (rules (meanings-in text)) ≡ j → number-of (answer-to (judged (cut text .tokens) j)) ≡ 7 → ⊥
   not-seven derives Kept is seven = omega (arith, seven)
-  not-seven derives (Broken number token) is seven =
-      let x = first-found (judged-broken (rules (meanings-in text)) number (token .0) is) in
+  not-seven derives (Broken f) is seven =
+      let x = first-found (judged-broken (rules (meanings-in text)) f is) in
       omega (arith, seven, x .numbered, from-eight (meanings-in text) (order derives) (x .rule) (x .listed))
 
   demand-of : (v : Verdict) → ParsingDemand text (parsing-of (cut text .tokens) (length text) v)

@@ -6,15 +6,14 @@ use mathlib.Core.Logic.{_⊎_}
 use mathlib.Core.List.{List, [], _∷_}
 use Prim.Native.Nat.{ℕ, _≤_, _<_}
 use lib.ListN.{length}
-use Rattle.index.specs.Rule.{Rule}
+use Rattle.rule.specs.Rule.{Rule}
 use Rattle.token.specs.Token.{class-of-token}
 use Rattle.token.specs.Cut.{cut, whole, refused, meanings-in}
 use Rattle.token.specs.Table.{longest-text}
 use Rattle.grammar.specs.Grammar.{smi-module}
 use Rattle.grammar.specs.Derivation.{DerivesTokens}
 use Rattle.syntax.specs.Parsing.{Fault}
-use Rattle.record.specs.Record.{start-of}
-use Rattle.reader.specs.Reading.{rules}
+use Rattle.reader.specs.Reading.{rules, start-of}
 use Rattle.reader.specs.Buffers.{record-words, number-words}
 use Rattle.statements.specs.Order.{Broken}
 
@@ -57,9 +56,8 @@ pub data InBreach (text : List ℕ) (records numbers : ℕ) : ℕ → ℕ → Ty
   not-cut : {number place : ℕ} → cut text .ending ≡ refused number place → InBreach text records numbers number place
   -- 7: the grammar derives no such token sequence; the place is the third demand's
   not-derived : {place : ℕ} → Cuts text → (Derives text → ⊥) → Fault text place → InBreach text records numbers 7 place
-  -- 8 to 22, of a text whose tokens are derived: 8 to 11 stand in crates/name_rule/specs/Refusal.antt, 12 to 15 in
-  -- crates/oid_rule/specs/Rules.antt, 16 to 19 in crates/syntax_rule/specs/Refusal.antt, 20 to 22 in
-  -- crates/table_rule/specs/Refusal.antt
+  -- 8 to 22, of a text whose tokens are derived: 8 to 11 stand in crates/naming/specs, 12 to 14 in crates/oid_tree/specs, 15 in
+  -- crates/oid_holder/specs, 16 to 19 in crates/syntax_check/specs, 20 in crates/table_check/specs, 21 and 22 in crates/access_check/specs
   rule-broken : {number token : ℕ} → Cuts text → Derives text → BrokenIn (rules (meanings-in text)) number token
       → InBreach text records numbers number (start-of (cut text .tokens) token)
 

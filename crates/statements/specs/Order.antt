@@ -5,7 +5,7 @@ use mathlib.Core.Logic.{_⊎_}
 use mathlib.Core.Bool.{true}
 use mathlib.Core.List.{List, [], _∷_}
 use Prim.Native.Nat.{ℕ, _≤_, _<_}
-use Rattle.index.specs.Rule.{Rule}
+use Rattle.rule.specs.Rule.{Rule}
 
 -- the index is tested by the rule, and the rule is broken there
 pub record Broken (r : Rule) (i : ℕ) : Type 0 where

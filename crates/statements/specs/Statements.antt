@@ -14,17 +14,19 @@ use lib.IntN.{ℤ, negsuc}
 use lib.ListN.{length, getD, take, drop}
 use Rattle.terminal.specs.Terminal.{lower}
 use Rattle.lexicon.specs.Word.{bytes}
-use Rattle.token.specs.Token.{Meaning, class-of-token, tok}
+use Rattle.token.specs.Token.{class-of-token, tok}
 use Rattle.token.specs.Cut.{cut, whole, refused, meanings-in}
 use Rattle.token.specs.Law.{QuotedChange}
 use Rattle.grammar.specs.Grammar.{smi-module}
 use Rattle.grammar.specs.Derivation.{Derivation, tokens-of}
 use Rattle.syntax.specs.Parsing.{Fault}
-use Rattle.definition.specs.Landmark.{has-oid}
-use Rattle.name.specs.declared.Lead.the-variants.{Definition}
-use Rattle.oid.specs.Oid.{HasOid, kind-of, oid-of, numbers-before, first-number}
-use Rattle.oid.specs.Oid.{count-of as definitions-in}
-use Rattle.record.specs.Record.{records-before, record-width}
+use Rattle.module_table.specs.Module.{Module, at, oid-of}
+use Rattle.module_table.specs.Module.{count-of as definitions-in}
+use Rattle.module_table.specs.declared.Lead.the-variants.{Definition}
+use Rattle.naming.specs.Values.{named}
+use Rattle.oid_head.specs.Oid.{HasOid, has-value}
+use Rattle.records.specs.Record.{record-width}
+use Rattle.reader.specs.Reading.{module-of, records-of}
 use Rattle.reader.specs.Buffers.{number-of, place-of, count-of, record-words, number-words, zeros, filled, Reads}
 use Rattle.reader.specs.declared.Answer.{Answer}
 use Rattle.reader.specs.declared.Answer.the-variants.{Refused}
@@ -55,12 +57,12 @@ pub record FirstDemand (text : List ℕ) (answer : Answer) (records records′ n
   -- "unused working words are 0": those after the records, and those after the sub-identifiers
   pub unused : number-of answer ≡ 0
       → (drop (count-of answer * record-width) (take record-words records′) ≡ zeros (record-words - count-of answer * record-width))
-      × (drop (first-number (meanings-in text) (count-of answer)) (take number-words numbers′)
-      ≡ zeros (number-words - first-number (meanings-in text) (count-of answer)))
+      × (drop (length (module-of (meanings-in text) .numbers)) (take number-words numbers′)
+      ≡ zeros (number-words - length (module-of (meanings-in text) .numbers)))
 
 -- Definition k has this OID, and no other, by the relation that follows heads however far they lead.
-abbrev pub OidIs : List Meaning → ℕ → List ℕ → Type 0
-OidIs ms k oid = HasOid ms (Definition (record { 0 = k })) oid × ((other : List ℕ) → HasOid ms (Definition (record { 0 = k })) other → other ≡ oid)
+abbrev pub OidIs : Module → ℕ → List ℕ → Type 0
+OidIs m k oid = HasOid m (Definition (record { 0 = k })) oid × ((other : List ℕ) → HasOid m (Definition (record { 0 = k })) other → other ≡ oid)
 
 -- The second demand: the first broken rule, or the records and sub-identifiers of all definitions.
 pub record SecondDemand (text : List ℕ) (answer : Answer) (records records′ numbers numbers′ : List ℕ) : Type 0 where
@@ -71,17 +73,18 @@ pub record SecondDemand (text : List ℕ) (answer : Answer) (records records′ 
   -- accepted, number 0, exactly when no rule is broken anywhere
   pub accepted-exactly : (number-of answer ≡ 0) ↔ ((number place : ℕ) → InBreach text (length records) (length numbers) number place → ⊥)
   -- "Accepted answers number 0, place 0 and the definition count; a refusal's count is 0"
-  pub counted : number-of answer ≡ 0 → (place-of answer ≡ 0) × (count-of answer ≡ definitions-in (meanings-in text))
+  pub counted : number-of answer ≡ 0 → (place-of answer ≡ 0) × (count-of answer ≡ definitions-in (module-of (meanings-in text)))
   pub not-counted : 0 < number-of answer → count-of answer ≡ 0
   -- "Ten words each, in text order", and then zeros; the words beyond as they were
   pub recorded : number-of answer ≡ 0
-      → records′ ≡ filled record-words (records-before (cut text .tokens) (definitions-in (meanings-in text))) records
+      → records′ ≡ filled record-words (records-of (cut text .tokens) (module-of (meanings-in text))) records
   -- "Each definition's sub-identifiers fill the next free words, without gaps", and then zeros; the words beyond as they were
   pub numbered : number-of answer ≡ 0
-      → numbers′ ≡ filled number-words (numbers-before (meanings-in text) (definitions-in (meanings-in text))) numbers
-  -- "An OID is the head's OID followed by the parts' numbers": these are the sub-identifiers of each definition of a kind that has any
-  pub resolved : number-of answer ≡ 0 → (k : ℕ) → k < definitions-in (meanings-in text) → has-oid (kind-of (meanings-in text) k) ≡ true
-      → OidIs (meanings-in text) k (oid-of (meanings-in text) k)
+      → numbers′ ≡ filled number-words (module-of (meanings-in text) .numbers) numbers
+  -- "An OID is the head's OID followed by the parts' numbers": these are the sub-identifiers of each definition of a kind that has any,
+  -- cut out of all of them by where they start and how many they are
+  pub resolved : number-of answer ≡ 0 → (k : ℕ) → k < definitions-in (module-of (meanings-in text)) → has-value (at (named (meanings-in text)) k) ≡ true
+      → OidIs (named (meanings-in text)) k (oid-of (module-of (meanings-in text)) k)
 
 -- The third demand, of a text within the limits that cuts into tokens: refusal 7 exactly when the grammar derives no such token
 -- sequence; its place is the start of the first token after which no derived sequence, however long, can begin so, or the text's

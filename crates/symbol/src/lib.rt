@@ -9,6 +9,7 @@ ghost use Rattle.token.specs.Table.{TokenTable};
 ghost use Rattle.symbol.specs.Symbol.{symbol-count, symbol-names, symbol-of, module-name, what-is, numbers-of, sort-of, type-class, class-of-sort, is-smi-type, iso-name, start-in, part, Joined};
 
 pub mod class;
+pub mod part;
 mod table;
 
 use crate::table::ISO;

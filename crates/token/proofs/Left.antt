@@ -1,15 +1,20 @@
 -- The cut of what is left of a text at a place, piece by piece.
 -- Assumes nothing.
 use mathlib.Core.Path.{_≡_, refl, sym, ap, _∙_}
+use mathlib.Core.Bool.{Bool, true, false, cond}
 use mathlib.Core.List.{List, [], _∷_}
 use Prim.Native.Nat.{ℕ, zero, suc, pred, _+_, _≤_, _<_}
 use native.Mathlib.Nat.{add-zero}
+use native.Mathlib.Numerals.{add-one}
 use native.Mathlib.Omega.{arith}
 use lib.ListN.{length, getD, drop, drop-of-length-le}
 use lib.Seq.{drop-cons, drop-nil, drop-drop}
-use Rattle.piece.specs.Piece.{Piece, gap, token, refusal, piece, size}
+use Rattle.piece.specs.Piece.{Piece, gap, token, refusal, span, piece, size}
 use Rattle.token.specs.Cut.{Ending, whole, Cut, starting-with, cut-from, cut}
-use Rattle.piece.proofs.Pieces.{Fit, piece-fits}
+use Rattle.lexicon.specs.Byte.{blank-byte}
+use Rattle.lexicon.proofs.Places.{first-byte}
+use Rattle.piece.proofs.Span.{span-more}
+use Rattle.piece.proofs.Pieces.{Fit, piece-fits, blank-piece}
 
 -- the cut of what is left of t at the place `at`
 abbrev pub left : List ℕ → ℕ → Cut
@@ -57,6 +62,27 @@ after t at m h =
 
 pub step-gap : (t : List ℕ) (at m : ℕ) → at < length t → piece (drop at t) ≡ gap m → 1 ≤ m → left t at ≡ left t (at + m)
 step-gap t at m h e p = step t at (gap m) h e ∙ after t at m p
+
+-- blanks at the start are passed at once or one by one
+blanks-passed : (s : List ℕ) (at : ℕ) → cut-from at (span blank-byte s) s ≡ cut-from at 0 s
+unfolding cut-from span
+blanks-passed [] at = refl
+blanks-passed (b ∷ bs) at = go (blank-byte b 0) refl
+  where
+    go : (r : Bool) → blank-byte b 0 ≡ r → cut-from at (cond r (suc (span blank-byte bs)) 0) (b ∷ bs) ≡ cut-from at 0 (b ∷ bs)
+    go true e =
+        let all : piece (b ∷ bs) ≡ gap (suc (span blank-byte bs)) =
+        blank-piece (b ∷ bs) e ∙ ap (λ (r : Bool). gap (cond r (suc (span blank-byte bs)) 0)) e in
+        sym (ap (λ (x : Piece). starting-with at (b ∷ bs) x (cut-from (suc at) (pred (size x)) bs)) all)
+    go false e = refl
+
+-- a blank at a place leaves what is left after it
+pub step-blank : (t : List ℕ) (at : ℕ) → at < length t → blank-byte (getD t at 0) 0 ≡ true → left t at ≡ left t (at + 1)
+step-blank t at h e =
+    let first = first-byte t at in
+    let all : piece (drop at t) ≡ gap (suc (span blank-byte (drop (suc at) t))) =
+    blank-piece (drop at t) (rw first e) ∙ ap gap (span-more blank-byte t at h e) in
+    rw (add-one at) (step t at _ h all ∙ blanks-passed (drop (suc at) t) (suc at))
 
 pub step-token : (t : List ℕ) (at c m : ℕ) → at < length t → piece (drop at t) ≡ token c m → 1 ≤ m
     → left t at ≡ from-piece t at (token c m)

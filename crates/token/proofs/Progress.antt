@@ -1,13 +1,15 @@
 -- How the loop of the cut goes on: what it stored, then what is left, is what the cut stores in all.
 -- Assumes nothing.
 use mathlib.Core.Path.{_≡_, refl, sym, ap, _∙_}
+use mathlib.Core.Bool.{true}
 use mathlib.Core.List.{List, _++_, map}
 use Prim.Native.Nat.{ℕ, _+_, _≤_, _<_}
 use native.Mathlib.Nat.{zero-add}
 use native.Mathlib.Numerals.{add-one}
 use native.Mathlib.Omega.{arith}
-use lib.ListN.{length, drop, set, length-set, length-map, length-drop}
+use lib.ListN.{length, getD, drop, set, length-set, length-map, length-drop}
 use lib.Seq.{sets, sets-eq}
+use Rattle.lexicon.specs.Byte.{blank-byte}
 use Rattle.token.specs.Token.{Tok, tok, meaning, class-of-token}
 use Rattle.piece.specs.Piece.{Piece, gap, token, refusal, piece}
 use Rattle.token.specs.Cut.{Ending, refused, Cut, cut}
@@ -17,7 +19,7 @@ use Rattle.token.specs.declared.Answer.{Answer}
 use Rattle.index.specs.declared.Place.{Place}
 use Rattle.piece.specs.declared.Found.{Found}
 use Rattle.piece.proofs.Pieces.{Fit}
-use Rattle.token.proofs.Left.{left, ended, step-gap, step-token, step-refusal, fit-at}
+use Rattle.token.proofs.Left.{left, ended, step-blank, step-gap, step-token, step-refusal, fit-at}
 
 -- an array that holds n entries, when `rest` has been stored after them
 abbrev stored : (Tok → ℕ) → List ℕ → ℕ → Cut → List ℕ
@@ -61,12 +63,13 @@ module _
     (t classes₀ starts₀ ends₀ classes starts ends : List ℕ) (at n : ℕ)
     (p : Progress t classes₀ starts₀ ends₀ classes starts ends at n)
   where
-    pub progress-gap : (m : ℕ) → at < length t → piece (drop at t) ≡ gap m → (1 ≤ m) × (m ≤ length (drop at t))
-        → Progress t classes₀ starts₀ ends₀ classes starts ends (at + m) n
-    progress-gap m h e f =
-        let q : left t (at + m) ≡ left t at = sym (step-gap t at m h e (f .0)) in
+    -- what leaves the same, and stores nothing, is passed
+    progress-past : (next : ℕ) → at < next → next ≤ length t → left t at ≡ left t next
+        → Progress t classes₀ starts₀ ends₀ classes starts ends next n
+    progress-past next h inside e =
+        let q : left t next ≡ left t at = sym e in
         record {
-          inside = omega (arith, p .inside, length-drop at t, f .1);
+          inside = inside;
           few = omega (arith, p .few);
           count = rw q (p .count);
           ending = rw q (p .ending);
@@ -77,6 +80,15 @@ module _
           starts-length = p .starts-length;
           ends-length = p .ends-length;
         }
+
+    pub progress-blank : at < length t → blank-byte (getD t at 0) 0 ≡ true
+        → Progress t classes₀ starts₀ ends₀ classes starts ends (at + 1) n
+    progress-blank h e = progress-past (at + 1) (omega arith) (omega arith) (step-blank t at h e)
+
+    pub progress-gap : (m : ℕ) → at < length t → piece (drop at t) ≡ gap m → (1 ≤ m) × (m ≤ length (drop at t))
+        → Progress t classes₀ starts₀ ends₀ classes starts ends (at + m) n
+    progress-gap m h e f =
+        progress-past (at + m) (omega (arith, f .0)) (omega (arith, length-drop at t, f .1)) (step-gap t at m h e (f .0))
 
     pub progress-token : (c m : ℕ) → at < length t → piece (drop at t) ≡ token c m → (1 ≤ m) × (m ≤ length (drop at t))
         → Progress t classes₀ starts₀ ends₀ (set classes n c) (set starts n at) (set ends n (at + m)) (at + m) (n + 1)

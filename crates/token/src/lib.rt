@@ -6,6 +6,8 @@ pub mod entry;
 
 use index::Place;
 use lexicon::byte::class_table;
+use lexicon::byte::is_blank;
+use lexicon::word::lookup_table;
 use piece::Found;
 use piece::GAP;
 use piece::piece_at;
@@ -38,20 +40,26 @@ pub fn cut(
     ensures { λ r. ⌜ Held (now (text .entry)) r (now (classes .entry)) (now (starts .entry)) (now (ends .entry)) (now (classes .exit)) (now (starts .exit)) (now (ends .exit)) ⌝ }
 {
     let table = class_table();
+    let lookup = lookup_table();
     let mut at = 0;
     let mut n = 0;
     while at < text.len() {
-        let found = piece_at(&table, text, at);
-        let Found::Piece(class, end) = found else {
-            return refusal(found);
-        };
-        if class != GAP {
-            classes[n] = class;
-            starts[n] = at as u32;
-            ends[n] = end as u32;
-            n += 1;
+        // Blanks are passed one by one: most stand alone, and to take them as a piece costs more.
+        if is_blank(&table, text[at]) {
+            at += 1;
+        } else {
+            let found = piece_at(&table, &lookup, text, at);
+            let Found::Piece(class, end) = found else {
+                return refusal(found);
+            };
+            if class != GAP {
+                classes[n] = class;
+                starts[n] = at as u32;
+                ends[n] = end as u32;
+                n += 1;
+            }
+            at = end;
         }
-        at = end;
     }
     Answer::Tokens(n)
 }

@@ -5,8 +5,8 @@
 //! says what each number means and what is left in each buffer. Nothing is asked of an argument: what cannot be answered
 //! is refused.
 //!
-//! [`read`] takes up to a megabyte of stack. The main thread has 8 MiB on most systems, and a thread that Rust spawns has
-//! 2 MiB; a thread that asks for another size asks for a megabyte more than it needs itself.
+//! [`read`] takes up to a megabyte and a half of stack. The main thread has 8 MiB on most systems, and a thread that Rust
+//! spawns has 2 MiB; a thread that asks for another size asks for two megabytes more than it needs itself.
 
 /// [`read`] works on so many words of the record buffer; words beyond them never change.
 pub const RECORD_WORDS: usize = 5120;

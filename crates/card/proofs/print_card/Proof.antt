@@ -1,6 +1,6 @@
--- `print_card` is safe: an accepted text is within the limit, and so are its definitions.
+-- `print_card` is safe: the definitions of an accepted text are within the limit.
 -- Assumes nothing.
-use Rattle.card.proofs.Accepted.{accepted-within, accepted-few}
+use Rattle.card.proofs.Accepted.{accepted-few}
 use lib.ListN.{length-replicate}
 use Prim.Native.Nat.{ℕ}
 use native.Mathlib.Omega.{arith}
@@ -58,15 +58,12 @@ write-records-requires c κs =
     let room = length-replicate {A = ℕ} 8192 0 in
     let is = c .before .before .before .before .before .answer .given .1 in
     let head = c .before .before .before .before .before .before .before .before .before .write-head in
-    let within = accepted-within _ _ _ _ _ _ _ (r .ensures) (omega (arith, size)) (omega (arith, room)) is in
+    let room-made = c .before .before .before .before .before .before .before .before .before .before .before in
     let few = accepted-few _ _ _ _ _ _ _ (r .ensures) (omega (arith, size)) (omega (arith, room)) is in (
-      within,
+      omega (arith, few, size, r .kept .1 .0),
       (
-        omega (arith, few, size, r .kept .1 .0),
-        (
-          omega (arith, room, r .kept .1 .1 .0),
-          (omega (arith, d .pre .0, head .kept .1 .0), omega (arith, c .laid-to2 .ensures, head .ensures .1, c .before .before .before .before .before .before .before .before .before .before .before .make-room .ensures)),
-        ),
+        omega (arith, d .pre .0, head .kept .1 .0),
+        omega (arith, c .laid-to2 .ensures, head .ensures .1, room-made .make-room .ensures),
       ),
     )
 

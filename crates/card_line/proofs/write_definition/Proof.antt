@@ -4,19 +4,24 @@ use native.Mathlib.Omega.{arith}
 use borrow.Author.Needs.{needs}
 use mathlib.Core.Path.{ap}
 use Prim.Native.Nat.{ℕ, _≤_}
-use lib.ListN.{length, getD}
+use lib.ListN.{length, getD, drop}
+use Rattle.lexicon.specs.Word.{longest-name}
 use Rattle.buffer.proofs.Writing.{wrote-as}
 use Rattle.card_line.proofs.Sizes.{part-size, wrote-then}
-use Rattle.card_line.specs.Line.{tab, field, name, sub-identifiers, name-field, oid-field, definition-fields}
+use Rattle.card_line.specs.Line.{longest-oid, tab, field, name, sub-identifiers, name-field, oid-field, definition-fields}
 use Rattle.card_line.proofs.write_definition.Statement.{statement}
 use Rattle.card_line.proofs.write_definition.Tie as tie
 
--- a name is no longer than the text, and an OID than the number buffer
-name-size : (d : tie.Start) → length (name (d .args .text .now) (d .args .words .now)) ≤ length (d .args .text .now)
-name-size d = part-size (getD (d .args .words .now) 2 0) (getD (d .args .words .now) 1 0) (d .args .text .now)
+-- a name and an OID are no longer than they may be
+name-size : (d : tie.Start) → length (name (d .args .text .now) (d .args .words .now)) ≤ longest-name
+name-size d =
+    let words = d .args .words .now in
+    part-size (getD words 2 0) longest-name (drop (getD words 1 0) (d .args .text .now))
 
-oid-size : (d : tie.Start) → length (sub-identifiers (d .args .numbers .now) (d .args .words .now)) ≤ length (d .args .numbers .now)
-oid-size d = part-size (getD (d .args .words .now) 4 0) (getD (d .args .words .now) 3 0) (d .args .numbers .now)
+oid-size : (d : tie.Start) → length (sub-identifiers (d .args .numbers .now) (d .args .words .now)) ≤ longest-oid
+oid-size d =
+    let words = d .args .words .now in
+    part-size (getD words 4 0) longest-oid (drop (getD words 3 0) (d .args .numbers .now))
 
 word-requires : tie.Need-word-requires
 word-requires c κs = search needs

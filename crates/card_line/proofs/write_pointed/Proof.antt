@@ -9,13 +9,13 @@ use lib.Seq.{take-all}
 use Rattle.buffer.specs.Buffer.{Wrote}
 use Rattle.buffer.proofs.Writing.{wrote-as, wrote-none}
 use Rattle.card_line.proofs.Sizes.{pointed-next, pointed-none, wrote-then}
-use Rattle.card_line.specs.Line.{pointed, longest-pointed}
+use Rattle.card_line.specs.Line.{pointed, pointed-room}
 use Rattle.card_line.proofs.write_pointed.Statement.{statement}
 use Rattle.card_line.proofs.write_pointed.Tie as tie
 
 abbrev Inv-loop : tie.InvT-loop
 Inv-loop numbers out₀ at next₀ i₀ out next i =
-    Wrote (pointed (take i numbers)) at next out₀ out × (i ≤ length numbers) × (next ≤ at + longest-pointed i) × (length out ≡ length out₀)
+    Wrote (pointed (take i numbers)) at next out₀ out × (i ≤ length numbers) × (next ≤ at + pointed-room i) × (length out ≡ length out₀)
 
 abbrev μ-loop : tie.MeasureT-loop
 μ-loop numbers out₀ at next₀ i₀ out next i = length numbers - i

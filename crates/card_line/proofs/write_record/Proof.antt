@@ -22,7 +22,7 @@ returns c =
     let d = c .before .before .before .before .before .before .before .before .before .before .before .before in
     let p = c .before .before .before .before .before .before .write-definition .ensures in
     let q = c .before .before .write-attributes .ensures in
-    (wrote-then (p .0) (omega (arith, d .pre .1 .1, p .1)) (q .0), omega (arith, p .1, q .1))
+    (wrote-then (p .0) (omega (arith, d .pre, p .1)) (q .0), omega (arith, p .1, q .1))
 
 pub write-record-spec : {M : Type 1} → statement M
 write-record-spec =

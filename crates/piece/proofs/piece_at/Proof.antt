@@ -2,18 +2,15 @@
 -- Assumes nothing.
 use mathlib.Core.Path.{_≡_, refl, ap}
 use mathlib.Core.Logic.{⊎-elim}
-use mathlib.Core.Bool.{true}
 use mathlib.Core.List.{List}
 use Prim.Native.Nat.{ℕ, _+_}
-use native.Mathlib.Omega.{arith}
 use borrow.Author.Tests.{le-leb, lt-leb, ne-eqb}
 use lib.ListN.{getD, drop}
 use Rattle.piece.specs.Piece.{piece}
-use Rattle.lexicon.specs.Byte.{class-of, name-byte}
+use Rattle.lexicon.specs.Byte.{class-of}
 use Rattle.piece.specs.declared.Found.{Found}
 use Rattle.piece.specs.Found.{gap-class}
 use Rattle.lexicon.proofs.Places.{first-class, rest-at}
-use Rattle.piece.proofs.Span.{span-more}
 use borrow.Author.Needs.{needs}
 use Rattle.piece.proofs.piece_at.Statement.{statement}
 use Rattle.piece.proofs.piece_at.Tie as tie
@@ -55,10 +52,8 @@ name-at-requires : tie.Need-name-at-requires
 name-at-requires c κs =
     let letter = c .before in
     let s = start-of (letter .before) in
-    let t = s .args .text .now in
-    let in-name : name-byte (getD t (s .args .at) 0) (getD t (s .args .at + 1) 0) ≡ true =
-    rw (← letter .before .class-of .ensures) (simp (le-leb _ _ (letter .if1 .taken))) in
-    (s .pre .0, (omega (arith, span-more name-byte t (s .args .at) (s .pre .0) in-name), s .pre .1))
+    let class = letter .before .class-of .ensures in
+    (s .pre .0, (rw (← class) (le-leb _ _ (letter .if1 .taken)), s .pre .1))
 
 returns-2 : tie.Need-returns-2
 unfolding piece

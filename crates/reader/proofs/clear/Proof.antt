@@ -4,7 +4,7 @@ use mathlib.Core.Path.{_≡_}
 use Prim.Native.Nat.{_-_, _≤_, _<_}
 use native.Mathlib.Omega.{arith}
 use lib.ListN.{length, length-replicate}
-use Rattle.number_buffer.proofs.Writing.{Writing, writing-start, writing-length, writing-more, writing-end}
+use Rattle.overlay.proofs.Writing.{Writing, writing-start, writing-length, writing-more, writing-end}
 use Rattle.reader.specs.Buffers.{zeros}
 use Rattle.reader.proofs.Clearing.{zero-at, all-cleared}
 use Rattle.reader.proofs.clear.Statement.{statement}

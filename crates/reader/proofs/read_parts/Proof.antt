@@ -1,8 +1,7 @@
--- `read_parts` is right: the parts are cleared before, and after a refusal again.
+-- `read_parts` is right: the parts are cleared before, and the number buffer after a refusal again.
 -- Assumes nothing.
-use mathlib.Core.Path.{_≡_, ap, _∙_}
-use lib.ListN.{length}
-use Rattle.reader.specs.Buffers.{record-words, number-words, zeros}
+use mathlib.Core.Path.{ap, _∙_}
+use Rattle.reader.specs.Buffers.{zeros}
 use Rattle.reader.proofs.Parts.{parts-accepted, parts-refused}
 use borrow.Author.Needs.{needs}
 use Rattle.reader.proofs.read_parts.Statement.{statement}
@@ -17,64 +16,44 @@ cleared r = r .before .before .before .before .before .before .before .before .b
 abbrev cleared-numbers : tie.After-read-into → tie.After-clear2
 cleared-numbers r = r .before .before .before .before .before
 
--- the parts are as long as they were
-still-long : (r : tie.After-read-into) → (length (r .read-into .last .1 .0) ≡ record-words) × (length (r .read-into .last .1 .1 .0) ≡ number-words)
-still-long r =
-    let s = start r in
-    (r .read-into .kept .1 .0 ∙ cleared r .clear .kept .0 ∙ s .pre .1 .0, r .read-into .kept .1 .1 .0 ∙ cleared-numbers r .clear2 .kept .0 ∙ s .pre .1 .1)
-
--- src/lib.rt:78:5
 clear-requires : tie.Need-clear-requires
 clear-requires c κs = search needs
 
--- src/lib.rt:79:5
 clear-requires-2 : tie.Need-clear-requires-2
 clear-requires-2 c κs = search needs
 
--- src/lib.rt:80:9
 read-into-requires : tie.Need-read-into-requires
 read-into-requires c κs = search needs
 
 enum-told : tie.Need-enum-told
 enum-told c = search needs
 
--- src/lib.rt:82:15
 enum-told-2 : tie.Need-enum-told-2
 enum-told-2 c = search needs
 
--- src/lib.rt:82:9
 clear-requires-3 : tie.Need-clear-requires-3
 clear-requires-3 c κs = search needs
 
--- src/lib.rt:83:9
-clear-requires-4 : tie.Need-clear-requires-4
-clear-requires-4 c κs = search needs
-
--- src/lib.rt:84:9
 same-length : tie.Need-same-length
 same-length c = search needs
 
--- src/lib.rt:84:9
 same-length-2 : tie.Need-same-length-2
 same-length-2 c = search needs
 
--- src/lib.rt:84:9
 returns : tie.Need-returns
 returns c =
-    let r = c .before .before .before .before .before .before .before .before .before .before .before .before .before .before in
-    let long = still-long r in
-    parts-refused _ (r .read-into .result) _ _ _ _ (r .read-into .ensures) _ _ _ _ (c .before .before .before .before .before .before .before .before .enum-told2 .given .1)
-    (c .before .before .before .before .before .before .clear3 .ensures ∙ ap zeros (long .0)) (c .before .before .clear4 .ensures ∙ ap zeros (long .1))
+    let r = c .before .before .before .before .before .before .before .before .before .before in
+    let s = start r in
+    parts-refused _ (r .read-into .result) _ _ _ _ (r .read-into .ensures) _ _ (c .before .before .before .before .enum-told2 .given .1)
+    (cleared r .clear .ensures ∙ ap zeros (s .pre .1 .0))
+    (c .before .before .clear3 .ensures ∙ ap zeros (r .read-into .kept .1 .1 .0 ∙ cleared-numbers r .clear2 .kept .0 ∙ s .pre .1 .1))
 
--- src/lib.rt:72:1
 same-length-3 : tie.Need-same-length-3
 same-length-3 c = search needs
 
--- src/lib.rt:72:1
 same-length-4 : tie.Need-same-length-4
 same-length-4 c = search needs
 
--- src/lib.rt:72:1
 returns-2 : tie.Need-returns-2
 returns-2 c =
     let r = c .before .before .before .before .before .before in
@@ -93,7 +72,6 @@ read-parts-spec =
     enum-told
     enum-told-2
     clear-requires-3
-    clear-requires-4
     same-length
     same-length-2
     returns

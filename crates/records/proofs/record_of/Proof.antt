@@ -1,6 +1,5 @@
 -- `record_of` is right: each word is its field.
 -- Assumes nothing.
-use native.Mathlib.Omega.{arith}
 use Rattle.records.specs.Record.{record-of}
 use borrow.Author.Needs.{needs}
 use Rattle.records.proofs.record_of.Statement.{statement}
@@ -15,8 +14,8 @@ syntax-tokens-requires c κs = search needs
 bytes-of-requires : tie.Need-bytes-of-requires
 bytes-of-requires c κs = search needs
 
-cast-t8 : tie.Need-cast-t8
-cast-t8 c = search needs
+word-requires : tie.Need-word-requires
+word-requires c κs = search needs
 
 place-at-requires-2 : tie.Need-place-at-requires-2
 place-at-requires-2 c κs = search needs
@@ -24,20 +23,20 @@ place-at-requires-2 c κs = search needs
 distance-requires : tie.Need-distance-requires
 distance-requires c κs = search needs
 
-cast-t11 : tie.Need-cast-t11
-cast-t11 c = search needs
+word-requires-2 : tie.Need-word-requires-2
+word-requires-2 c κs = search needs
 
-cast-t12 : tie.Need-cast-t12
-cast-t12 c = search needs
+word-requires-3 : tie.Need-word-requires-3
+word-requires-3 c κs = search needs
 
-cast-t13 : tie.Need-cast-t13
-cast-t13 c = omega (arith, c .before .before .before .before .before .before .before .before .before .before .before .pre .access)
+word-requires-4 : tie.Need-word-requires-4
+word-requires-4 c κs = search needs
 
-cast-t14 : tie.Need-cast-t14
-cast-t14 c = omega (arith, c .before .before .before .before .before .before .before .before .before .before .before .before .pre .status)
+word-requires-5 : tie.Need-word-requires-5
+word-requires-5 c κs = search needs
 
-cast-t15 : tie.Need-cast-t15
-cast-t15 c = omega (arith, c .before .before .before .before .before .before .before .before .before .before .before .before .before .pre .class)
+word-requires-6 : tie.Need-word-requires-6
+word-requires-6 c κs = search needs
 
 returns : tie.Need-returns
 unfolding record-of
@@ -50,12 +49,12 @@ record-of-spec =
     place-at-requires
     syntax-tokens-requires
     bytes-of-requires
-    cast-t8
+    word-requires
     place-at-requires-2
     distance-requires
-    cast-t11
-    cast-t12
-    cast-t13
-    cast-t14
-    cast-t15
+    word-requires-2
+    word-requires-3
+    word-requires-4
+    word-requires-5
+    word-requires-6
     returns)

@@ -41,7 +41,7 @@ room : (t : tie.In-loop Inv-loop μ-loop) → length (before t ++ own t) ≤ len
 room t =
     let s = start t in
     let k = t .before .loop .k in
-    omega (arith, length-append (before t) (own t), before-long (s .args .starts .now) (s .args .ends .now) (defined t) k, record-long (s .args .starts .now) (s .args .ends .now) (entry (defined t) k), t .loop-test .taken, t .before .before .count .ensures, s .pre .1)
+    omega (arith, length-append (before t) (own t), before-long (s .args .starts .now) (s .args .ends .now) (defined t) k, record-long (s .args .starts .now) (s .args .ends .now) (entry (defined t) k), t .loop-test .taken, t .before .before .count .ensures, s .pre)
 
 inside : (t : tie.In-loop Inv-loop μ-loop) → t .before .loop .at ≤ length (t .before .loop .records)
 inside t = first-inside (before t) (own t) _ _ _ (room t) (t .before .loop .inv .1)
@@ -78,7 +78,7 @@ definition-at-requires : tie.Need-definition-at-requires Inv-loop μ-loop
 definition-at-requires c κs = tt
 
 record-of-requires : tie.Need-record-of-requires Inv-loop μ-loop
-record-of-requires c κs = rw (c .definition-at .ensures) (start (c .before) .pre .0 (c .before .before .loop .k))
+record-of-requires c κs = tt
 
 mul-rest : tie.Need-mul-rest Inv-loop μ-loop
 mul-rest c = omega (arith, at-most (c .before .before), start (c .before .before) .good .1 .1 .1 .0)
@@ -124,7 +124,7 @@ same-length c =
     let ds = definitions-in (s .args .definitions .now) in
     ap length (l .loop .inv .1 .held)
     ∙ overlaid-length (records-before (s .args .starts .now) (s .args .ends .now) ds (l .loop .k)) (s .args .records .now)
-    (omega (arith, before-long (s .args .starts .now) (s .args .ends .now) ds (l .loop .k), l .loop .inv .0, l .before .count .ensures, s .pre .1))
+    (omega (arith, before-long (s .args .starts .now) (s .args .ends .now) ds (l .loop .k), l .loop .inv .0, l .before .count .ensures, s .pre))
 
 returns : tie.Need-returns Inv-loop μ-loop
 returns c =

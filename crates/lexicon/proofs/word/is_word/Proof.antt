@@ -1,50 +1,65 @@
--- `is_word` is right because the word stands among the joined spellings where it starts, up to where the next one does.
+-- `is_word` is right because the row of the word has its length and its spelling.
 -- Assumes nothing.
-use mathlib.Core.Path.{refl}
-use Rattle.lexicon.specs.Word.{words, word-table, word, bytes, joined}
-use Rattle.lexicon.proofs.Words.{start-table, starts-there, word-within, word-compared}
 use borrow.Author.Needs.{needs}
+use mathlib.Core.List.{List}
+use Prim.Native.Nat.{ℕ, _+_}
+use native.Mathlib.Omega.{arith}
+use Rattle.lexicon.specs.Word.{Within, row-start}
+use Rattle.lexicon.proofs.Words.{row-within, row-compared}
 use Rattle.lexicon.proofs.word.is_word.Statement.{statement}
 use Rattle.lexicon.proofs.word.is_word.Tie as tie
 
-spelling-start-requires : tie.Need-spelling-start-requires
-unfolding starts-there words word-table word bytes joined
-spelling-start-requires c κs = (search needs, start-table _ refl tt)
+abbrev start-of : tie.After-wide → tie.Start
+start-of c = c .before .before .before
 
-add-spelling-start : tie.Need-add-spelling-start
-add-spelling-start c = search needs
+abbrev table-of : tie.After-wide → List ℕ
+table-of c = start-of c .args .lookup .now
 
-spelling-start-requires-2 : tie.Need-spelling-start-requires-2
-unfolding starts-there words word-table word bytes joined
-spelling-start-requires-2 c κs = (search needs, start-table _ refl tt)
+abbrev from-of : tie.After-wide → ℕ
+from-of c = row-start (start-of c .args .k) + 1
 
-slice-aggregate-same-spelling : tie.Need-slice-aggregate-same-spelling
-slice-aggregate-same-spelling c = search needs
+mul-row : tie.Need-mul-row
+mul-row c = search needs
+
+add-row : tie.Need-add-row
+add-row c = search needs
+
+add-from : tie.Need-add-from
+add-from c = search needs
+
+element-copy-out-wide : tie.Need-element-copy-out-wide
+element-copy-out-wide c = search needs
+
+wide-requires : tie.Need-wide-requires
+wide-requires c κs = search needs
+
+-- the spelling stands behind the length that was read
+within : (c : tie.After-wide) → Within (table-of c) (from-of c) (from-of c + c .wide .result)
+within c =
+    let s = start-of c in
+    row-within (table-of c) (s .pre .1 .1) (s .args .k) _ (s .pre .1 .0) (c .wide .ensures)
+
+add-to : tie.Need-add-to
+add-to c = omega (arith, within c .inside, start-of c .pre .1 .1 .long)
 
 same-spelling-requires : tie.Need-same-spelling-requires
-unfolding words word-table word bytes joined
-same-spelling-requires c κs =
-    let to = c .before in
-    let from = to .before .before in
-    let s = from .before .before .before in
-    (s .pre .0, word-within words _ refl (s .args .k) _ _ (s .pre .1) (from .spelling-start .ensures) (to .spelling-start2 .ensures))
+same-spelling-requires c κs = (start-of (c .before) .pre .0, within (c .before))
 
 returns : tie.Need-returns
-unfolding words word-table word bytes joined
 returns c =
-    let to = c .before .before in
-    let from = to .before .before in
-    let s = from .before .before .before in
-    word-compared words _ refl (s .args .k) _ _ (s .pre .1) (from .spelling-start .ensures) (to .spelling-start2 .ensures)
-    _ (c .same-spelling .ensures)
+    let w = c .before .before in
+    let s = start-of w in
+    row-compared (table-of w) (s .pre .1 .1) (s .args .k) _ (s .pre .1 .0) (w .wide .ensures) _ (c .same-spelling .ensures)
 
 pub is-word-spec : {M : Type 1} → statement M
 is-word-spec =
     tie.close
     (tie.spec
-    spelling-start-requires
-    add-spelling-start
-    spelling-start-requires-2
-    slice-aggregate-same-spelling
+    mul-row
+    add-row
+    add-from
+    element-copy-out-wide
+    wide-requires
+    add-to
     same-spelling-requires
     returns)

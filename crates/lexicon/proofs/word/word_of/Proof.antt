@@ -1,13 +1,13 @@
 -- `word_of` is right because the slot that the code reads is the name's, by the law of the look-up.
 -- Assumes nothing.
-use mathlib.Core.Path.{_≡_, refl, sym, _∙_}
+use mathlib.Core.Path.{_≡_, sym, _∙_}
 use mathlib.Core.List.{List}
 use Prim.Native.Nat.{ℕ, _-_, _<_}
 use lib.ListN.{getD}
 use native.Mathlib.Omega.{arith}
 use Rattle.terminal.specs.Terminal.{first-word}
-use Rattle.lexicon.specs.Word.{words, word-table, word, bytes, between, SlotWord, slot-of}
-use Rattle.lexicon.proofs.Words.{some-class, own-slot, slot-table, found, not-found, slot-part}
+use Rattle.lexicon.specs.Word.{between, SlotWord, slot-of}
+use Rattle.lexicon.proofs.Words.{found, not-found, slot-part}
 use borrow.Author.Needs.{needs}
 use Rattle.lexicon.proofs.word.word_of.Statement.{statement}
 use Rattle.lexicon.proofs.word.word_of.Tie as tie
@@ -16,8 +16,8 @@ use Rattle.lexicon.proofs.word.word_of.Tie as tie
 abbrev Read : Type 0
 Read = tie.After-slot-class
 
-abbrev start-of : tie.After-slot-class-arg → tie.Start
-start-of c = c .before .before .before .before
+abbrev start-of : tie.After-shared-slice-known3 → tie.Start
+start-of c = c .before .before .before
 
 abbrev name-of : Read → List ℕ
 name-of c = let a = start-of (c .before) .args in between (a .text .now) (a .start) (a .end)
@@ -25,18 +25,18 @@ name-of c = let a = start-of (c .before) .args in between (a .text .now) (a .sta
 held : (c : Read) → SlotWord (slot-of (name-of c)) (c .slot-class .result)
 held c =
     let s = start-of (c .before) in
-    rw (slot-part (s .args .text .now) (s .args .start) (s .args .end) (s .pre .some) (s .pre .inside)) (c .slot-class .ensures)
+    rw (slot-part (s .args .text .now) (s .args .start) (s .args .end) (s .pre .0 .some) (s .pre .0 .inside)) (c .slot-class .ensures)
 
 -- its first and its last byte are bytes
-abbrev byte-of : (c : tie.After-slot-class-arg) → ℕ → ℕ
+abbrev byte-of : (c : tie.After-shared-slice-known3) → ℕ → ℕ
 byte-of c k = getD (start-of c .args .text .now) k 0
 
-two-bytes : (c : tie.After-slot-class-arg)
+two-bytes : (c : tie.After-shared-slice-known3)
     → (byte-of c (start-of c .args .start) < 256) × (byte-of c (start-of c .args .end - 1) < 256)
 two-bytes c =
     let a = start-of c .args in
-    let first = c .before .before .shared-slice-known2 .given (a .start) in
-    let last = c .before .shared-slice-known3 .given (a .end - 1) in
+    let first = c .before .shared-slice-known2 .given (a .start) in
+    let last = c .shared-slice-known3 .given (a .end - 1) in
     (omega (arith, first), omega (arith, last))
 
 shared-slice-read-first : tie.Need-shared-slice-read-first
@@ -75,8 +75,7 @@ add-slot-class-2 : tie.Need-add-slot-class-2
 add-slot-class-2 c = omega (arith, two-bytes c)
 
 slot-class-requires : tie.Need-slot-class-requires
-unfolding some-class own-slot words word-table word bytes
-slot-class-requires c κs = (omega arith, slot-table _ refl tt tt)
+slot-class-requires c κs = search needs
 
 returns : tie.Need-returns
 returns c =

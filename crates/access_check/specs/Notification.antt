@@ -1,0 +1,43 @@
+-- Refusal 22 of document 01: a line for each clause, which says that a notification is at fault.
+-- Assumes nothing.
+use mathlib.Core.Bool.{Bool, not}
+use mathlib.Core.List.{List}
+use Prim.Native.Nat.{ℕ, _-_}
+use lib.Dec.{ltb, eqb}
+use lib.ListN.{length, getD}
+use Rattle.index.specs.First.{any}
+use Rattle.rule.specs.Rule.{Rule}
+use Rattle.module_table.specs.Definition.{entry}
+use Rattle.module_table.specs.Module.{oid-in, rule-of-definitions}
+use Rattle.module_table.specs.declared.Definition.{Definition}
+use Rattle.object_tree.specs.Words.{not-accessible, is-notification, if_then_else_}
+use Rattle.access_check.specs.Access.{has-access}
+
+-- 1: its OID has fewer than two numbers
+abbrev pub is-short : List ℕ → Bool
+is-short oid = ltb (length oid) 2
+
+-- 2: its next-to-last number isn't 0
+abbrev pub is-not-zeroed : List ℕ → Bool
+is-not-zeroed oid = not (eqb (getD oid (length oid - 2) 0) 0)
+
+-- 3: it lists a not-accessible object
+unfoldable pub lists-hidden : List Definition → List ℕ → Definition → Bool
+lists-hidden ds values d = any (has-access ds values not-accessible) (d .objects .from) (d .objects .to)
+
+-- the number of the first clause that puts definition k at fault, which is a notification; 0 where none does
+unfoldable pub notification-clause : List Definition → List ℕ → List ℕ → ℕ → ℕ
+notification-clause ds values numbers k =
+    if not (is-notification (entry ds k)) then 0 else
+    if is-short (oid-in numbers (entry ds k)) then 1 else
+    if is-not-zeroed (oid-in numbers (entry ds k)) then 2 else
+    if lists-hidden ds values (entry ds k) then 3 else
+    0
+
+-- 22: rules on notifications
+unfoldable pub notification-broken : List Definition → List ℕ → List ℕ → Rule
+notification-broken ds values numbers =
+    rule-of-definitions 22 ds
+    (λ k. ltb 0 (notification-clause ds values numbers k))
+    (notification-clause ds values numbers)
+    (λ k. k)

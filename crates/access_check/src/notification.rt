@@ -1,0 +1,75 @@
+// The clauses of refusal 22.
+ghost use mathlib.Core.Path.{_≡_};
+ghost use lib.ListN.{length};
+ghost use Prim.Native.Nat.{_≤_};
+ghost use Rattle.module_table.specs.Definition.{definitions-in};
+ghost use Rattle.module_table.specs.Module.{oid-in};
+ghost use Rattle.access_check.specs.Notification.{is-short, is-not-zeroed, lists-hidden, notification-clause};
+use crate::access::has_access;
+use index::RecordIndex;
+use index::TokenIndex;
+use module_table::Definition;
+use module_table::definition_at;
+use object_tree::NOT_ACCESSIBLE;
+use object_tree::is_notification;
+use oid_run::run_of;
+
+// Whether an OID has fewer than two numbers.
+fn is_short(numbers: &[u32], d: Definition) -> bool
+    ensures { λ r. ⌜ r ≡ is-short (oid-in (now (numbers .entry)) d) ⌝ }
+{
+    let run = run_of(numbers, d);
+    run.count < 2
+}
+
+// Whether the next-to-last number of an OID of two numbers or more isn't 0.
+fn is_not_zeroed(numbers: &[u32], d: Definition) -> bool
+    requires { ⌜ 2 ≤ length (oid-in (now numbers) d) ⌝ }
+    ensures { λ r. ⌜ r ≡ is-not-zeroed (oid-in (now (numbers .entry)) d) ⌝ }
+{
+    let run = run_of(numbers, d);
+    let from = run.from;
+    let at = from.0 + (run.count - 2);
+    numbers[at] != 0
+}
+
+// Whether a notification lists a not-accessible object.
+fn lists_hidden(values: &[u32], definitions: &[usize], d: Definition) -> bool
+    ensures { λ r. ⌜ r ≡ lists-hidden (definitions-in (now (definitions .entry))) (now (values .entry)) d ⌝ }
+{
+    let list = d.objects;
+    let to = list.to;
+    let mut i = list.from;
+    while i < to {
+        if has_access(values, definitions, NOT_ACCESSIBLE, TokenIndex(i)) {
+            return true;
+        }
+        i += 1;
+    }
+    false
+}
+
+// The first clause that puts definition k at fault, which is a notification; 0 where none does.
+pub fn notification_clause(
+    values: &[u32],
+    definitions: &[usize],
+    numbers: &[u32],
+    k: RecordIndex,
+) -> u8
+    ensures { λ r. ⌜ r ≡ notification-clause (definitions-in (now (definitions .entry))) (now (values .entry)) (now (numbers .entry)) (k .0) ⌝ }
+{
+    let d = definition_at(definitions, k);
+    if !is_notification(d) {
+        return 0;
+    }
+    if is_short(numbers, d) {
+        return 1;
+    }
+    if is_not_zeroed(numbers, d) {
+        return 2;
+    }
+    if lists_hidden(values, definitions, d) {
+        return 3;
+    }
+    0
+}

@@ -1,2 +1,0 @@
-pub mod Clashing
-pub mod Numbers

@@ -1,3 +1,0 @@
-pub mod Access
-pub mod Row
-pub mod Notification

@@ -1,0 +1,4 @@
+pub mod Labels
+pub mod Chaining
+pub mod Keys
+pub mod Items

@@ -1,4 +1,0 @@
-pub mod Storing
-pub mod Ends
-pub mod Held
-pub mod Said

@@ -1,3 +1,0 @@
-pub mod Import
-pub mod Collect
-pub mod Lead

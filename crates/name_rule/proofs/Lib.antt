@@ -1,4 +1,0 @@
-pub mod Twice
-pub mod Offered
-pub mod Unique
-pub mod Judging

@@ -1,0 +1,7 @@
+pub mod Served
+pub mod Twice
+pub mod Offering
+pub mod Using
+pub mod Numbers
+pub mod Named
+pub mod Reading

@@ -1,0 +1,257 @@
+-- `judge_uses` is right by the law of the loop that looks each use up.
+-- Assumes nothing.
+use mathlib.Core.Path.{_≡_, sym, ap, subst, _∙_}
+use mathlib.Core.Bool.{Bool, true}
+use mathlib.Core.List.{List}
+use Prim.Native.Nat.{ℕ, _-_, _≤_, _<_}
+use native.Mathlib.Omega.{arith}
+use lib.ListN.{length, take}
+use lib.Seq.{take-length, length-take-le}
+use Rattle.rule.specs.declared.Judgement.the-variants.{Broken}
+use Rattle.token.specs.Token.{Meaning}
+use Rattle.token.specs.Cut.{meanings-in}
+use Rattle.module_table.specs.declared.Definition.{Definition}
+use Rattle.module_table.specs.declared.Lead.{Lead}
+use Rattle.module_table.specs.Definition.{definitions-in}
+use Rattle.module_table.specs.Lead.{word-of, Small}
+use Rattle.reference.specs.Need.{enclosing, need-at}
+use Rattle.reference.specs.declared.Need.{Need}
+use Rattle.outline.specs.Outline.{outline}
+use Rattle.scope.specs.Token.{classes-of, spelled}
+use Rattle.scope.specs.Import.{imports-end}
+use Rattle.scope.specs.Lead.{leads-to}
+use Rattle.scope.specs.Held.{ImportsHeld}
+use Rattle.scope.proofs.Tokens.{classes-are, said-counted, starts-long, ends-long, few-classes, held-said, named-is}
+use Rattle.scope.proofs.Imports.{end-inside}
+use Rattle.scope.proofs.Leads.{defined-counted}
+use Rattle.name_kind.specs.Serve.{serves}
+use Rattle.naming.specs.Values.{is-name-need}
+use Rattle.naming.proofs.Served.{no-use-known, use-known}
+use Rattle.naming.proofs.Using.{no-need, use-value, other-value, lead-small, Using, using-start, imports-still, using-next, using-broken, using-kept, using-end}
+use Rattle.naming.proofs.usage.judge_uses.Statement.{statement}
+use Rattle.naming.proofs.usage.judge_uses.Tie as tie
+
+abbrev Inv-loop : tie.InvT-loop
+Inv-loop text classes starts ends values₀ definitions end word₀ i₀ values word i =
+    Using (meanings-in text) values₀ i values × (word ≡ enclosing (take (length classes) classes) i)
+
+abbrev μ-loop : tie.MeasureT-loop
+μ-loop text classes starts ends values₀ definitions end word₀ i₀ values word i = length classes - i
+
+abbrev start-of : tie.At-loop Inv-loop μ-loop → tie.Start Inv-loop μ-loop
+start-of l = l .before .before .before .before .before .before .before .before .before
+
+-- the imports end where the code says
+end-is : (l : tie.At-loop Inv-loop μ-loop) → l .before .before .imports-end .result ≡ imports-end (classes-of (meanings-in (start-of l .args .text .now)))
+end-is l = l .before .before .imports-end .ensures ∙ ap imports-end (classes-are _ _ _ _ (start-of l .pre .0))
+
+end-in : (l : tie.At-loop Inv-loop μ-loop) → l .before .before .imports-end .result ≤ length (l .loop .values)
+end-in l =
+    let s = start-of l in
+    omega (arith, l .before .before .imports-end .ensures, end-inside (s .args .classes .now), l .loop .inv .0 .long, s .pre .1 .0)
+
+-- and their values are held
+imports-now : (l : tie.At-loop Inv-loop μ-loop) → ImportsHeld (meanings-in (start-of l .args .text .now)) (take (l .before .before .imports-end .result) (l .loop .values))
+imports-now l =
+    let s = start-of l in
+    let cs = classes-are _ _ _ _ (s .pre .0) in
+    subst (λ (n : ℕ). ImportsHeld (meanings-in (s .args .text .now)) (take n (l .loop .values))) (sym (end-is l))
+    (imports-still _ _ _ _ (l .loop .inv .0) (omega (arith, end-is l, end-in l, l .loop .inv .0 .long))
+    (subst (λ (n : ℕ). ImportsHeld (meanings-in (s .args .text .now)) (take n (s .args .values .now))) (ap imports-end cs) (s .pre .1 .1 .0)))
+
+need-said : (s : tie.Start Inv-loop μ-loop) (i : ℕ) {need : Need} → need ≡ need-at (take (length (s .args .classes .now)) (s .args .classes .now)) i
+    → need ≡ need-at (classes-of (meanings-in (s .args .text .now))) i
+need-said s i e = e ∙ ap (λ (cs : List ℕ). need-at cs i) (take-length (s .args .classes .now) ∙ classes-are _ _ _ _ (s .pre .0))
+
+served : (s : tie.Start Inv-loop μ-loop) (lead : Lead) (need : Need) {r : Bool} → r ≡ serves (definitions-in (s .args .definitions .now)) lead need
+    → r ≡ serves (outline (classes-of (meanings-in (s .args .text .now)))) lead need
+served s lead need e = e ∙ ap (λ (ds : List Definition). serves ds lead need) (s .pre .1 .1 .1 .0)
+
+-- where a use was looked up
+abbrev Looked : Type 0
+Looked = tie.After-leads-to Inv-loop μ-loop
+
+abbrev loop-of : Looked → tie.At-loop Inv-loop μ-loop
+loop-of a = a .before .before .before .before .before .before .before
+
+abbrev said-by : Looked → List Meaning
+said-by a = meanings-in (start-of (loop-of a) .args .text .now)
+
+inside : (a : Looked) → loop-of a .loop .i < length (said-by a)
+inside a = omega (arith, a .before .before .before .before .before .before .loop-test .taken, said-counted _ _ _ _ (start-of (loop-of a) .pre .0))
+
+room : (a : Looked) → loop-of a .loop .i < length (loop-of a .loop .values)
+room a =
+    let l = loop-of a in
+    omega (arith, a .before .before .before .before .before .before .loop-test .taken, l .loop .inv .0 .long, start-of l .pre .1 .0)
+
+need-is : (a : Looked) → a .before .before .before .before .before .need-at .result ≡ need-at (classes-of (said-by a)) (loop-of a .loop .i)
+need-is a = need-said (start-of (loop-of a)) _ (a .before .before .before .before .before .need-at .ensures)
+
+used : (a : Looked) → is-name-need (need-at (classes-of (said-by a)) (loop-of a .loop .i)) ≡ true
+used a = sym (ap is-name-need (need-is a)) ∙ sym (a .before .before .before .before .is-name-need .ensures) ∙ a .before .before .before .if1 .taken
+
+lead-is : (a : Looked) → a .leads-to .result ≡ leads-to (said-by a) (spelled (said-by a) (loop-of a .loop .i))
+lead-is a =
+    let s = start-of (loop-of a) in
+    a .leads-to .ensures
+    ∙ ap (leads-to (said-by a)) (sym (named-is _ _ _ _ (s .pre .0) _ (a .before .before .before .before .before .before .loop-test .taken) _ (a .before .before .name-at .ensures) .1))
+
+imports-end-requires : tie.Need-imports-end-requires Inv-loop μ-loop
+imports-end-requires c κs = tt
+
+enclosing-at-requires : tie.Need-enclosing-at-requires Inv-loop μ-loop
+enclosing-at-requires c κs = omega arith
+
+loop-holds : tie.Need-loop-holds Inv-loop μ-loop
+loop-holds c =
+    let s = c .before .before .before .before .before .before .before .before in
+    let is = c .before .imports-end .ensures ∙ ap imports-end (classes-are _ _ _ _ (s .pre .0)) in
+    (using-start _ _ _ is (omega (arith, is, end-inside (classes-of (meanings-in (s .args .text .now))), said-counted _ _ _ _ (s .pre .0), ap length (classes-are _ _ _ _ (s .pre .0)))), c .enclosing-at .ensures)
+
+need-at-requires : tie.Need-need-at-requires Inv-loop μ-loop
+need-at-requires c κs = (omega arith, c .before .loop .inv .1)
+
+is-name-need-requires : tie.Need-is-name-need-requires Inv-loop μ-loop
+is-name-need-requires c κs = tt
+
+name-at-requires : tie.Need-name-at-requires Inv-loop μ-loop
+name-at-requires c κs =
+    let s = start-of (c .before .before .before .before) in
+    let h = c .before .before .before .loop-test .taken in
+    (h, omega (arith, h, starts-long _ _ _ _ (s .pre .0)), omega (arith, h, ends-long _ _ _ _ (s .pre .0)))
+
+slice-reshare-prefix-leads-to : tie.Need-slice-reshare-prefix-leads-to Inv-loop μ-loop
+slice-reshare-prefix-leads-to c = end-in (c .before .before .before .before .before)
+
+slice-aggregate-leads-to : tie.Need-slice-aggregate-leads-to Inv-loop μ-loop
+slice-aggregate-leads-to c = sym (length-take-le _ _ (end-in (c .before .before .before .before .before .before)))
+
+leads-to-requires : tie.Need-leads-to-requires Inv-loop μ-loop
+leads-to-requires c κs =
+    let l = c .before .before .before .before .before .before in
+    let s = start-of l in
+    let h = c .before .before .before .before .before .loop-test .taken in
+    (record { tokens = held-said _ _ _ _ (s .pre .0); imports = imports-now l; outlined = s .pre .1 .1 .1 .0 }, named-is _ _ _ _ (s .pre .0) _ h _ (c .before .name-at .ensures) .0)
+
+serves-requires : tie.Need-serves-requires Inv-loop μ-loop
+serves-requires c κs = tt
+
+plain-finding-requires : tie.Need-plain-finding-requires Inv-loop μ-loop
+plain-finding-requires c κs = tt
+
+same-length : tie.Need-same-length Inv-loop μ-loop
+same-length c = c .before .before .before .before .before .before .before .before .before .before .loop .inv .0 .long
+
+returns : tie.Need-returns Inv-loop μ-loop
+returns c =
+    let a = c .before .before .before in
+    let l = loop-of a in
+    let un = use-known _ _ _ (need-is a) _ (lead-is a) _ (served (start-of l) _ _ (c .before .before .serves .ensures)) in
+    (l .loop .inv .0 .long, (ap Broken (c .plain-finding .ensures) ∙ using-broken _ _ _ _ (l .loop .inv .0) (inside a) (sym un ∙ c .before .if2 .taken), tt))
+
+word-for-requires : tie.Need-word-for-requires Inv-loop μ-loop
+word-for-requires c κs =
+    let a = c .before .before in
+    let s = start-of (loop-of a) in
+    subst Small (sym (lead-is a)) (lead-small _ _ (omega (arith, s .pre .1 .1 .1 .1, defined-counted _ _ (s .pre .1 .1 .1 .0))))
+
+mul-values : tie.Need-mul-values Inv-loop μ-loop
+mul-values c = let a = c .before .before .before in omega (arith, a .before .before .before .before .before .before .loop-test .taken, few-classes _ _ _ _ (start-of (loop-of a) .pre .0))
+
+slice-write-values : tie.Need-slice-write-values Inv-loop μ-loop
+slice-write-values c = let a = c .before .before .before in room a
+
+next-enclosing-requires : tie.Need-next-enclosing-requires Inv-loop μ-loop
+next-enclosing-requires c κs = (omega arith, loop-of (c .before .before .before) .loop .inv .1)
+
+add-i : tie.Need-add-i Inv-loop μ-loop
+add-i c = let a = c .before .before .before .before in omega (arith, a .before .before .before .before .before .before .loop-test .taken, few-classes _ _ _ _ (start-of (loop-of a) .pre .0))
+
+loop-less : tie.Need-loop-less Inv-loop μ-loop
+loop-less c = let a = c .before .before .before .before in omega (arith, a .before .before .before .before .before .before .loop-test .taken)
+
+loop-again : tie.Need-loop-again Inv-loop μ-loop
+loop-again c =
+    let a = c .before .before .before .before in
+    let l = loop-of a in
+    let known = use-known _ _ _ (need-is a) _ (lead-is a) _ (served (start-of l) _ _ (c .before .before .before .serves .ensures)) in
+    let value = c .before .word-for .ensures ∙ ap word-of (lead-is a) ∙ use-value _ _ (l .loop .inv .0 .from) (used a) in
+    (using-next _ _ _ _ (l .loop .inv .0) (inside a) (sym known ∙ c .before .before .if2 .left) (room a) _ value, c .next-enclosing .ensures)
+
+magnitude-at-requires : tie.Need-magnitude-at-requires Inv-loop μ-loop
+magnitude-at-requires c κs = (start-of (c .before .before .before .before) .pre .0, c .before .before .before .loop-test .taken)
+
+mul-values-2 : tie.Need-mul-values-2 Inv-loop μ-loop
+mul-values-2 c = omega (arith, c .before .before .before .before .loop-test .taken, few-classes _ _ _ _ (start-of (c .before .before .before .before .before) .pre .0))
+
+slice-write-values-2 : tie.Need-slice-write-values-2 Inv-loop μ-loop
+slice-write-values-2 c =
+    let l = c .before .before .before .before .before in
+    omega (arith, c .before .before .before .before .loop-test .taken, l .loop .inv .0 .long, start-of l .pre .1 .0)
+
+next-enclosing-requires-2 : tie.Need-next-enclosing-requires-2 Inv-loop μ-loop
+next-enclosing-requires-2 c κs = (omega arith, c .before .before .before .before .before .loop .inv .1)
+
+add-i-2 : tie.Need-add-i-2 Inv-loop μ-loop
+add-i-2 c = omega (arith, c .before .before .before .before .before .loop-test .taken)
+
+loop-less-2 : tie.Need-loop-less-2 Inv-loop μ-loop
+loop-less-2 c = omega (arith, c .before .before .before .before .before .loop-test .taken)
+
+loop-again-2 : tie.Need-loop-again-2 Inv-loop μ-loop
+loop-again-2 c =
+    let n = c .before .before .before .before in
+    let l = n .before .before in
+    let s = start-of l in
+    let h = n .before .loop-test .taken in
+    let need = need-said s _ (n .need-at .ensures) in
+    let none = sym (c .before .before .before .is-name-need .ensures) ∙ c .before .before .if1 .left in
+    let value = c .before .magnitude-at .ensures ∙ other-value (meanings-in (s .args .text .now)) (l .loop .i) (l .loop .inv .0 .from) (sym (ap is-name-need need) ∙ none) in
+    (using-next _ _ _ _ (l .loop .inv .0) (omega (arith, h, said-counted _ _ _ _ (s .pre .0))) (sym (no-use-known _ _ _ need (no-need _ none))) (omega (arith, h, l .loop .inv .0 .long, s .pre .1 .0)) _ value, c .next-enclosing2 .ensures)
+
+same-length-2 : tie.Need-same-length-2 Inv-loop μ-loop
+same-length-2 c = c .before .loop .inv .0 .long
+
+returns-2 : tie.Need-returns-2 Inv-loop μ-loop
+returns-2 c =
+    let l = c .before in
+    let s = start-of l in
+    let h : length (meanings-in (s .args .text .now)) ≤ l .loop .i = omega (arith, c .loop-test .left, said-counted _ _ _ _ (s .pre .0)) in
+    (l .loop .inv .0 .long, (using-kept _ _ _ _ (l .loop .inv .0) h, using-end _ _ _ _ (l .loop .inv .0) h (omega (arith, l .loop .inv .0 .long, s .pre .1 .0, said-counted _ _ _ _ (s .pre .0)))))
+
+pub judge-uses-spec : {M : Type 1} → statement M
+judge-uses-spec =
+    tie.close
+    (tie.spec
+    Inv-loop
+    μ-loop
+    imports-end-requires
+    enclosing-at-requires
+    loop-holds
+    need-at-requires
+    is-name-need-requires
+    name-at-requires
+    slice-reshare-prefix-leads-to
+    slice-aggregate-leads-to
+    leads-to-requires
+    serves-requires
+    plain-finding-requires
+    same-length
+    returns
+    word-for-requires
+    mul-values
+    slice-write-values
+    next-enclosing-requires
+    add-i
+    loop-less
+    loop-again
+    magnitude-at-requires
+    mul-values-2
+    slice-write-values-2
+    next-enclosing-requires-2
+    add-i-2
+    loop-less-2
+    loop-again-2
+    same-length-2
+    returns-2)

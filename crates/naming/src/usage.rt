@@ -1,0 +1,86 @@
+// Refusal 11: names that aren't known in the kind needed; and the values of the tokens behind the imports.
+ghost use mathlib.Core.Path.{_≡_};
+ghost use Prim.Native.Nat.{_≤_, _<_};
+ghost use lib.ListN.{length, take};
+ghost use Rattle.rule.specs.Rule.{judge-one};
+ghost use Rattle.token.specs.Cut.{meanings-in};
+ghost use Rattle.module_table.specs.Definition.{definitions-in};
+ghost use Rattle.module_table.specs.Module.{most-definitions};
+ghost use Rattle.outline.specs.Outline.{outline};
+ghost use Rattle.scope.specs.Token.{classes-of, TokensHeld};
+ghost use Rattle.scope.specs.Import.{imports-end};
+ghost use Rattle.scope.specs.Held.{ImportsHeld};
+ghost use Rattle.naming.specs.Rules.{unknown-name};
+ghost use Rattle.naming.specs.Values.{is-name-need};
+ghost use Rattle.naming.specs.Told.{UsesFilled};
+use crate::number::magnitude_at;
+use crate::plain_finding;
+use index::TokenIndex;
+use module_table::word_for;
+use name_kind::serves;
+use reference::Need;
+use reference::enclosing_at;
+use reference::need_at;
+use reference::next_enclosing;
+use rule::Judgement;
+use scope::imports_end;
+use scope::leads_to;
+use scope::name_at;
+
+// Whether it is a use of a name.
+fn is_name_need(need: Need) -> bool
+    ensures { λ r. ⌜ r ≡ is-name-need need ⌝ }
+{
+    match need {
+        Need::NoName => false,
+        Need::Macro => true,
+        Need::TypeName => true,
+        Need::ObjectType => true,
+        Need::Head => true,
+        Need::Object => true,
+        Need::Sequence => true,
+    }
+}
+
+// Refusal 11, at the first token from the imports' end on that is used as a name that isn't known. Each use is looked up once: where the
+// rule is kept, the tokens behind the imports have their values.
+pub fn judge_uses(
+    text: &[u8],
+    classes: &[u8],
+    starts: &[u32],
+    ends: &[u32],
+    values: &mut [u32],
+    definitions: &[usize],
+) -> Judgement
+    requires tokens { ⌜ TokensHeld (now text) (now classes) (now starts) (now ends) ⌝ }
+    requires values { ⌜ length (now values) ≡ length (now classes) ⌝ }
+    requires imports { ⌜ ImportsHeld (meanings-in (now text)) (take (imports-end (now classes)) (now values)) ⌝ }
+    requires outlined { ⌜ definitions-in (now definitions) ≡ outline (classes-of (meanings-in (now text))) ⌝ }
+    requires few { ⌜ length (definitions-in (now definitions)) ≤ most-definitions ⌝ }
+    ensures long { λ r. ⌜ length (now (values .exit)) ≡ length (now (values .entry)) ⌝ }
+    ensures judged { λ r. ⌜ r ≡ judge-one (unknown-name (meanings-in (now (text .entry)))) ⌝ }
+    ensures filled { λ r. ⌜ UsesFilled (meanings-in (now (text .entry))) r (now (values .entry)) (now (values .exit)) ⌝ }
+{
+    let end = imports_end(classes);
+    let mut word = enclosing_at(classes, classes.len(), end);
+    let mut i = end;
+    while i < classes.len() {
+        let need = need_at(classes, classes.len(), word, i);
+        if is_name_need(need) {
+            let name = name_at(classes, starts, ends, TokenIndex(i));
+            let lead = leads_to(text, starts, ends, &values[..end], definitions, name);
+            if !serves(definitions, lead, need) {
+                return Judgement::Broken(plain_finding(11, i));
+            }
+            let found = word_for(lead);
+            values[i] = found;
+            word = next_enclosing(classes, classes.len(), word, i);
+            i += 1;
+        } else {
+            values[i] = magnitude_at(text, classes, starts, ends, i);
+            word = next_enclosing(classes, classes.len(), word, i);
+            i += 1;
+        }
+    }
+    Judgement::Kept
+}

@@ -1,4 +1,0 @@
-pub mod Writing
-pub mod Held
-pub mod Key
-pub mod Refusal

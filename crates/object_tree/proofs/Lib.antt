@@ -1,0 +1,3 @@
+pub mod Seeking
+pub mod Parents
+pub mod Numbers

@@ -1,5 +1,0 @@
-pub mod Oid
-pub mod Length
-pub mod Heads
-pub mod Runs
-pub mod Refusal

@@ -1,0 +1,5 @@
+pub mod Symbols
+pub mod Counts
+pub mod Writing
+pub mod Parts
+pub mod Laid

@@ -1,0 +1,10 @@
+pub mod Alike
+pub mod Lengths
+pub mod Measuring
+pub mod Steps
+pub mod Counted
+pub mod Oids
+pub mod Placing
+pub mod Collecting
+pub mod Cut
+pub mod Example

@@ -1,0 +1,4 @@
+pub mod Stage
+pub mod Refusal
+pub mod Writing
+pub mod Collected

@@ -1,0 +1,126 @@
+-- `collect_outline` is right by the law of the loop that collects definitions.
+-- Assumes nothing.
+use mathlib.Core.Path.{_≡_, sym, ap, _∙_}
+use Prim.Native.Nat.{ℕ, _+_, _-_, _≤_, _<_}
+use native.Mathlib.Omega.{arith}
+use lib.ListN.{length, getD}
+use Rattle.index.proofs.Search.{first-inside, first-from}
+use Rattle.definition.specs.Landmark.{begins, last, definitions}
+use Rattle.module_table.specs.Module.{most-definitions}
+use Rattle.outline.proofs.Outline.{Collecting, collecting-start, collecting-more, collecting-end, one-more, its-name, room-left, all-stored, outline-counted}
+use Rattle.outline.proofs.collect_outline.Statement.{statement}
+use Rattle.outline.proofs.collect_outline.Tie as tie
+
+abbrev Inv-loop : tie.InvT-loop
+Inv-loop classes definitions₀ count₀ d₀ definitions count d =
+    Collecting classes definitions count d × (d ≤ last classes)
+
+abbrev μ-loop : tie.MeasureT-loop
+μ-loop classes definitions₀ count₀ d₀ definitions count d = length classes - d
+
+next-beginning-requires : tie.Need-next-beginning-requires Inv-loop μ-loop
+next-beginning-requires c κs = let s = c .before .before in (s .pre .0, omega arith)
+
+loop-holds : tie.Need-loop-holds Inv-loop μ-loop
+loop-holds c =
+    let s = c .before .before .before in
+    let is = c .next-beginning .ensures in
+    (collecting-start _ _ _ (s .pre .1) is, omega (arith, is, first-inside (begins (s .args .classes .now)) 0 (last (s .args .classes .now)) (omega arith)))
+
+add-loop : tie.Need-add-loop Inv-loop μ-loop
+add-loop c = omega (arith, c .loop .inv .1)
+
+same-length : tie.Need-same-length Inv-loop μ-loop
+same-length c =
+    let l = c .before .before in
+    let s = l .before .before .before .before in
+    l .loop .inv .0 .long ∙ sym (s .pre .1)
+
+returns : tie.Need-returns Inv-loop μ-loop
+returns c =
+    let l = c .before .before in
+    let s = l .before .before .before .before in
+    let cs = s .args .classes .now in
+    let h : l .loop .d < last cs = omega (arith, c .before .loop-test .taken) in
+    let most : l .loop .count ≡ most-definitions = c .if1 .taken in
+    let more = one-more cs (l .loop .definitions) (l .loop .count) (l .loop .d) (l .loop .inv .0) h in
+    let name = its-name cs (l .loop .definitions) (l .loop .count) (l .loop .d) (l .loop .inv .0) h in
+    (l .loop .inv .0 .long ∙ sym (s .pre .1), (omega arith, sym name ∙ ap (λ (k : ℕ). getD (definitions cs) k 0) most))
+
+add-next-beginning : tie.Need-add-next-beginning Inv-loop μ-loop
+add-next-beginning c = omega (arith, c .before .before .loop .inv .1)
+
+next-beginning-requires-2 : tie.Need-next-beginning-requires-2 Inv-loop μ-loop
+next-beginning-requires-2 c κs =
+    let s = c .before .before .before .before .before .before in
+    (s .pre .0, omega (arith, c .before .loop-test .taken))
+
+definition-between-requires : tie.Need-definition-between-requires Inv-loop μ-loop
+definition-between-requires c κs =
+    let l = c .before .before .before .before in
+    let s = l .before .before .before .before in
+    let cs = s .args .classes .now in
+    (omega (arith, l .loop .inv .1, s .pre .0), omega (arith, c .before .next-beginning2 .ensures, s .pre .0, first-inside (begins cs) (l .loop .d + 1) (last cs) (omega (arith, c .before .before .before .loop-test .taken))))
+
+store-requires : tie.Need-store-requires Inv-loop μ-loop
+store-requires c κs =
+    let l = c .before .before .before .before .before in
+    room-left _ _ _ _ (l .loop .inv .0) (c .before .before .before .if1 .left)
+
+add-count : tie.Need-add-count Inv-loop μ-loop
+add-count c = omega (arith, c .before .before .before .before .before .before .before .before .loop .inv .0 .few)
+
+loop-less : tie.Need-loop-less Inv-loop μ-loop
+loop-less c =
+    let l = c .before .before .before .before .before .before .before .before in
+    let cs = l .before .before .before .before .args .classes .now in
+    omega (arith, c .before .before .before .before .before .next-beginning2 .ensures, first-from (begins cs) (l .loop .d + 1) (last cs), c .before .before .before .before .before .before .before .loop-test .taken)
+
+loop-again : tie.Need-loop-again Inv-loop μ-loop
+loop-again c =
+    let e = c .before .before .before .before .before in
+    let l = e .before .before .before in
+    let s = l .before .before .before .before in
+    let cs = s .args .classes .now in
+    let h : l .loop .d < last cs = omega (arith, e .before .before .loop-test .taken) in (
+      collecting-more cs (l .loop .definitions) (l .loop .count) (l .loop .d) (l .loop .inv .0) h (e .before .if1 .left) (e .next-beginning2 .result)
+          (e .next-beginning2 .ensures) _
+          (rw (← c .before .before .before .definition-between .ensures) (c .before .before .store .ensures)),
+      omega (arith, e .next-beginning2 .ensures, first-inside (begins cs) (l .loop .d + 1) (last cs) (omega arith)),
+    )
+
+same-length-2 : tie.Need-same-length-2 Inv-loop μ-loop
+same-length-2 c =
+    let l = c .before in
+    let s = l .before .before .before .before in
+    l .loop .inv .0 .long ∙ sym (s .pre .1)
+
+returns-2 : tie.Need-returns-2 Inv-loop μ-loop
+returns-2 c =
+    let l = c .before in
+    let s = l .before .before .before .before in
+    let cs = s .args .classes .now in
+    let h : last cs ≤ l .loop .d = omega (arith, c .loop-test .left) in
+    let all = all-stored cs (l .loop .definitions) (l .loop .count) (l .loop .d) (l .loop .inv .0) h in
+    (l .loop .inv .0 .long ∙ sym (s .pre .1), (all ∙ sym (outline-counted cs), l .loop .inv .0 .few, collecting-end _ _ _ _ (l .loop .inv .0) h))
+
+pub collect-outline-spec : {M : Type 1} → statement M
+collect-outline-spec =
+    tie.close
+    (tie.spec
+    Inv-loop
+    μ-loop
+    next-beginning-requires
+    loop-holds
+    add-loop
+    same-length
+    returns
+    add-next-beginning
+    next-beginning-requires-2
+    definition-between-requires
+    store-requires
+    add-count
+    loop-less
+    loop-again
+    same-length-2
+    returns-2)

@@ -1,3 +1,0 @@
-pub mod Spans
-pub mod Small
-pub mod Words

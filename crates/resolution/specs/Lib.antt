@@ -1,2 +1,0 @@
-pub mod Serve
-pub mod Sort

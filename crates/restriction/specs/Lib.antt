@@ -1,5 +1,0 @@
-pub mod Ranges
-pub mod Enumeration
-pub mod Limits
-pub mod Within
-pub mod Refusal

@@ -1,0 +1,36 @@
+-- What the look-up of a name is lent: where the tokens stand, the values of the imports, and the definitions.
+-- Assumes nothing.
+use mathlib.Core.Path.{_≡_}
+use mathlib.Core.Bool.{cond}
+use mathlib.Core.List.{List}
+use Prim.Native.Nat.{ℕ, _<_}
+use lib.ListN.{length, getD}
+use Rattle.token.specs.Token.{Meaning}
+use Rattle.token.specs.Cut.{meanings-in}
+use Rattle.symbol.specs.Symbol.{symbol-of}
+use Rattle.module_table.specs.Definition.{definitions-in}
+use Rattle.module_table.specs.Lead.{word-of}
+use Rattle.module_table.specs.declared.Lead.the-variants.{Import}
+use Rattle.outline.specs.Outline.{outline}
+use Rattle.scope.specs.Token.{classes-of, spelled, TokensHeld}
+use Rattle.scope.specs.Import.{imports-end, is-import}
+use Rattle.scope.specs.Lead.{is-imported}
+
+-- the value of token i of the imports: what the symbol there leads to, as a word; 0 where it is no symbol
+abbrev pub import-word : List Meaning → ℕ → ℕ
+import-word ms i = cond (is-import (classes-of ms) i) (word-of (Import (symbol-of (spelled ms i)))) 0
+
+-- what a name of the imports leads to, as a word; 0 where no symbol of this name is imported
+abbrev pub found-word : List Meaning → List ℕ → ℕ
+found-word ms s = cond (is-imported ms s) (word-of (Import (symbol-of s))) 0
+
+-- the values of the imports of a module
+pub record ImportsHeld (ms : List Meaning) (values : List ℕ) : Type 0 where
+  pub counted : length values ≡ imports-end (classes-of ms)
+  pub held : (i : ℕ) → i < length values → getD values i 0 ≡ import-word ms i
+
+-- all that a look-up is lent
+pub record ScopeHeld (text starts ends values definitions : List ℕ) : Type 0 where
+  pub tokens : TokensHeld text (classes-of (meanings-in text)) starts ends
+  pub imports : ImportsHeld (meanings-in text) values
+  pub outlined : definitions-in definitions ≡ outline (classes-of (meanings-in text))

@@ -1,0 +1,4 @@
+pub mod Token
+pub mod Import
+pub mod Lead
+pub mod Held

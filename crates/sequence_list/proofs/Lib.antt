@@ -1,0 +1,4 @@
+pub mod Asking
+pub mod Marking
+pub mod Listing
+pub mod Verdicts

@@ -1,4 +1,0 @@
-pub mod RuleLaws
-pub mod Unsettled
-pub mod OfDefinition
-pub mod Settled

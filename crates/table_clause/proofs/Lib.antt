@@ -1,3 +1,0 @@
-pub mod OneRow
-pub mod Faults
-pub mod WrongNumber

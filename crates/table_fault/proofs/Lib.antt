@@ -1,3 +1,0 @@
-pub mod Picked
-pub mod Standing
-pub mod Clauses

@@ -1,2 +1,0 @@
-pub mod Braces
-pub mod Names

@@ -1,3 +1,0 @@
-pub mod Range
-pub mod Item
-pub mod Name
