@@ -5,15 +5,21 @@ ghost use lib.ListN.{length};
 ghost use Rattle.chain.specs.Chain.{Chained, key-count, most-entries};
 ghost use Rattle.chain.specs.Key.{key};
 
+// How many keys there are.
+pub const KEYS: usize = 256;
+
+// The most entries that are chained.
+pub const ENTRIES: usize = 512;
+
 // The key of a list of this length with these last three entries.
 pub fn key(size: usize, third: usize, second: usize, last: usize) -> usize
     ensures { λ r. ⌜ r ≡ key size third second last ⌝ }
 {
-    (last % 256 + 16 * (second % 256) + 37 * (third % 256) + size % 256) % 256
+    (last % KEYS + 16 * (second % KEYS) + 37 * (third % KEYS) + size % KEYS) % KEYS
 }
 
 // Chains entry k, of this key, before the others of the key.
-pub fn insert(heads: &mut [usize; 256], links: &mut [usize; 512], k: usize, key: usize)
+pub fn insert(heads: &mut [usize; KEYS], links: &mut [usize; ENTRIES], k: usize, key: usize)
     requires heads { ⌜ length (now heads) ≡ key-count ⌝ }
     requires links { ⌜ length (now links) ≡ most-entries ⌝ }
     requires entry { ⌜ k < most-entries ⌝ }

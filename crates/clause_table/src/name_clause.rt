@@ -10,6 +10,7 @@ ghost use Rattle.clause_table.specs.Held.{list-clause, name-clause, Clau
 use index::RecordIndex;
 use index::TokenIndex;
 use module_table::Definition;
+use module_table::MOST_DEFINITIONS;
 use module_table::count;
 use module_table::definition_at;
 use object_tree::is_row;
@@ -80,7 +81,11 @@ fn name_clause(
 }
 
 // The clauses of all definitions.
-pub fn collect_name_clauses(values: &[u32], definitions: &[usize], clauses: &mut [u8; 512])
+pub fn collect_name_clauses(
+    values: &[u32],
+    definitions: &[usize],
+    clauses: &mut [u8; MOST_DEFINITIONS],
+)
     requires few { ⌜ length (definitions-in (now definitions)) ≤ most-definitions ⌝ }
     requires room { ⌜ length (now clauses) ≡ most-definitions ⌝ }
     ensures { λ _. ⌜ ClauseTable (name-clause (definitions-in (now (definitions .entry))) (now (values .entry))) (length (definitions-in (now (definitions .entry)))) (now (clauses .exit)) ⌝ }

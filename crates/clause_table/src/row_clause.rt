@@ -8,6 +8,7 @@ ghost use Rattle.clause_table.specs.Clause.{ends-in-one, has-its-row, ro
 ghost use Rattle.clause_table.specs.Held.{RowsFrom, index-clause, row-clause, ClauseTable};
 use index::RecordIndex;
 use module_table::Definition;
+use module_table::MOST_DEFINITIONS;
 use module_table::count;
 use module_table::definition_at;
 use object_tree::is_indexed;
@@ -149,7 +150,11 @@ fn row_clause(
 }
 
 // The clauses of all definitions.
-pub fn collect_row_clauses(definitions: &[usize], numbers: &[u32], clauses: &mut [u8; 512])
+pub fn collect_row_clauses(
+    definitions: &[usize],
+    numbers: &[u32],
+    clauses: &mut [u8; MOST_DEFINITIONS],
+)
     requires few { ⌜ length (definitions-in (now definitions)) ≤ most-definitions ⌝ }
     requires room { ⌜ length (now clauses) ≡ most-definitions ⌝ }
     ensures { λ _. ⌜ ClauseTable (row-clause (definitions-in (now (definitions .entry))) (now (numbers .entry))) (length (definitions-in (now (definitions .entry)))) (now (clauses .exit)) ⌝ }

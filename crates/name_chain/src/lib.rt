@@ -41,7 +41,7 @@ pub fn name_key(text: &[u8], start: usize, end: usize) -> usize
 }
 
 // Chains entry k, of this key, before the others of the key.
-pub fn insert(heads: &mut [u32; 1024], links: &mut [u32], k: usize, key: usize)
+pub fn insert(heads: &mut [u32; KEYS], links: &mut [u32], k: usize, key: usize)
     requires heads { ⌜ length (now heads) ≡ key-count ⌝ }
     requires entry { ⌜ (k < length (now links)) × (k < 65536) ⌝ }
     requires key { ⌜ key < key-count ⌝ }
@@ -66,7 +66,7 @@ pub fn find(
     text: &[u8],
     starts: &[u32],
     ends: &[u32],
-    heads: &[u32; 1024],
+    heads: &[u32; KEYS],
     links: &[u32],
     k: usize,
 ) -> usize

@@ -14,6 +14,7 @@ ghost use Rattle.naming.specs.Rules.{introduced-again};
 ghost use Rattle.naming.specs.Told.{Introduces};
 use definition::begins;
 use index::TokenIndex;
+use name_chain::KEYS;
 use name_chain::find;
 use name_chain::insert;
 use name_chain::name_key;
@@ -54,7 +55,7 @@ fn introduction(
     text: &[u8],
     starts: &[u32],
     ends: &[u32],
-    heads: &[u32; 1024],
+    heads: &[u32; KEYS],
     links: &[u32],
     i: usize,
 ) -> Introduced
@@ -96,7 +97,7 @@ pub fn judge_introduced(
     ensures judged { λ r. ⌜ r ≡ judge-one (introduced-again (meanings-in (now (text .entry)))) ⌝ }
 {
     let end = imports_end(classes);
-    let mut heads = [0u32; 1024];
+    let mut heads = [0u32; KEYS];
     let mut i = 0;
     while i < classes.len() {
         if introduces(classes, end, i) {

@@ -9,9 +9,12 @@ ghost use Rattle.module_table.specs.Definition.{definitions-in, entry, changed}
 ghost use Rattle.module_table.specs.Module.{most-definitions, oid-in};
 ghost use Rattle.object_tree.specs.Tree.{is-parent, parent-of, with-parent, with-parents-of, parents-added, key-of, ParentTable};
 use crate::words::is_object;
+use chain::ENTRIES;
+use chain::KEYS;
 use chain::insert;
 use index::RecordIndex;
 use module_table::Definition;
+use module_table::MOST_DEFINITIONS;
 use module_table::count;
 use module_table::definition_at;
 use module_table::store;
@@ -64,8 +67,8 @@ fn parent_key(numbers: &[u32], d: Definition) -> usize
 fn chain_definitions(
     definitions: &[usize],
     numbers: &[u32],
-    heads: &mut [usize; 256],
-    links: &mut [usize; 512],
+    heads: &mut [usize; KEYS],
+    links: &mut [usize; ENTRIES],
 )
     requires few { ⌜ length (definitions-in (now definitions)) ≤ most-definitions ⌝ }
     requires none { ⌜ Chained (key-of (definitions-in (now definitions)) (now numbers)) 0 (now heads) (now links) ⌝ }
@@ -89,8 +92,8 @@ fn parent_of(
     definitions: &[usize],
     numbers: &[u32],
     k: RecordIndex,
-    heads: &[usize; 256],
-    links: &[usize; 512],
+    heads: &[usize; KEYS],
+    links: &[usize; ENTRIES],
 ) -> usize
     requires few { ⌜ length (definitions-in (now definitions)) ≤ most-definitions ⌝ }
     requires chains { ⌜ Chained (key-of (definitions-in (now definitions)) (now numbers)) (length (definitions-in (now definitions))) (now heads) (now links) ⌝ }
@@ -113,13 +116,13 @@ fn parent_of(
 }
 
 // The parents of all definitions.
-fn find_parents(definitions: &[usize], numbers: &[u32], parents: &mut [usize; 512])
+fn find_parents(definitions: &[usize], numbers: &[u32], parents: &mut [usize; MOST_DEFINITIONS])
     requires few { ⌜ length (definitions-in (now definitions)) ≤ most-definitions ⌝ }
     requires room { ⌜ length (now parents) ≡ most-definitions ⌝ }
     ensures { λ _. ⌜ ParentTable (definitions-in (now (definitions .entry))) (now (numbers .entry)) (now (parents .exit)) ⌝ }
 {
-    let mut heads = [0usize; 256];
-    let mut links = [0usize; 512];
+    let mut heads = [0usize; KEYS];
+    let mut links = [0usize; ENTRIES];
     chain_definitions(definitions, numbers, &mut heads, &mut links);
     let n = count(definitions);
     let mut k = 0;
@@ -138,7 +141,7 @@ fn with_parent(mut d: Definition, parent: usize) -> Definition
 }
 
 // Stores the parents of all definitions.
-fn store_parents(definitions: &mut [usize], parents: &[usize; 512])
+fn store_parents(definitions: &mut [usize], parents: &[usize; MOST_DEFINITIONS])
     requires few { ⌜ length (definitions-in (now definitions)) ≤ most-definitions ⌝ }
     requires long { ⌜ length (now parents) ≡ most-definitions ⌝ }
     ensures { λ _. ⌜ definitions-in (now (definitions .exit)) ≡ changed (with-parents-of (now (parents .entry))) (definitions-in (now (definitions .entry))) ⌝ }
@@ -157,7 +160,7 @@ pub fn collect_parents(definitions: &mut [usize], numbers: &[u32])
     requires { ⌜ length (definitions-in (now definitions)) ≤ most-definitions ⌝ }
     ensures { λ _. ⌜ definitions-in (now (definitions .exit)) ≡ parents-added (now (numbers .entry)) (definitions-in (now (definitions .entry))) ⌝ }
 {
-    let mut parents = [0usize; 512];
+    let mut parents = [0usize; MOST_DEFINITIONS];
     find_parents(definitions, numbers, &mut parents);
     store_parents(definitions, &parents);
 }

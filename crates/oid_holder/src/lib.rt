@@ -10,6 +10,8 @@ ghost use Rattle.lexicon.specs.Word.{same};
 ghost use Rattle.module_table.specs.Definition.{width, definitions-in};
 ghost use Rattle.module_table.specs.Module.{oid-in, most-definitions};
 ghost use Rattle.oid_holder.specs.Holder.{is-holder, holds-oid, earlier-holder, held-twice, key-at};
+use chain::ENTRIES;
+use chain::KEYS;
 use chain::insert;
 use definition::kind;
 use index::RecordIndex;
@@ -60,8 +62,8 @@ fn is_held_before(
     definitions: &[usize],
     numbers: &[u32],
     k: RecordIndex,
-    heads: &[usize; 256],
-    links: &[usize; 512],
+    heads: &[usize; KEYS],
+    links: &[usize; ENTRIES],
     key: usize,
 ) -> bool
     requires index { ⌜ k .0 < most-entries ⌝ }
@@ -85,8 +87,8 @@ fn is_held_twice(
     definitions: &[usize],
     numbers: &[u32],
     k: RecordIndex,
-    heads: &[usize; 256],
-    links: &[usize; 512],
+    heads: &[usize; KEYS],
+    links: &[usize; ENTRIES],
     key: usize,
 ) -> bool
     requires index { ⌜ k .0 < most-entries ⌝ }
@@ -136,8 +138,8 @@ pub fn judge_twins(definitions: &[usize], numbers: &[u32]) -> Judgement
     requires { ⌜ length (now definitions) ≤ most-definitions * width ⌝ }
     ensures { λ r. ⌜ r ≡ judge-one (held-twice (definitions-in (now (definitions .entry))) (now (numbers .entry))) ⌝ }
 {
-    let mut heads = [0usize; 256];
-    let mut links = [0usize; 512];
+    let mut heads = [0usize; KEYS];
+    let mut links = [0usize; ENTRIES];
     let c = count(definitions);
     let mut k = 0;
     while k < c {

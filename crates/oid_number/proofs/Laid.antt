@@ -8,8 +8,9 @@ use native.Mathlib.Omega.{arith}
 use lib.ListN.{length, getD, take, drop, set, length-append, length-drop, drop-of-length-le, List·getD-append}
 use lib.Seq.{take-all, take-at, drop-at, drop-drop, getD-take, getD-drop, length-take-le, paste, paste-zero, paste-suc, length-paste, take-append-seam, drop-append-seam, take-length}
 use Rattle.token.specs.Table.{overlaid}
-use Rattle.oid_number.specs.Buffer.{Written, laid-at}
-use Rattle.oid_number.proofs.Writing.{lent, returned, overlaid-rest}
+use Rattle.overlay.specs.Writing.{Written}
+use Rattle.oid_number.specs.Buffer.{laid-at}
+use Rattle.overlay.proofs.Writing.{lent, returned, overlaid-rest}
 
 -- nothing is laid by doing nothing
 pub laid-none : (i : ℕ) (numbers before : List ℕ) → numbers ≡ [] → before ≡ laid-at i numbers before

@@ -1,5 +1,4 @@
 pub mod Symbols
 pub mod Counts
-pub mod Writing
 pub mod Parts
 pub mod Laid

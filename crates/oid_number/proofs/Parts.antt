@@ -11,8 +11,8 @@ use Rattle.index.specs.First.{hits}
 use Rattle.index.proofs.Hits.{hits-hit, hits-miss, hits-none}
 use Rattle.definition.specs.declared.Span.{Span}
 use Rattle.oid_number.specs.Number.{is-number, number-tokens, parts-in}
-use Rattle.oid_number.specs.Buffer.{Written}
-use Rattle.oid_number.proofs.Writing.{Writing, writing-start, writing-length, writing-more, writing-end, more-left, next-left, rest-left, none-left}
+use Rattle.overlay.specs.Writing.{Written}
+use Rattle.overlay.proofs.Writing.{Writing, writing-start, writing-length, writing-more, writing-end, more-left, next-left, rest-left, none-left}
 
 module _ (classes values : List ℕ) (span : Span) where
   -- the numbers to be written

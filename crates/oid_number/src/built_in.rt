@@ -3,7 +3,7 @@ ghost use mathlib.Core.Path.{_≡_};
 ghost use Prim.Native.Nat.{_≤_};
 ghost use lib.ListN.{length};
 ghost use Rattle.symbol.specs.Symbol.{iso-oid, numbers-of};
-ghost use Rattle.oid_number.specs.Buffer.{Written};
+ghost use Rattle.overlay.specs.Writing.{Written};
 use symbol::SYMBOLS;
 
 // The one number of `iso`.

@@ -3,7 +3,7 @@ ghost use mathlib.Core.Path.{_≡_};
 ghost use Prim.Native.Nat.{_≤_};
 ghost use lib.ListN.{length, getD};
 ghost use Rattle.oid_number.specs.Number.{is-number, number-tokens, parts-in};
-ghost use Rattle.oid_number.specs.Buffer.{Written};
+ghost use Rattle.overlay.specs.Writing.{Written};
 use definition::Span;
 
 // Whether token i is a number; past the last there is none.

@@ -16,14 +16,12 @@ use oid_tree::MOST_NUMBERS;
 use records::WIDTH;
 use syntax::Answer as Parsing;
 use syntax::parse;
+use token::LONGEST_TEXT;
 
 // How many words the working parts of the record buffer and of the number buffer have.
 pub const RECORD_WORDS: usize = MOST_DEFINITIONS * WIDTH;
 
 pub const NUMBER_WORDS: usize = MOST_NUMBERS;
-
-// The most bytes that a text may have.
-pub const LONGEST_TEXT: usize = 65536;
 
 // The answer to a text. specs/Buffers.antt gives each case its number, place and count.
 pub enum Answer {

@@ -13,7 +13,6 @@ ghost use Rattle.oid_tree.specs.Refusal.{most-numbers, counts-before};
 ghost use Rattle.reader.specs.Reading.{judged, rules};
 ghost use Rattle.reader.specs.Buffers.{record-words, number-words, examined-to, refusal-of, Laid};
 use crate::Examined;
-use crate::LONGEST_TEXT;
 use crate::Refusal;
 use crate::objects::judge_objects;
 use crate::syntaxes::judge_syntaxes;
@@ -29,6 +28,7 @@ use oid_holder::judge_twins;
 use oid_tree::collect_oids;
 use records::write_records;
 use rule::Judgement;
+use token::LONGEST_TEXT;
 
 // How many words the most definitions have.
 const TABLE_WORDS: usize = MOST_DEFINITIONS * WIDTH;

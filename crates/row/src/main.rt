@@ -67,6 +67,12 @@ fn read_list(space: &mut [u8], out: Output) -> Output {
     next
 }
 
+// The flags of a case: whether the row is complete, and whether the agent is willing.
+struct Flags {
+    complete: bool,
+    willing: bool,
+}
+
 // Answers one case, or says which of its words does not fit.
 fn answer_case(case: &[u8], separator: u8, line: u64, out: Output) -> Output {
     let count = words::count_words(case, separator);
@@ -91,30 +97,31 @@ fn answer_case(case: &[u8], separator: u8, line: u64, out: Output) -> Output {
     let Flag::Is(willing) = words::read_flag(willing_word) else {
         return complain_flag(out, line, willing_word);
     };
+    let flags = Flags { complete, willing };
     let state_word = words::part(case, separator, 0);
     if count == 3 {
-        return answer_each(state_word, complete, willing, line, out);
+        return answer_each(state_word, flags, line, out);
     }
     let value_word = words::part(case, separator, 3);
-    answer_one(state_word, value_word, complete, willing, line, out)
+    answer_one(state_word, flags, value_word, line, out)
 }
 
 // Answers each set value that RFC 2579 names. What is refused is part of the answer then; only a state that does not exist is not.
-fn answer_each(state_word: &[u8], complete: bool, willing: bool, line: u64, out: Output) -> Output {
+fn answer_each(state_word: &[u8], flags: Flags, line: u64, out: Output) -> Output {
     match words::read_natural(state_word) {
-        Natural::Is(state) => print_each(state_word, state, complete, willing, out),
-        Natural::Beyond => print_each(state_word, LONG_STATE, complete, willing, out),
+        Natural::Is(state) => print_each(state_word, state, flags, out),
+        Natural::Beyond => print_each(state_word, LONG_STATE, flags, out),
         Natural::IsNot => complain_state(out, line, state_word),
     }
 }
 
-fn print_each(state_word: &[u8], state: u64, complete: bool, willing: bool, out: Output) -> Output {
-    let out = print_set(state_word, state, b"1", 1, complete, willing, out);
-    let out = print_set(state_word, state, b"2", 2, complete, willing, out);
-    let out = print_set(state_word, state, b"3", 3, complete, willing, out);
-    let out = print_set(state_word, state, b"4", 4, complete, willing, out);
-    let out = print_set(state_word, state, b"5", 5, complete, willing, out);
-    let out = print_set(state_word, state, b"6", 6, complete, willing, out);
+fn print_each(state_word: &[u8], state: u64, flags: Flags, out: Output) -> Output {
+    let out = print_set(state_word, state, flags, b"1", 1, out);
+    let out = print_set(state_word, state, flags, b"2", 2, out);
+    let out = print_set(state_word, state, flags, b"3", 3, out);
+    let out = print_set(state_word, state, flags, b"4", 4, out);
+    let out = print_set(state_word, state, flags, b"5", 5, out);
+    let out = print_set(state_word, state, flags, b"6", 6, out);
     if row_status::NOT_READY < state {
         return output::refuse(out);
     }
@@ -124,31 +131,14 @@ fn print_each(state_word: &[u8], state: u64, complete: bool, willing: bool, out:
 // Answers one set value.
 fn answer_one(
     state_word: &[u8],
+    flags: Flags,
     value_word: &[u8],
-    complete: bool,
-    willing: bool,
     line: u64,
     out: Output,
 ) -> Output {
     match words::read_natural(state_word) {
-        Natural::Is(state) => answer_value(
-            state_word,
-            state,
-            value_word,
-            complete,
-            willing,
-            line,
-            out,
-        ),
-        Natural::Beyond => answer_value(
-            state_word,
-            LONG_STATE,
-            value_word,
-            complete,
-            willing,
-            line,
-            out,
-        ),
+        Natural::Is(state) => answer_value(state_word, state, flags, value_word, line, out),
+        Natural::Beyond => answer_value(state_word, LONG_STATE, flags, value_word, line, out),
         Natural::IsNot => complain_state(out, line, state_word),
     }
 }
@@ -156,47 +146,34 @@ fn answer_one(
 fn answer_value(
     state_word: &[u8],
     state: u64,
+    flags: Flags,
     value_word: &[u8],
-    complete: bool,
-    willing: bool,
     line: u64,
     out: Output,
 ) -> Output {
     match words::read_number(value_word) {
-        Number::Is(value) => print_one(
-            state_word,
-            state,
-            value_word,
-            value,
-            complete,
-            willing,
-            out,
-        ),
-        Number::Beyond(_) => print_one(
-            state_word,
-            state,
-            value_word,
-            LONG_VALUE,
-            complete,
-            willing,
-            out,
-        ),
+        Number::Is(value) => print_one(state_word, state, flags, value_word, value, out),
+        Number::Beyond(_) => print_one(state_word, state, flags, value_word, LONG_VALUE, out),
         Number::IsNot => complain(out, line, value_word, b"is no number"),
     }
+}
+
+// What a set value does to a row of this state.
+fn set(state: u64, flags: Flags, value: i64) -> Answer {
+    row_status::set(state, value, flags.complete, flags.willing)
 }
 
 // The line of one set value, which is refused unless the set succeeds.
 fn print_one(
     state_word: &[u8],
     state: u64,
+    flags: Flags,
     value_word: &[u8],
     value: i64,
-    complete: bool,
-    willing: bool,
     out: Output,
 ) -> Output {
-    let out = print_set(state_word, state, value_word, value, complete, willing, out);
-    if row_status::set(state, value, complete, willing).number() != 0 {
+    let out = print_set(state_word, state, flags, value_word, value, out);
+    if set(state, flags, value).number() != 0 {
         return output::refuse(out);
     }
     out
@@ -206,13 +183,12 @@ fn print_one(
 fn print_set(
     state_word: &[u8],
     state: u64,
+    flags: Flags,
     value_word: &[u8],
     value: i64,
-    complete: bool,
-    willing: bool,
     out: Output,
 ) -> Output {
-    let answer = row_status::set(state, value, complete, willing);
+    let answer = set(state, flags, value);
     let out = print(out, value_word);
     let out = print_name(value, out);
     let out = print_number(out, answer.number());

@@ -1,31 +1,20 @@
-// The built-in symbols: which one a token names, the module that offers it, and what it is. specs/Symbol.antt has the symbols;
+// The built-in symbols: what each is; in part.rt, which one a name is, and the module that offers it. specs/Symbol.antt has the symbols;
 // those of the code stand in table.rt, in the same order.
 ghost use mathlib.Core.Path.{_≡_};
 ghost use Prim.Native.Nat.{_+_, _<_};
 ghost use lib.ListN.{length, getD};
-ghost use Rattle.lexicon.specs.Word.{same, Within};
-ghost use Rattle.token.specs.Cut.{cut, meanings-in, said};
-ghost use Rattle.token.specs.Table.{TokenTable};
-ghost use Rattle.symbol.specs.Symbol.{symbol-count, symbol-names, symbol-of, module-name, what-is, numbers-of, sort-of, type-class, class-of-sort, is-smi-type, iso-name, start-in, part, Joined};
+ghost use Rattle.symbol.specs.Symbol.{symbol-count, what-is, numbers-of, sort-of, type-class, class-of-sort, is-smi-type, start-in, part};
 
 pub mod class;
 pub mod part;
 mod table;
 
-use crate::table::ISO;
-use crate::table::MODULE_NAMES;
-use crate::table::MODULE_STARTS;
 use crate::table::MODULES;
-use crate::table::NAME_BYTES;
-use crate::table::NAME_STARTS;
-use crate::table::NAMES;
 use crate::table::NUMBER_STARTS;
 use crate::table::NUMBERS;
 use crate::table::SORTS;
-use index::TokenIndex;
-use token::entry::has_name;
 
-// How many symbols there are: what `find` answers where a token names none.
+// How many symbols there are: what `symbol_named` answers where a name is none.
 pub const SYMBOLS: usize = table::SYMBOLS;
 
 // What a symbol is: a name with an OID, a type with its class, or a macro.
@@ -54,116 +43,6 @@ fn start(starts: &[u16], k: usize) -> usize
     ensures { λ r. ⌜ r ≡ start-in (now (starts .entry)) k ⌝ }
 {
     wide_u16(starts[k])
-}
-
-// Whether token i has the name k of a table of joined names.
-fn has_name_of(
-    text: &[u8],
-    classes: &[u8; 65536],
-    starts: &[u32; 65536],
-    ends: &[u32; 65536],
-    n: usize,
-    i: TokenIndex,
-    names: &[u8],
-    offsets: &[u16],
-    k: usize,
-) -> bool
-    requires table { ⌜ TokenTable (now text) (cut (now text) .tokens) (now classes) (now starts) (now ends) n ⌝ }
-    requires index { ⌜ i .0 < n ⌝ }
-    requires name { ⌜ k + 1 < length (now offsets) ⌝ }
-    requires part { ⌜ Within (now names) (start-in (now offsets) k) (start-in (now offsets) (k + 1)) ⌝ }
-    ensures { λ r. ⌜ r ≡ same (said (meanings-in (now (text .entry))) (i .0) .spelling) (part (now (names .entry)) (now (offsets .entry)) k) ⌝ }
-{
-    let from = start(offsets, k);
-    let to = start(offsets, k + 1);
-    has_name(text, classes, starts, ends, n, i, names, from, to)
-}
-
-// The symbol that token i names, by the names of the symbols.
-fn find_in(
-    text: &[u8],
-    classes: &[u8; 65536],
-    starts: &[u32; 65536],
-    ends: &[u32; 65536],
-    n: usize,
-    i: TokenIndex,
-    names: &[u8; NAME_BYTES],
-    offsets: &[u16; SYMBOLS + 1],
-) -> usize
-    requires table { ⌜ TokenTable (now text) (cut (now text) .tokens) (now classes) (now starts) (now ends) n ⌝ }
-    requires index { ⌜ i .0 < n ⌝ }
-    requires names { ⌜ Joined symbol-names (now names) (now offsets) ⌝ }
-    ensures { λ r. ⌜ r ≡ symbol-of (said (meanings-in (now (text .entry))) (i .0) .spelling) ⌝ }
-{
-    let mut k = 0;
-    while k < SYMBOLS {
-        if has_name_of(text, classes, starts, ends, n, i, names, offsets, k) {
-            return k;
-        }
-        k += 1;
-    }
-    SYMBOLS
-}
-
-// The symbol that token i names, or SYMBOLS where it names none.
-pub fn find(
-    text: &[u8],
-    classes: &[u8; 65536],
-    starts: &[u32; 65536],
-    ends: &[u32; 65536],
-    n: usize,
-    i: TokenIndex,
-) -> usize
-    requires table { ⌜ TokenTable (now text) (cut (now text) .tokens) (now classes) (now starts) (now ends) n ⌝ }
-    requires index { ⌜ i .0 < n ⌝ }
-    ensures { λ r. ⌜ r ≡ symbol-of (said (meanings-in (now (text .entry))) (i .0) .spelling) ⌝ }
-{
-    find_in(text, classes, starts, ends, n, i, &NAMES, &NAME_STARTS)
-}
-
-// Whether token i is `iso`.
-pub fn is_iso(
-    text: &[u8],
-    classes: &[u8; 65536],
-    starts: &[u32; 65536],
-    ends: &[u32; 65536],
-    n: usize,
-    i: TokenIndex,
-) -> bool
-    requires table { ⌜ TokenTable (now text) (cut (now text) .tokens) (now classes) (now starts) (now ends) n ⌝ }
-    requires index { ⌜ i .0 < n ⌝ }
-    ensures { λ r. ⌜ r ≡ same (said (meanings-in (now (text .entry))) (i .0) .spelling) iso-name ⌝ }
-{
-    has_name(text, classes, starts, ends, n, i, &ISO, 0, ISO.len())
-}
-
-// Whether token m is the name of the module that offers symbol k.
-pub fn offered_by(
-    text: &[u8],
-    classes: &[u8; 65536],
-    starts: &[u32; 65536],
-    ends: &[u32; 65536],
-    n: usize,
-    k: usize,
-    m: TokenIndex,
-) -> bool
-    requires table { ⌜ TokenTable (now text) (cut (now text) .tokens) (now classes) (now starts) (now ends) n ⌝ }
-    requires index { ⌜ m .0 < n ⌝ }
-    requires symbol { ⌜ k < symbol-count ⌝ }
-    ensures { λ r. ⌜ r ≡ same (said (meanings-in (now (text .entry))) (m .0) .spelling) (module-name k) ⌝ }
-{
-    let module = wide_u8(MODULES[k]);
-    has_name_of(
-        text,
-        classes,
-        starts,
-        ends,
-        n,
-        m,
-        &MODULE_NAMES,
-        &MODULE_STARTS,
-        module,
-    )
 }
 
 // What symbol k is.

@@ -1,5 +1,5 @@
-// The same of a name that stands from start to end of a text: which symbol it is, whether it is `iso`, and whether it is the module that
-// offers a symbol.
+// Of a name that stands from start to end of a text: which symbol it is, whether it is `iso`, and whether it is the module that offers a
+// symbol.
 ghost use mathlib.Core.Path.{_≡_};
 ghost use Prim.Native.Nat.{_+_, _<_};
 ghost use lib.ListN.{length};

@@ -9,6 +9,7 @@ ghost use Rattle.syntax.specs.Parsing.{Parses, Tabled};
 ghost use Rattle.syntax.specs.Placing.{placed};
 use grammar::Reading;
 use index::Place;
+use token::LONGEST_TEXT;
 
 // The answer to a text. specs/Parsing.antt gives each case its number and place.
 pub enum Answer {
@@ -23,9 +24,9 @@ pub enum Answer {
 // Cuts a text of at most 65,536 bytes into tokens and reads these by the grammar. The arrays become its token table.
 pub fn parse(
     text: &[u8],
-    classes: &mut [u8; 65536],
-    starts: &mut [u32; 65536],
-    ends: &mut [u32; 65536],
+    classes: &mut [u8; LONGEST_TEXT],
+    starts: &mut [u32; LONGEST_TEXT],
+    ends: &mut [u32; LONGEST_TEXT],
 ) -> Answer
     requires { ⌜ Lent (now text) (now classes) (now starts) (now ends) ⌝ }
     ensures right { λ r. ⌜ Parses (now (text .entry)) r ⌝ }
@@ -39,7 +40,12 @@ pub fn parse(
 
 // What the grammar says of a text of `size` bytes that cuts into the first `count` entries of the table. The place of the
 // end is the text's length.
-fn judge(classes: &[u8; 65536], starts: &[u32; 65536], count: usize, size: usize) -> Answer
+fn judge(
+    classes: &[u8; LONGEST_TEXT],
+    starts: &[u32; LONGEST_TEXT],
+    count: usize,
+    size: usize,
+) -> Answer
     requires few { ⌜ count ≤ longest-text ⌝ }
     requires long { ⌜ length (now classes) ≡ longest-text ⌝ }
     ensures { λ r. ⌜ r ≡ placed count (now (starts .entry)) size (run module-automaton (take count (now (classes .entry)))) ⌝ }

@@ -12,6 +12,7 @@ use clause_table::collect_name_clauses;
 use clause_table::collect_row_clauses;
 use index::RecordIndex;
 use module_table::Definition;
+use module_table::MOST_DEFINITIONS;
 use module_table::count;
 use module_table::definition_at;
 use object_tree::is_object;
@@ -58,9 +59,9 @@ pub fn judge_tables(values: &[u32], definitions: &[usize], numbers: &[u32]) -> J
     requires { ⌜ length (definitions-in (now definitions)) ≤ most-definitions ⌝ }
     ensures { λ r. ⌜ r ≡ judge-one (table-broken (definitions-in (now (definitions .entry))) (now (values .entry)) (now (numbers .entry))) ⌝ }
 {
-    let mut row_clauses = [0u8; 512];
+    let mut row_clauses = [0u8; MOST_DEFINITIONS];
     collect_row_clauses(definitions, numbers, &mut row_clauses);
-    let mut name_clauses = [0u8; 512];
+    let mut name_clauses = [0u8; MOST_DEFINITIONS];
     collect_name_clauses(values, definitions, &mut name_clauses);
     let n = count(definitions);
     let mut k = 0;

@@ -1,15 +1,13 @@
 -- The token table that a cut leaves, and what the layers above read of a table: entry i is token i, whose bytes lie in the text.
 -- Assumes nothing.
-use mathlib.Core.Path.{_≡_, refl, sym, ap, _∙_}
+use mathlib.Core.Path.{_≡_, refl, sym, ap}
 use mathlib.Core.List.{List, map}
 use Prim.Native.Nat.{ℕ, _-_, _≤_, _<_}
 use native.Mathlib.Omega.{arith}
-use lib.ListN.{length, getD, length-map, length-append, length-drop, List·getD-map}
-use borrow.Author.Tests.{le-leb, lt-leb}
-use Rattle.terminal.specs.Terminal.{lower}
-use Rattle.lexicon.specs.Word.{between, Within}
-use Rattle.token.specs.Token.{Tok, Meaning, tok, meaning, meanings, spelling-of, no-token, class-of-token}
-use Rattle.token.specs.Cut.{Ending, whole, refused, cut, said}
+use lib.ListN.{length, getD, length-map, length-append, length-drop}
+use Rattle.lexicon.specs.Word.{between}
+use Rattle.token.specs.Token.{Tok, tok, meaning, no-token, class-of-token}
+use Rattle.token.specs.Cut.{Ending, whole, refused, cut}
 use Rattle.token.specs.Law.{Sound}
 use Rattle.token.specs.Table.{longest-text, entry, TokenTable, Lent, overlaid, answer-to, Held}
 use Rattle.token.specs.declared.Answer.{Answer}
@@ -77,7 +75,7 @@ module _
     unfolding entry tok
     end-at = ap (λ (x : Tok). x .end) (t .entry-is i h)
 
-    pub entry-sound : Sound text
+    entry-sound : Sound text
         (tok (getD classes i 0) (getD starts i 0) (getD ends i 0) (between text (getD starts i 0) (getD ends i 0)))
     unfolding entry
     entry-sound = rw (t .entry-is i h) (t .sound i h)
@@ -86,32 +84,3 @@ module _
     pub entry-place : (getD starts i 0 < getD ends i 0) × (getD ends i 0 ≤ length text)
     unfolding tok
     entry-place = (entry-sound .nonempty, entry-sound .inside)
-
-    -- the list of what the tokens say has there what the token says
-    pub said-at : said (meanings ts) i ≡ getD ts i no-token .says
-    unfolding tok
-    said-at = List·getD-map (λ (x : Tok). x .says) ts i no-token
-
-    -- which its class and its bytes make
-    pub said-is : said (meanings ts) i ≡ meaning (getD classes i 0) (between text (getD starts i 0) (getD ends i 0))
-    unfolding entry tok
-    said-is = said-at ∙ sym (ap (λ (x : Tok). x .says) (t .entry-is i h))
-
-    -- the spelling is all its bytes where it is a name, and empty where it is none: it lies in the text
-    abbrev Spelled : ℕ → ℕ → Type 0
-    Spelled start end = Within text start end × (said (meanings ts) i .spelling ≡ between text start end)
-
-    pub no-name-part : getD classes i 0 < lower → (start : ℕ) → start ≡ getD starts i 0 → Spelled start start
-    unfolding meaning spelling-of
-    no-name-part other start is =
-        let none : start - start ≡ 0 = omega arith in (
-          record { ordered = omega arith; inside = omega (arith, entry-place) },
-          ap (λ (m : Meaning). m .spelling) said-is ∙ rw none (simp (lt-leb lower (getD classes i 0) other)),
-        )
-
-    pub name-part : lower ≤ getD classes i 0 → (start end : ℕ) → start ≡ getD starts i 0 → end ≡ getD ends i 0 → Spelled start end
-    unfolding meaning spelling-of
-    name-part name start end is to = (
-      record { ordered = omega (arith, entry-place); inside = omega (arith, entry-place) },
-      ap (λ (m : Meaning). m .spelling) said-is ∙ rw (is, to) (simp (le-leb lower (getD classes i 0) name)),
-    )

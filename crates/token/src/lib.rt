@@ -1,9 +1,6 @@
 // Any bytes cut into the tokens of an SMI module, or refused at the right byte. specs/Cut.antt says what the cut of a text is.
 ghost use mathlib.Core.Path.{_≡_};
 ghost use Rattle.token.specs.Table.{Held, Lent, refusal-of};
-
-pub mod entry;
-
 use index::Place;
 use lexicon::byte::class_table;
 use lexicon::byte::is_blank;
@@ -11,6 +8,9 @@ use lexicon::word::lookup_table;
 use piece::Found;
 use piece::GAP;
 use piece::piece_at;
+
+// The most bytes that a text may have, and so the most tokens.
+pub const LONGEST_TEXT: usize = 65536;
 
 // The answer to a cut: how many tokens the text has, or the refusal's number and place.
 pub enum Answer {
@@ -32,9 +32,9 @@ fn refusal(found: Found) -> Answer
 // where the cut ends; their other entries stay as they are.
 pub fn cut(
     text: &[u8],
-    classes: &mut [u8; 65536],
-    starts: &mut [u32; 65536],
-    ends: &mut [u32; 65536],
+    classes: &mut [u8; LONGEST_TEXT],
+    starts: &mut [u32; LONGEST_TEXT],
+    ends: &mut [u32; LONGEST_TEXT],
 ) -> Answer
     requires { ⌜ Lent (now text) (now classes) (now starts) (now ends) ⌝ }
     ensures { λ r. ⌜ Held (now (text .entry)) r (now (classes .entry)) (now (starts .entry)) (now (ends .entry)) (now (classes .exit)) (now (starts .exit)) (now (ends .exit)) ⌝ }

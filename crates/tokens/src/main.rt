@@ -13,9 +13,7 @@ use output::print;
 use output::print_number;
 use output::print_tab;
 use syntax::Answer;
-
-// A text may have this many bytes. The buffer for it has one more, to tell a longer file.
-const LONGEST: usize = 65536;
+use token::LONGEST_TEXT;
 
 fn main() {
     let count = os::arg_count();
@@ -25,7 +23,8 @@ fn main() {
         return;
     }
     let mut name = io::buffer();
-    let mut buf = [0u8; 65537];
+    // One byte more than a text may have, to tell a longer file.
+    let mut buf = [0u8; LONGEST_TEXT + 1];
     let mut i = 1;
     while i < count {
         out = list_argument(i, &mut name, 2 < count, &mut buf, out);
@@ -74,7 +73,7 @@ fn print_line(line: &[u8], out: Output) -> Output {
 
 // Lists a text, or refuses it where it is too long.
 fn list_bytes(text: &[u8], out: Output) -> Output {
-    if LONGEST < text.len() {
+    if LONGEST_TEXT < text.len() {
         return print_refusal(2, 0, out);
     }
     list_text(text, out)
@@ -93,9 +92,9 @@ fn print_refusal(number: u64, place: u64, out: Output) -> Output {
 fn list_text(text: &[u8], out: Output) -> Output
     requires { ⌜ length (now text) ≤ longest-text ⌝ }
 {
-    let mut classes = [0u8; 65536];
-    let mut starts = [0u32; 65536];
-    let mut ends = [0u32; 65536];
+    let mut classes = [0u8; LONGEST_TEXT];
+    let mut starts = [0u32; LONGEST_TEXT];
+    let mut ends = [0u32; LONGEST_TEXT];
     let answer = syntax::parse(text, &mut classes, &mut starts, &mut ends);
     match answer {
         Answer::Derived(count) => {
@@ -113,9 +112,9 @@ fn list_text(text: &[u8], out: Output) -> Output
 // A line for each of the first `count` entries of the table.
 fn list_tokens(
     text: &[u8],
-    classes: &[u8; 65536],
-    starts: &[u32; 65536],
-    ends: &[u32; 65536],
+    classes: &[u8; LONGEST_TEXT],
+    starts: &[u32; LONGEST_TEXT],
+    ends: &[u32; LONGEST_TEXT],
     count: usize,
     out: Output,
 ) -> Output

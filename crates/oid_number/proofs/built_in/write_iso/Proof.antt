@@ -4,7 +4,7 @@ use mathlib.Core.Path.{refl}
 use native.Mathlib.Omega.{arith}
 use borrow.Author.Needs.{needs}
 use Rattle.symbol.specs.Symbol.{iso-oid}
-use Rattle.oid_number.proofs.Writing.{writing-start, writing-more, writing-end}
+use Rattle.overlay.proofs.Writing.{writing-start, writing-more, writing-end}
 use Rattle.oid_number.proofs.built_in.write_iso.Statement.{statement}
 use Rattle.oid_number.proofs.built_in.write_iso.Tie as tie
 

@@ -6,7 +6,7 @@ use Prim.Native.Nat.{ℕ, _-_, _≤_, _<_}
 use lib.ListN.{length, List·getD-eq-default}
 use native.Mathlib.Omega.{arith}
 use Rattle.symbol.specs.Symbol.{symbol-count, Symbol, symbols, no-symbol, symbol, what-is, numbers, numbers-of}
-use Rattle.oid_number.proofs.Writing.{Writing, writing-start, writing-length, writing-more, writing-end}
+use Rattle.overlay.proofs.Writing.{Writing, writing-start, writing-length, writing-more, writing-end}
 use Rattle.oid_number.proofs.built_in.write_symbol.Statement.{statement}
 use Rattle.oid_number.proofs.built_in.write_symbol.Tie as tie
 

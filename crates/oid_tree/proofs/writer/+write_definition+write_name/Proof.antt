@@ -12,7 +12,7 @@ use Rattle.module_table.specs.declared.Lead.{Lead}
 use Rattle.oid_number.specs.Number.{parts-in}
 use Rattle.oid_head.specs.Oid.{named-in, reached-in, name-numbers, resolved-oid}
 use Rattle.oid_tree.proofs.Steps.{reached-some, head-reached, own-step}
-use Rattle.oid_number.proofs.Writing.{first-inside, second-room, returned-length, written-both, written-none}
+use Rattle.overlay.proofs.Writing.{first-inside, second-room, returned-length, written-both, written-none}
 use Prim.Native.Nat.{ℕ, _+_, _*_, _≤_, _<_}
 use borrow.Fn.Kinds.{In}
 use borrow.Fn.PlainCycle.{Measures, is, falls, and}

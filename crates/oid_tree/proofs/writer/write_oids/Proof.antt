@@ -11,7 +11,7 @@ use Rattle.oid_head.specs.Oid.{named-in, resolved-oid, numbers-before}
 use Rattle.oid_tree.proofs.Lengths.{before-more}
 use Rattle.oid_tree.proofs.Oids.{before-grows}
 use Rattle.oid_number.proofs.Laid.{overlaid-more, overlaid-first}
-use Rattle.oid_number.proofs.Writing.{overlaid-length}
+use Rattle.overlay.proofs.Writing.{overlaid-length}
 use Rattle.oid_tree.proofs.writer.write_oids.Statement.{statement}
 use Rattle.oid_tree.proofs.writer.write_oids.Tie as tie
 
