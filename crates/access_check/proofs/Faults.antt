@@ -17,8 +17,8 @@ use Rattle.rule.specs.declared.Judgement.the-variants.{Kept, Broken}
 use Rattle.rule.proofs.Judged.{breach-here, none-left}
 use Rattle.module_table.specs.Definition.{entry}
 use Rattle.module_table.specs.declared.Definition.{Definition}
-use Rattle.number_list.specs.Run.{run}
-use Rattle.number_list.proofs.Runs.{run-length, run-number}
+use Rattle.oid_run.specs.Run.{run}
+use Rattle.oid_run.proofs.Runs.{run-length, run-number}
 use Rattle.object_tree.specs.Words.{is-object, if_then_else_}
 use Rattle.object_tree.proofs.Parents.{both}
 use Rattle.access_check.specs.Access.{clashes, is-written-column, access-clause}

@@ -15,6 +15,7 @@ use object_tree::READ_WRITE;
 use object_tree::is_object;
 use object_tree::is_row;
 use object_tree::numbered;
+use sequence_list::PLACES;
 use sequence_list::columns_of;
 use sequence_list::type_of;
 
@@ -36,7 +37,7 @@ pub fn first_clash(values: &[u32], definitions: &[usize]) -> usize
     ensures { λ r. ⌜ r ≡ first (clashes (definitions-in (now (definitions .entry))) (now (values .entry))) 0 (length (definitions-in (now (definitions .entry)))) ⌝ }
 {
     let n = count(definitions);
-    let mut clear = [0u8; 513];
+    let mut clear = [0u8; PLACES];
     let mut k = 0;
     'records: while k < n {
         let number = written_type(definitions, RecordIndex(k));

@@ -12,6 +12,7 @@ use card_line::write_head;
 use card_line::write_record;
 use output::Output;
 use reader::Answer;
+use reader::FILE_BYTES;
 use reader::NUMBER_WORDS;
 use reader::RECORD_WORDS;
 
@@ -26,24 +27,20 @@ struct Laid {
 
 fn main() {
     let count = os::arg_count();
-    let mut laid = Laid {
-        at: 0,
-        out: output::start(),
-    };
-    if count <= 1 {
-        output::finish(complain_none(output::start()));
-        return;
-    }
-    let mut text = [0u8; 65537];
+    let out = start(count);
     let mut page = [0u8; 16384];
-    let mut name = io::buffer();
+    let mut laid = Laid { at: 0, out };
     let mut i = 1;
     while i < count {
-        laid = print_argument(i, &mut name, 2 < count, &mut text, &mut page, laid);
+        laid = print_argument(i, 2 < count, &mut page, laid);
         i += 1;
     }
     let done = write_out(&page, laid);
     output::finish(done.out);
+}
+
+fn start(count: usize) -> Output {
+    output::start_on_files(count, b"mib card", b"mib card FILE...")
 }
 
 // More is laid, up to this place.
@@ -65,10 +62,6 @@ fn refuse(laid: Laid) -> Laid
     }
 }
 
-fn complain_none(out: Output) -> Output {
-    output::complain(out, b"mib card", 0, b"", b"is no file", b"mib card FILE...")
-}
-
 // Writes out what is laid into the page.
 fn write_out(page: &[u8], laid: Laid) -> Laid
     requires { ⌜ laid .at ≤ length (now page) ⌝ }
@@ -77,7 +70,7 @@ fn write_out(page: &[u8], laid: Laid) -> Laid
     let at = laid.at;
     Laid {
         at: 0,
-        out: output::print(laid.out, &page[..at]),
+        out: output::print(laid.out, &page[0..at]),
     }
 }
 
@@ -104,45 +97,26 @@ fn fail(page: &[u8], laid: Laid, name: &[u8]) -> Laid
     }
 }
 
-// The card of the file that argument i names; or says that the name is too long for a file's.
-fn print_argument(
-    i: usize,
-    name: &mut [u8],
-    named: bool,
-    buf: &mut [u8],
-    page: &mut [u8],
-    laid: Laid,
-) -> Laid
-    requires name { ⌜ length (now name) ≤ longest-path ⌝ }
+// Lays the card of the file that argument i names into the page, behind a line with its name where it is named; or says why the file
+// cannot be read.
+fn print_argument(i: usize, named: bool, page: &mut [u8], laid: Laid) -> Laid
     requires size { ⌜ length (now page) ≡ page-size ⌝ }
     requires inside { ⌜ laid .at ≤ page-size ⌝ }
     ensures { λ r. ⌜ r .at ≤ page-size ⌝ }
 {
-    let n = os::arg(i, name);
-    if os::errno() != 0 {
-        return fail(page, laid, name);
+    let mut name = io::buffer();
+    let mut buf = [0u8; FILE_BYTES];
+    let file = command::read_argument(i, &mut name, &mut buf);
+    let n = file.name;
+    if file.failed {
+        return fail(page, laid, &name[0..n]);
     }
-    print_file(&name[..n], named, buf, page, laid)
-}
-
-// Lays the card of one file into the page, behind a line with its name where it is named; or says why the file cannot be read. The
-// buffer for the text has a byte more than a text may have, to tell a longer file.
-fn print_file(name: &[u8], named: bool, buf: &mut [u8], page: &mut [u8], laid: Laid) -> Laid
-    requires name { ⌜ length (now name) ≤ longest-path ⌝ }
-    requires size { ⌜ length (now page) ≡ page-size ⌝ }
-    requires inside { ⌜ laid .at ≤ page-size ⌝ }
-    ensures { λ r. ⌜ r .at ≤ page-size ⌝ }
-{
-    let content = command::read_file(name, buf);
-    if content.failed {
-        return fail(page, laid, name);
-    }
-    let n = content.count;
+    let count = file.count;
     if named {
-        let next = write_name(name, page, laid);
-        return print_card(&buf[..n], page, next);
+        let next = write_name(&name[0..n], page, laid);
+        return print_card(&buf[0..count], page, next);
     }
-    print_card(&buf[..n], page, laid)
+    print_card(&buf[0..count], page, laid)
 }
 
 // A line with a file's name.

@@ -15,8 +15,8 @@ use Rattle.index.proofs.Hits.{hits-hit, hits-miss, hits-none, hits-few}
 use Rattle.module_table.specs.Definition.{entry}
 use Rattle.module_table.specs.Module.{oid-in}
 use Rattle.module_table.specs.declared.Definition.{Definition}
-use Rattle.number_list.specs.Run.{run}
-use Rattle.number_list.proofs.Runs.{run-length, run-number}
+use Rattle.oid_run.specs.Run.{run}
+use Rattle.oid_run.proofs.Runs.{run-length, run-number}
 use Rattle.object_tree.specs.Words.{is-row}
 use Rattle.sequence_list.specs.Named.{type-of}
 use Rattle.sequence_list.specs.Held.{places}

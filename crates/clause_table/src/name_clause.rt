@@ -18,6 +18,7 @@ use object_tree::number_at;
 use object_tree::numbered;
 use sequence_list::ALIKE;
 use sequence_list::MIXED;
+use sequence_list::PLACES;
 use sequence_list::REPEATING;
 use sequence_list::collect_listed;
 use sequence_list::collect_verdicts;
@@ -54,9 +55,9 @@ fn is_unfounded(values: &[u32], definitions: &[usize], d: Definition) -> bool
 fn name_clause(
     values: &[u32],
     definitions: &[usize],
-    verdicts: &[u8; 513],
-    parents: &[usize; 513],
-    listed: &[u8; 513],
+    verdicts: &[u8; PLACES],
+    parents: &[usize; PLACES],
+    listed: &[u8; PLACES],
     k: RecordIndex,
 ) -> u8
     requires verdicts { ⌜ VerdictTable (definitions-in (now definitions)) (now values) (now verdicts) (now parents) ⌝ }
@@ -90,10 +91,10 @@ pub fn collect_name_clauses(
     requires room { ⌜ length (now clauses) ≡ most-definitions ⌝ }
     ensures { λ _. ⌜ ClauseTable (name-clause (definitions-in (now (definitions .entry))) (now (values .entry))) (length (definitions-in (now (definitions .entry)))) (now (clauses .exit)) ⌝ }
 {
-    let mut verdicts = [0u8; 513];
-    let mut parents = [0usize; 513];
+    let mut verdicts = [0u8; PLACES];
+    let mut parents = [0usize; PLACES];
     collect_verdicts(values, definitions, &mut verdicts, &mut parents);
-    let mut listed = [0u8; 513];
+    let mut listed = [0u8; PLACES];
     collect_listed(values, definitions, &mut listed);
     let n = count(definitions);
     let mut k = 0;

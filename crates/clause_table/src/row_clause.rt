@@ -16,10 +16,11 @@ use object_tree::is_row;
 use object_tree::is_table;
 use object_tree::numbered;
 use oid_run::run_of;
+use sequence_list::PLACES;
 use sequence_list::type_of;
 
 // Notes how many rows each SEQUENCE type has, and the first of them: from the last definition to the first.
-fn collect_rows(definitions: &[usize], counts: &mut [usize; 513], firsts: &mut [usize; 513])
+fn collect_rows(definitions: &[usize], counts: &mut [usize; PLACES], firsts: &mut [usize; PLACES])
     requires few { ⌜ length (definitions-in (now definitions)) ≤ most-definitions ⌝ }
     requires none { ⌜ RowsFrom (definitions-in (now definitions)) (length (definitions-in (now definitions))) (now counts) (now firsts) ⌝ }
     ensures { λ _. ⌜ RowsFrom (definitions-in (now (definitions .entry))) 0 (now (counts .exit)) (now (firsts .exit)) ⌝ }
@@ -55,8 +56,8 @@ fn has_its_row(
     definitions: &[usize],
     numbers: &[u32],
     k: RecordIndex,
-    counts: &[usize; 513],
-    firsts: &[usize; 513],
+    counts: &[usize; PLACES],
+    firsts: &[usize; PLACES],
 ) -> bool
     requires rows { ⌜ RowsFrom (definitions-in (now definitions)) 0 (now counts) (now firsts) ⌝ }
     requires few { ⌜ k .0 < most-definitions ⌝ }
@@ -91,8 +92,8 @@ fn is_rowless(
     definitions: &[usize],
     numbers: &[u32],
     k: RecordIndex,
-    counts: &[usize; 513],
-    firsts: &[usize; 513],
+    counts: &[usize; PLACES],
+    firsts: &[usize; PLACES],
 ) -> bool
     requires rows { ⌜ RowsFrom (definitions-in (now definitions)) 0 (now counts) (now firsts) ⌝ }
     requires few { ⌜ k .0 < most-definitions ⌝ }
@@ -133,8 +134,8 @@ fn row_clause(
     definitions: &[usize],
     numbers: &[u32],
     k: RecordIndex,
-    counts: &[usize; 513],
-    firsts: &[usize; 513],
+    counts: &[usize; PLACES],
+    firsts: &[usize; PLACES],
 ) -> u8
     requires rows { ⌜ RowsFrom (definitions-in (now definitions)) 0 (now counts) (now firsts) ⌝ }
     requires few { ⌜ k .0 < most-definitions ⌝ }
@@ -159,8 +160,8 @@ pub fn collect_row_clauses(
     requires room { ⌜ length (now clauses) ≡ most-definitions ⌝ }
     ensures { λ _. ⌜ ClauseTable (row-clause (definitions-in (now (definitions .entry))) (now (numbers .entry))) (length (definitions-in (now (definitions .entry)))) (now (clauses .exit)) ⌝ }
 {
-    let mut counts = [0usize; 513];
-    let mut firsts = [0usize; 513];
+    let mut counts = [0usize; PLACES];
+    let mut firsts = [0usize; PLACES];
     collect_rows(definitions, &mut counts, &mut firsts);
     let n = count(definitions);
     let mut k = 0;

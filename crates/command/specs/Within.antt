@@ -1,5 +1,6 @@
 -- That what is found in a buffer lies inside it. Assumes nothing.
 use Prim.Native.Nat.{ℕ, _≤_}
+use Rattle.command.specs.declared.list.List.{List}
 use Rattle.command.specs.declared.line.Lines.{Lines}
 use Rattle.command.specs.declared.line.Line.{Line}
 use Rattle.command.specs.declared.line.Line.the-variants as line
@@ -20,3 +21,12 @@ LineWithin (line.At from to rest) size = PartWithin from to size × LinesWithin 
 LineWithin (line.TooLong rest) size = LinesWithin rest size
 LineWithin line.Failed size = Unit {0}
 LineWithin line.End size = Unit {0}
+
+-- the number that stands for no line
+abbrev pub no-line : ℕ
+no-line = 18446744073709551615
+
+-- the last line of a list, and what is read behind it, stand in a buffer of that length
+pub record ListWithin (list : List) (size : ℕ) : Type 0 where
+  pub line : PartWithin (list .from) (list .to) size
+  pub rest : LinesWithin (list .rest) size

@@ -1,7 +1,8 @@
-// The words that the program was started with.
+// The words that the program was started with, and the files that they name.
 ghost use mathlib.Core.Path.{_≡_};
 ghost use Prim.Native.Nat.{_+_, _≤_};
 ghost use lib.ListN.{length};
+use crate::file::read_file;
 
 // Puts the program's arguments at the start of buf with a byte 0, which none of them can hold, between them, and
 // answers how many bytes that takes; or one more than buf has, where it cannot hold them.
@@ -49,4 +50,33 @@ fn argument(buf: &mut [u8], at: usize, index: usize) -> usize
         return buf.len() + 1;
     }
     at + n
+}
+
+// A file that an argument names: how many bytes its name has, and how many the file holds; or it cannot be read, and errno says why.
+pub struct Named {
+    pub name: usize,
+    pub count: usize,
+    pub failed: bool,
+}
+
+// Puts argument i at the start of one buffer, and what the file of that name holds at the start of the other, until it ends or the
+// buffer is full. Of a name that is too long for a file's, as much is kept as fits.
+pub fn read_argument(i: usize, name: &mut [u8], buf: &mut [u8]) -> Named
+    ensures name { λ r. ⌜ r .name ≤ length (now (name .entry)) ⌝ }
+    ensures bytes { λ r. ⌜ r .count ≤ length (now (buf .entry)) ⌝ }
+{
+    let n = os::arg(i, name);
+    if os::errno() != 0 {
+        return Named {
+            name: name.len(),
+            count: 0,
+            failed: true,
+        };
+    }
+    let content = read_file(&name[..n], buf);
+    Named {
+        name: n,
+        count: content.count,
+        failed: content.failed,
+    }
 }

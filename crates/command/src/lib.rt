@@ -2,10 +2,14 @@
 mod argument;
 mod file;
 mod line;
+mod list;
 
+pub use argument::Named;
 pub use argument::arguments;
+pub use argument::read_argument;
 pub use file::Content;
 pub use file::read_file;
-pub use line::Line;
-pub use line::Lines;
-pub use line::next_line;
+pub use list::List;
+pub use list::NO_LINE;
+pub use list::first_in_list;
+pub use list::next_in_list;

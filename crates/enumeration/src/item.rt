@@ -19,6 +19,7 @@ use crate::link::insert;
 use definition::Span;
 use definition::is_lower;
 use index::TokenIndex;
+use index::wide;
 use rule::Finding;
 use rule::Judgement;
 use sub_type::Limits;
@@ -28,6 +29,15 @@ use sub_type::is_outside;
 use sub_type::is_same_number;
 use sub_type::less;
 use sub_type::word_at;
+
+// How many words a chain has: a fifth of them heads, of a prime number of keys, 67 or 16,411, so that numbers in equal steps don't all
+// get the same. Most enumerations are short, and a short chain is sooner cleared.
+const SHORT_CHAIN: usize = 5 * 67;
+
+const LONG_CHAIN: usize = 5 * 16411;
+
+// The most tokens that the short one has room for.
+const SHORT_SPAN: usize = 256;
 
 // The token of an item's label, and the first token of its enumeration.
 pub struct Entry {
@@ -40,13 +50,6 @@ pub struct Keyed {
     pub base: usize,
     pub token: usize,
     pub key: usize,
-}
-
-// The same number in a wider type.
-fn wide(x: u32) -> usize
-    ensures { λ r. ⌜ r ≡ x ⌝ }
-{
-    x as usize
 }
 
 // Whether an earlier item has the label of this one: those of its key are looked at.
@@ -139,17 +142,16 @@ fn search_labels(
     token
 }
 
-// The first label that is there again; the end of the span where there is none. Most enumerations are short, and a short chain is
-// sooner cleared. Either has a prime number of keys, 67 or 16411, so that numbers in equal steps don't all get the same.
+// The first label that is there again; the end of the span where there is none.
 fn first_label_again(text: &[u8], starts: &[u32], ends: &[u32], classes: &[u8], span: Span) -> usize
     requires { ⌜ span .to ≤ 65536 ⌝ }
     ensures { λ r. ⌜ r ≡ first (label-again (spelling-in (now (text .entry)) (now (starts .entry)) (now (ends .entry))) (now (classes .entry)) (span .from)) (span .from) (span .to) ⌝ }
 {
-    if less(span.to, span.from) <= 256 {
-        let mut chain = [0u32; 335];
+    if less(span.to, span.from) <= SHORT_SPAN {
+        let mut chain = [0u32; SHORT_CHAIN];
         return search_labels(text, starts, ends, classes, span, &mut chain);
     }
-    let mut chain = [0u32; 82055];
+    let mut chain = [0u32; LONG_CHAIN];
     search_labels(text, starts, ends, classes, span, &mut chain)
 }
 
@@ -244,11 +246,11 @@ fn first_number_misfit(classes: &[u8], values: &[u32], limits: Limits, span: Spa
     requires { ⌜ span .to ≤ 65536 ⌝ }
     ensures { λ r. ⌜ r ≡ first (number-misfit (now (classes .entry)) (now (values .entry)) limits (span .from)) (span .from) (span .to) ⌝ }
 {
-    if less(span.to, span.from) <= 256 {
-        let mut chain = [0u32; 335];
+    if less(span.to, span.from) <= SHORT_SPAN {
+        let mut chain = [0u32; SHORT_CHAIN];
         return search_numbers(classes, values, limits, span, &mut chain);
     }
-    let mut chain = [0u32; 82055];
+    let mut chain = [0u32; LONG_CHAIN];
     search_numbers(classes, values, limits, span, &mut chain)
 }
 

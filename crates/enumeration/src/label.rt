@@ -7,6 +7,8 @@ ghost use Rattle.type_class.specs.Choice.{if_then_else_};
 ghost use Rattle.enumeration.specs.Item.{spelling-in, spelled, has-label};
 ghost use Rattle.enumeration.specs.Chain.{byte-sum, label-key};
 use definition::is_lower;
+use index::wide;
+use index::wide_byte;
 use lexicon::word::same_spelling;
 use sub_type::class_at;
 use sub_type::word_at;
@@ -15,19 +17,6 @@ use sub_type::word_at;
 pub struct Part {
     pub start: usize,
     pub end: usize,
-}
-
-// The same number in a wider type.
-fn wide(x: u32) -> usize
-    ensures { λ r. ⌜ r ≡ x ⌝ }
-{
-    x as usize
-}
-
-fn wide_byte(x: u8) -> usize
-    ensures { λ r. ⌜ (r ≡ x) × (r < 256) ⌝ }
-{
-    x as usize
 }
 
 // The smaller of two numbers.

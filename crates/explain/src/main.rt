@@ -10,6 +10,7 @@ use index::Place;
 use output::Output;
 use output::print;
 use reader::Examined;
+use reader::FILE_BYTES;
 use reader::NUMBER_WORDS;
 use reader::RECORD_WORDS;
 use reader::Refusal;
@@ -17,49 +18,30 @@ use source::print_source;
 
 fn main() {
     let count = os::arg_count();
-    let mut out = output::start();
-    if count <= 1 {
-        output::finish(complain_none(out));
-        return;
-    }
-    let mut name = io::buffer();
-    let mut buf = [0u8; 65537];
+    let mut out = start(count);
     let mut i = 1;
     while i < count {
-        out = explain_argument(i, &mut name, &mut buf, out);
+        out = explain_argument(i, out);
         i += 1;
     }
     output::finish(out);
 }
 
-fn complain_none(out: Output) -> Output {
-    output::complain(
-        out,
-        b"mib explain",
-        0,
-        b"",
-        b"is no file",
-        b"mib explain FILE...",
-    )
+fn start(count: usize) -> Output {
+    output::start_on_files(count, b"mib explain", b"mib explain FILE...")
 }
 
-// Explains the file that argument i names; or says that the name is too long for a file's.
-fn explain_argument(i: usize, name: &mut [u8], buf: &mut [u8], out: Output) -> Output {
-    let n = os::arg(i, name);
-    if os::errno() != 0 {
-        return output::fail(out, name);
+// Explains the file that argument i names; or says why it cannot be read.
+fn explain_argument(i: usize, out: Output) -> Output {
+    let mut name = io::buffer();
+    let mut buf = [0u8; FILE_BYTES];
+    let file = command::read_argument(i, &mut name, &mut buf);
+    let n = file.name;
+    if file.failed {
+        return output::fail(out, &name[0..n]);
     }
-    explain_file(&name[..n], buf, out)
-}
-
-// Explains one file; or says why it cannot be read. The buffer has a byte more than a text may have, to tell a longer file.
-fn explain_file(name: &[u8], buf: &mut [u8], out: Output) -> Output {
-    let content = command::read_file(name, buf);
-    if content.failed {
-        return output::fail(out, name);
-    }
-    let n = content.count;
-    explain_text(name, &buf[..n], out)
+    let count = file.count;
+    explain_text(&name[0..n], &buf[0..count], out)
 }
 
 // Number, place, clause and the other place are the reader's.

@@ -4,6 +4,7 @@ ghost use lib.ListN.{length};
 use output::Output;
 use output::print;
 use output::print_number;
+use reader::FILE_BYTES;
 
 // A place that is inside the text, or its end.
 pub fn within(text: &[u8], place: usize) -> usize
@@ -49,11 +50,11 @@ pub fn print_source(text: &[u8], place: usize, out: Output) -> Output {
 fn print_mark(text: &[u8], start: usize, count: usize, out: Output) -> Output
     requires { ⌜ start + count ≤ length (now text) ⌝ }
 {
-    let mut margin = [0u8; 65537];
+    let mut margin = [0u8; FILE_BYTES];
     if margin.len() < count {
         return out;
     }
     let n = position::write_margin(text, start, count, &mut margin);
-    let out = print(out, &margin[..n]);
+    let out = print(out, &margin[0..n]);
     print(out, b"^\n")
 }

@@ -3,10 +3,9 @@
 // hint_tool octets HINT HEX and hint_tool integer HINT NUMBER print one line: `printed` and the text as it is, or
 // `refused`, the refusal's number and its place, tabs between. Without arguments it reads the same words from standard
 // input, a case a line, with tabs between them.
-use command::Line;
-use command::Lines;
+use command::List;
+use command::NO_LINE;
 use hint::Answer;
-use libc::STDIN_FILENO;
 use output::Output;
 use output::print;
 use output::print_number;
@@ -14,53 +13,49 @@ use words::Number;
 use words::Octets;
 ghost use Prim.Native.Nat.{_≤_};
 ghost use lib.ListN.{length};
+ghost use Rattle.command.specs.Within.{ListWithin};
 ghost use Rattle.hint.specs.Answer.{length-of};
 
 fn main() {
     let mut space = io::large_buffer();
-    if os::arg_count() <= 1 {
-        let out = read_list(&mut space, output::start());
-        output::finish(out);
-        return;
-    }
-    let n = command::arguments(&mut space);
-    if space.len() < n {
-        let out = complain_long(output::start(), 0);
-        output::finish(out);
-        return;
-    }
-    let out = answer_case(&space[..n], 0, 0, output::start());
-    output::finish(out);
+    output::finish(answer(&mut space, output::start()));
 }
 
-// Answers each line of standard input. The lines are counted in 64 bits, which no run uses up.
-fn read_list(space: &mut [u8], out: Output) -> Output {
-    output::say_waiting(
-        b"mib hint: waiting for cases, a line each, tabs between the words: octets HINT HEX, or integer HINT NUMBER; Ctrl-D ends them\n",
-    );
-    let mut lines = Lines { from: 0, to: 0 };
-    let mut line: u64 = 0;
-    let mut next = out;
-    while line < u64::MAX {
-        line += 1;
-        match command::next_line(STDIN_FILENO, space, lines) {
-            Line::At(from, to, rest) => {
-                next = answer_case(&space[from..to], b'\t', line, next);
-                lines = rest;
-            }
-            Line::TooLong(rest) => {
-                next = complain_long(next, line);
-                lines = rest;
-            }
-            Line::Failed => {
-                return output::fail(next, b"mib hint: standard input");
-            }
-            Line::End => {
-                return next;
-            }
-        }
+// Answers the case that the arguments are; without arguments, the list on standard input.
+fn answer(space: &mut [u8], out: Output) -> Output {
+    if os::arg_count() <= 1 {
+        output::say_waiting(
+            b"mib hint: waiting for cases, a line each, tabs between the words: octets HINT HEX, or integer HINT NUMBER; Ctrl-D ends them\n",
+        );
+        return answer_list(space, out);
     }
-    next
+    let n = command::arguments(space);
+    if space.len() < n {
+        return complain_long(out, 0);
+    }
+    answer_case(&space[0..n], 0, 0, out)
+}
+
+fn answer_list(space: &mut [u8], out: Output) -> Output {
+    let mut list = command::first_in_list(space);
+    let mut next = out;
+    while list.line < NO_LINE {
+        next = answer_line(space, list, next);
+        list = command::next_in_list(space, list);
+    }
+    output::fail_if(next, list.failed, b"mib hint: standard input")
+}
+
+// Answers the last line of the list.
+fn answer_line(space: &[u8], list: List, out: Output) -> Output
+    requires { ⌜ ListWithin list (length (now space)) ⌝ }
+{
+    if list.long {
+        return complain_long(out, list.line);
+    }
+    let from = list.from;
+    let to = list.to;
+    answer_case(&space[from..to], b'\t', list.line, out)
 }
 
 // Answers one case, or says which of its words does not fit.
@@ -93,7 +88,7 @@ fn answer_octets(hint_word: &[u8], hex: &[u8], line: u64, out: Output) -> Output
         return complain_long(out, line);
     }
     let n = words::join_pairs(hex, &mut digits);
-    answer_digits(hint_word, hex, &digits[..n], line, out)
+    answer_digits(hint_word, hex, &digits[0..n], line, out)
 }
 
 // The same of the digits alone, which `hex` holds.
@@ -138,7 +133,7 @@ fn print_answer(answer: Answer, text: &[u8], out: Output) -> Output
     let n = answer.length();
     if answer.number() == 0 {
         let out = print(out, b"printed\t");
-        let out = print(out, &text[..n]);
+        let out = print(out, &text[0..n]);
         return output::end_line(out);
     }
     print_refusal(answer, output::refuse(out))

@@ -4,11 +4,11 @@ use mathlib.Core.Path.{_≡_, refl, ap, _∙_}
 use mathlib.Core.Bool.{Bool, true, false, cond}
 use mathlib.Core.List.{List, [], _∷_}
 use Prim.Native.Nat.{ℕ, zero, suc, _+_, _-_, _≤_, _<_}
-use native.Mathlib.Decide.{ℕ-discrete}
+use native.Mathlib.Decide.{ℕ-discrete, decLt}
 use native.Mathlib.Omega.{arith}
 use lib.ListN.{length, getD}
 use Rattle.index.specs.First.{first-of, first, hits-of, hits}
-use Rattle.index.proofs.Search.{true-false}
+use Rattle.index.proofs.Search.{true-false, first-from}
 
 -- an entry inside a list is the same whatever stands for one outside
 pub inside-same : (l : List ℕ) (i d e : ℕ) → i < length l → getD l i d ≡ getD l i e
@@ -140,3 +140,21 @@ module _ (test : ℕ → Bool) where
   pub hit-found : (a b i : ℕ) → a ≤ i → i < b → test i ≡ true → Among (hits test a b) i
   unfolding hits
   hit-found a b i l h e = of-found (b - a) a i l (omega arith) e
+
+module _ (test : ℕ → Bool) (a b : ℕ) where
+  -- each hit stands before the next
+  next-later : (k : ℕ) → suc k < length (hits test a b) → getD (hits test a b) k 0 < getD (hits test a b) (suc k) 0
+  next-later k h =
+      let next = next-hit test a b k (omega (arith, hits-few test a b)) (omega arith) in
+      let same = inside-same (hits test a b) (suc k) 0 b h in
+      omega (arith, next, same, first-from test (suc (getD (hits test a b) k 0)) b)
+
+  -- and so before all later ones
+  pub hits-rise : (i j : ℕ) → i < j → j < length (hits test a b) → getD (hits test a b) i 0 < getD (hits test a b) j 0
+  hits-rise i zero l h = absurd (omega arith)
+  hits-rise i (suc j) l h = go (decLt i j) (hits-rise i j)
+    where
+      go : Dec (i < j) → (i < j → j < length (hits test a b) → getD (hits test a b) i 0 < getD (hits test a b) j 0)
+          → getD (hits test a b) i 0 < getD (hits test a b) (suc j) 0
+      go (yes m) before = omega (arith, before m (omega arith), next-later j h)
+      go (no m) before = let same : i ≡ j = omega arith in rw same (next-later j h)

@@ -14,15 +14,9 @@ use crate::table::LOOKUP;
 pub use crate::table::LOOKUP_SIZE;
 use crate::table::ROW_WIDTH;
 use crate::table::SLOT_COUNT;
+use index::wide_byte;
 use terminal::FIRST_WORD;
 use terminal::WORDS;
-
-// The same number in a wider type.
-fn wide(x: u8) -> usize
-    ensures { λ r. ⌜ r ≡ x ⌝ }
-{
-    x as usize
-}
 
 // The table of the look-up. Who looks words up takes it once and lends it on, as the class table.
 pub fn lookup_table() -> [u8; LOOKUP_SIZE]
@@ -70,7 +64,7 @@ fn is_word(lookup: &[u8; LOOKUP_SIZE], text: &[u8], start: usize, end: usize, k:
 {
     let row = SLOT_COUNT + ROW_WIDTH * k;
     let from = row + 1;
-    let to = from + wide(lookup[row]);
+    let to = from + wide_byte(lookup[row]);
     same_spelling(text, start, end, lookup, from, to)
 }
 
@@ -80,7 +74,7 @@ fn slot_class(lookup: &[u8; LOOKUP_SIZE], slot: usize) -> usize
     requires lookup { ⌜ LookupTable (now lookup) ⌝ }
     ensures { λ r. ⌜ SlotWord slot r ⌝ }
 {
-    wide(lookup[slot])
+    wide_byte(lookup[slot])
 }
 
 // Which word the name from start to end of the text is, or WORDS where it is none.

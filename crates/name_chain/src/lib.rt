@@ -6,17 +6,11 @@ ghost use lib.ListN.{length};
 ghost use Rattle.lexicon.specs.Word.{between, Within};
 ghost use Rattle.name_chain.specs.Chain.{OneMore, Placed, SomeChain, is-named, Finds};
 ghost use Rattle.name_chain.specs.Key.{key-count, key-step, name-key};
+use index::wide;
 use lexicon::word::same_spelling;
 
 // How many keys there are.
 pub const KEYS: usize = 1024;
-
-// The same number in a wider type.
-fn wide(place: u32) -> usize
-    ensures { λ r. ⌜ r ≡ place ⌝ }
-{
-    place as usize
-}
 
 // The key of bytes with one byte more.
 fn key_step(key: usize, byte: u8) -> usize

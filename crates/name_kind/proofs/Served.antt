@@ -11,7 +11,7 @@ use Rattle.symbol.specs.declared.Sort.the-variants.{Oid}
 use Rattle.module_table.specs.declared.Definition.{Definition as Defined}
 use Rattle.module_table.specs.declared.Lead.{Lead}
 use Rattle.module_table.specs.declared.Lead.the-variants.{Iso, Import, Definition, Nothing}
-use Rattle.reference.specs.declared.Need.the-variants.{NoName}
+use Rattle.name_kind.specs.declared.need.Need.the-variants.{NoName}
 use Rattle.name_kind.specs.Serve.{is-oid-symbol, is-type-symbol, is-macro-symbol, serves, is-oid-sort, is-type-sort, is-macro-sort}
 
 -- the sort of a symbol tells what it is

@@ -12,8 +12,8 @@ use Rattle.module_table.specs.declared.Definition.{Definition as Defined}
 use Rattle.module_table.specs.Definition.{entry}
 use Rattle.module_table.specs.declared.Lead.{Lead}
 use Rattle.module_table.specs.declared.Lead.the-variants.{Iso, Import, Definition, Nothing}
-use Rattle.reference.specs.declared.Need.{Need}
-use Rattle.reference.specs.declared.Need.the-variants.{NoName, Macro, TypeName, ObjectType, Head, Object, Sequence}
+use Rattle.name_kind.specs.declared.need.Need.{Need}
+use Rattle.name_kind.specs.declared.need.Need.the-variants.{NoName, Macro, TypeName, ObjectType, Head, Object, Sequence}
 
 -- a built-in symbol has an OID, is a type, is a macro
 abbrev pub is-oid-symbol : What → Bool

@@ -1,15 +1,21 @@
-// Whether what a name leads to is of the kind needed: it serves the need.
+// What each token is needed as, where it is used as a name; and whether what its name leads to is of that kind: it serves the need.
 ghost use mathlib.Core.Path.{_≡_};
 ghost use Rattle.symbol.specs.Symbol.{what-is, sort-of};
-ghost use Rattle.reference.specs.declared.Need.the-variants.{ObjectType};
+ghost use Rattle.name_kind.specs.declared.need.Need.the-variants.{ObjectType};
 ghost use Rattle.module_table.specs.Definition.{definitions-in};
 ghost use Rattle.name_kind.specs.Serve.{iso-serves, nothing-serves, symbol-serves, kind-serves, serves};
 ghost use Rattle.name_kind.specs.Serve.{is-oid-sort, is-type-sort, is-macro-sort};
+
+mod need;
+
 use definition::has_oid;
 use definition::kind;
 use module_table::Lead;
 use module_table::definition_at;
-use reference::Need;
+pub use need::Need;
+pub use need::enclosing_at;
+pub use need::need_at;
+pub use need::next_enclosing;
 use symbol::SYMBOLS;
 use symbol::Sort;
 

@@ -6,9 +6,9 @@ use mathlib.Core.List.{List}
 use Prim.Native.Nat.{ℕ}
 use Rattle.token.specs.Token.{Meaning}
 use Rattle.module_table.specs.declared.Lead.{Lead}
-use Rattle.reference.specs.Need.{need-at}
-use Rattle.reference.specs.declared.Need.{Need}
-use Rattle.reference.specs.declared.Need.the-variants.{NoName}
+use Rattle.name_kind.specs.Need.{need-at}
+use Rattle.name_kind.specs.declared.need.Need.{Need}
+use Rattle.name_kind.specs.declared.need.Need.the-variants.{NoName}
 use Rattle.outline.specs.Outline.{outline}
 use Rattle.scope.specs.Token.{classes-of, spelled}
 use Rattle.scope.specs.Lead.{leads-to}

@@ -28,7 +28,7 @@ use Rattle.naming.specs.Rules.{introduces-name, is-again, first-name, in
 use Rattle.naming.specs.Told.{Introduces}
 use Rattle.naming.specs.declared.again.Introduced.the-variants.{New, Again}
 
-or-second : (a b : Bool) → b ≡ true → (a || b) ≡ true
+pub or-second : (a b : Bool) → b ≡ true → (a || b) ≡ true
 or-second true b e = refl
 or-second false b e = e
 
@@ -37,7 +37,7 @@ module _ (ms : List Meaning) where
   iso-again : (i : ℕ) → introduces (classes-of ms) i ≡ true → same (spelled ms i) iso-name ≡ true → is-again ms i ≡ true
   iso-again i own e = rw (own, e)
 
-  name-again : (i j : ℕ) → introduces (classes-of ms) i ≡ true → j < i → introduces-name ms (spelled ms i) j ≡ true → is-again ms i ≡ true
+  pub name-again : (i j : ℕ) → introduces (classes-of ms) i ≡ true → j < i → introduces-name ms (spelled ms i) j ≡ true → is-again ms i ≡ true
   name-again i j own h e =
       both (introduces (classes-of ms) i) _ own
       (or-second (same (spelled ms i) iso-name) _ (any-at (introduces-name ms (spelled ms i)) 0 i j (omega arith) h e))

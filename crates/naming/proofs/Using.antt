@@ -23,9 +23,9 @@ use Rattle.definition.specs.Landmark.{definitions}
 use Rattle.module_table.specs.Lead.{word-of, Small}
 use Rattle.module_table.specs.Module.{most-definitions}
 use Rattle.module_table.specs.declared.Lead.the-variants.{Iso, Import, Definition, Nothing}
-use Rattle.reference.specs.Need.{need-at}
-use Rattle.reference.specs.declared.Need.{Need}
-use Rattle.reference.specs.declared.Need.the-variants.{NoName, Macro, TypeName, ObjectType, Head, Object, Sequence}
+use Rattle.name_kind.specs.Need.{need-at}
+use Rattle.name_kind.specs.declared.need.Need.{Need}
+use Rattle.name_kind.specs.declared.need.Need.the-variants.{NoName, Macro, TypeName, ObjectType, Head, Object, Sequence}
 use Rattle.scope.specs.Token.{classes-of, spelled}
 use Rattle.scope.specs.Import.{imports-end, is-import}
 use Rattle.scope.specs.Lead.{is-imported, defined-as, leads-to}

@@ -16,7 +16,7 @@ use Rattle.scope.specs.Token.{classes-of, spelled}
 use Rattle.scope.specs.Import.{imports-end, is-import, offered}
 use Rattle.scope.specs.Lead.{introduces, leads-to}
 use Rattle.outline.specs.Outline.{outline}
-use Rattle.reference.specs.Need.{need-at}
+use Rattle.name_kind.specs.Need.{need-at}
 use Rattle.name_kind.specs.Serve.{serves}
 
 -- 8: a 513th definition

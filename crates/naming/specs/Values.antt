@@ -10,9 +10,9 @@ use Rattle.token.specs.Token.{Meaning}
 use Rattle.token.specs.Cut.{said}
 use Rattle.module_table.specs.Lead.{word-of}
 use Rattle.module_table.specs.Module.{Module}
-use Rattle.reference.specs.Need.{need-at}
-use Rattle.reference.specs.declared.Need.{Need}
-use Rattle.reference.specs.declared.Need.the-variants.{NoName, Macro, TypeName, ObjectType, Head, Object, Sequence}
+use Rattle.name_kind.specs.Need.{need-at}
+use Rattle.name_kind.specs.declared.need.Need.{Need}
+use Rattle.name_kind.specs.declared.need.Need.the-variants.{NoName, Macro, TypeName, ObjectType, Head, Object, Sequence}
 use Rattle.outline.specs.Outline.{outline}
 use Rattle.scope.specs.Token.{classes-of, spelled}
 use Rattle.scope.specs.Import.{imports-end, is-import}

@@ -14,6 +14,7 @@ ghost use Rattle.naming.specs.Rules.{introduced-again};
 ghost use Rattle.naming.specs.Told.{Introduces};
 use definition::begins;
 use index::TokenIndex;
+use index::wide;
 use name_chain::KEYS;
 use name_chain::find;
 use name_chain::insert;
@@ -29,13 +30,6 @@ use symbol::part::names_iso;
 pub enum Introduced {
     New,
     Again(usize),
-}
-
-// A place of the table, as the index that it is.
-fn wide(place: u32) -> usize
-    ensures { λ r. ⌜ r ≡ place ⌝ }
-{
-    place as usize
 }
 
 // Whether token i introduces a name, in a module whose imports end at `end`.

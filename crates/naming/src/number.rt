@@ -10,6 +10,7 @@ ghost use Rattle.token.specs.Cut.{meanings-in, said};
 ghost use Rattle.token.specs.Law.{Sound};
 ghost use Rattle.scope.specs.Token.{TokensHeld};
 ghost use Rattle.naming.specs.Told.{NumbersFilled};
+use index::wide;
 use piece::more;
 use scope::imports_end;
 
@@ -39,13 +40,6 @@ fn magnitude(text: &[u8], class: u8, start: usize, end: usize) -> u32
         return digits_value(text, start + 1, end) as u32;
     }
     0
-}
-
-// A place of the table, as the index that it is.
-fn wide(place: u32) -> usize
-    ensures { λ r. ⌜ r ≡ place ⌝ }
-{
-    place as usize
 }
 
 // The magnitude of token i; 0 where it is no number.

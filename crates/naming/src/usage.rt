@@ -9,20 +9,23 @@ ghost use Rattle.module_table.specs.Module.{most-definitions};
 ghost use Rattle.outline.specs.Outline.{outline};
 ghost use Rattle.scope.specs.Token.{classes-of, TokensHeld};
 ghost use Rattle.scope.specs.Import.{imports-end};
-ghost use Rattle.scope.specs.Held.{ImportsHeld};
+ghost use Rattle.scope.specs.Held.{ImportsHeld, Distinct};
 ghost use Rattle.naming.specs.Rules.{unknown-name};
 ghost use Rattle.naming.specs.Values.{is-name-need};
 ghost use Rattle.naming.specs.Told.{UsesFilled};
 use crate::number::magnitude_at;
 use crate::plain_finding;
+use index::RecordIndex;
 use index::TokenIndex;
+use module_table::Lead;
 use module_table::word_for;
+use name_kind::Need;
+use name_kind::enclosing_at;
+use name_kind::need_at;
+use name_kind::next_enclosing;
 use name_kind::serves;
-use reference::Need;
-use reference::enclosing_at;
-use reference::need_at;
-use reference::next_enclosing;
 use rule::Judgement;
+use scope::Sought;
 use scope::imports_end;
 use scope::leads_to;
 use scope::name_at;
@@ -42,6 +45,16 @@ fn is_name_need(need: Need) -> bool
     }
 }
 
+// Where the next name is looked for first: at the definition that the last one led to.
+fn nearest(lead: Lead, last: RecordIndex) -> RecordIndex {
+    match lead {
+        Lead::Definition(d) => d,
+        Lead::Iso => last,
+        Lead::Import(_) => last,
+        Lead::Nothing => last,
+    }
+}
+
 // Refusal 11, at the first token from the imports' end on that is used as a name that isn't known. Each use is looked up once: where the
 // rule is kept, the tokens behind the imports have their values.
 pub fn judge_uses(
@@ -57,21 +70,31 @@ pub fn judge_uses(
     requires imports { ⌜ ImportsHeld (meanings-in (now text)) (take (imports-end (now classes)) (now values)) ⌝ }
     requires outlined { ⌜ definitions-in (now definitions) ≡ outline (classes-of (meanings-in (now text))) ⌝ }
     requires few { ⌜ length (definitions-in (now definitions)) ≤ most-definitions ⌝ }
+    requires distinct { ⌜ Distinct (meanings-in (now text)) ⌝ }
     ensures long { λ r. ⌜ length (now (values .exit)) ≡ length (now (values .entry)) ⌝ }
     ensures judged { λ r. ⌜ r ≡ judge-one (unknown-name (meanings-in (now (text .entry)))) ⌝ }
     ensures filled { λ r. ⌜ UsesFilled (meanings-in (now (text .entry))) r (now (values .entry)) (now (values .exit)) ⌝ }
 {
     let end = imports_end(classes);
     let mut word = enclosing_at(classes, classes.len(), end);
+    let mut near = RecordIndex(0);
     let mut i = end;
     while i < classes.len() {
         let need = need_at(classes, classes.len(), word, i);
         if is_name_need(need) {
             let name = name_at(classes, starts, ends, TokenIndex(i));
-            let lead = leads_to(text, starts, ends, &values[..end], definitions, name);
+            let lead = leads_to(
+                text,
+                starts,
+                ends,
+                &values[..end],
+                definitions,
+                Sought { name, near },
+            );
             if !serves(definitions, lead, need) {
                 return Judgement::Broken(plain_finding(11, i));
             }
+            near = nearest(lead, near);
             let found = word_for(lead);
             values[i] = found;
             word = next_enclosing(classes, classes.len(), word, i);

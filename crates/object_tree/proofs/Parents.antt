@@ -13,8 +13,8 @@ use Rattle.module_table.specs.Definition.{absent, entry, changed}
 use Rattle.module_table.specs.Module.{oid-in}
 use Rattle.module_table.specs.declared.Definition.{Definition}
 use Rattle.module_table.proofs.Filled.{changed-counted, changed-entry}
-use Rattle.number_list.specs.Run.{run, is-below}
-use Rattle.number_list.proofs.Runs.{below-equal, run-length}
+use Rattle.oid_run.specs.Run.{run, is-below}
+use Rattle.oid_run.proofs.Runs.{below-equal, run-length}
 use Rattle.object_tree.specs.Words.{is-object}
 use Rattle.object_tree.specs.Tree.{is-parent, parent-of, with-parent, with-parents-of, parents-added, ParentTable}
 

@@ -10,7 +10,7 @@ use Rattle.chain.specs.Key.{list-key}
 use Rattle.module_table.specs.Definition.{entry, changed}
 use Rattle.module_table.specs.Module.{Module, most-definitions, oid-in}
 use Rattle.module_table.specs.declared.Definition.{Definition}
-use Rattle.number_list.specs.Run.{is-below}
+use Rattle.oid_run.specs.Run.{is-below}
 use Rattle.object_tree.specs.Words.{is-object}
 
 -- an object is the parent of another: the OID of the other is its own plus one number

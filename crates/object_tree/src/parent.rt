@@ -18,8 +18,8 @@ use module_table::MOST_DEFINITIONS;
 use module_table::count;
 use module_table::definition_at;
 use module_table::store;
-use number_list::Run;
-use number_list::is_below;
+use oid_run::Run;
+use oid_run::is_below;
 use oid_run::run_key;
 use oid_run::run_of;
 

@@ -39,7 +39,7 @@ fn is_holder(d: Definition) -> bool
 fn same_oid(numbers: &[u32], a: Definition, b: Definition) -> bool
     ensures { λ r. ⌜ r ≡ same (oid-in (now (numbers .entry)) a) (oid-in (now (numbers .entry)) b) ⌝ }
 {
-    number_list::same(numbers, run_of(numbers, a), run_of(numbers, b))
+    oid_run::same(numbers, run_of(numbers, a), run_of(numbers, b))
 }
 
 // Whether definition j holds the OID of definition k.

@@ -6,8 +6,8 @@ use Prim.Native.Nat.{ℕ, _+_, _≤_}
 use lib.ListN.{length}
 use Rattle.module_table.specs.Module.{oid-in}
 use Rattle.module_table.specs.declared.Definition.{Definition}
-use Rattle.number_list.specs.Run.{run}
-use Rattle.number_list.specs.declared.Run.{Run}
+use Rattle.oid_run.specs.Run.{run}
+use Rattle.oid_run.specs.declared.list.Run.{Run}
 
 -- the run lies inside the buffer, and holds the OID of the definition
 pub record Held (numbers : List ℕ) (d : Definition) (r : Run) : Type 0 where

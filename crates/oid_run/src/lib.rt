@@ -1,16 +1,22 @@
-// The OID of a definition as a run of the number buffer: whatever the definition's words say, the run lies inside; and the key of a
-// run, by which definitions are chained.
+// The OID of a definition as a run of the number buffer: whatever the definition's words say, the run lies inside; the key of a run,
+// by which definitions are chained; and how two runs stand to each other.
 ghost use mathlib.Core.Path.{_≡_};
 ghost use mathlib.Core.Bool.{cond};
 ghost use Prim.Native.Nat.{_+_, _≤_};
 ghost use lib.Dec.{ltb};
 ghost use lib.ListN.{length};
 ghost use Rattle.chain.specs.Key.{list-key};
-ghost use Rattle.number_list.specs.Run.{run};
+ghost use Rattle.oid_run.specs.Run.{run};
 ghost use Rattle.oid_run.specs.Held.{Held};
+
+mod list;
+
 use index::NumberIndex;
+use index::wide;
+pub use list::Run;
+pub use list::is_below;
+pub use list::same;
 use module_table::Definition;
-use number_list::Run;
 
 // The lesser of two numbers.
 fn lesser(a: usize, b: usize) -> usize
@@ -33,13 +39,6 @@ pub fn run_of(numbers: &[u32], d: Definition) -> Run
         from: NumberIndex(from),
         count,
     }
-}
-
-// The same number in a wider type.
-fn wide(number: u32) -> usize
-    ensures { λ r. ⌜ r ≡ number ⌝ }
-{
-    number as usize
 }
 
 // The key of the numbers of a run.

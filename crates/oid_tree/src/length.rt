@@ -83,42 +83,20 @@ fn oid_length(classes: &[u8], values: &[u32], definitions: &[usize], k: RecordIn
 }
 
 // Where the numbers of a definition start: a definition that has no OID at 0.
-fn start_of(d: Definition, start: usize) -> usize
-    ensures { λ r. ⌜ r ≡ cond (has-value d) start 0 ⌝ }
+fn start_of(d: Definition, start: NumberIndex) -> NumberIndex
+    ensures { λ r. ⌜ r .0 ≡ cond (has-value d) (start .0) 0 ⌝ }
 {
-    if has_value(d) { start } else { 0 }
+    if has_value(d) { start } else { NumberIndex(0) }
 }
 
 // A definition with the run of its OID, which is so long and starts there if there is one.
-fn with_run(d: Definition, start: usize, count: usize) -> Definition
-    ensures { λ r. ⌜ r ≡ with-run (cond (has-value d) start 0) count d ⌝ }
+fn with_run(mut d: Definition, start: NumberIndex, count: usize) -> Definition
+    ensures { λ r. ⌜ r ≡ with-run (cond (has-value d) (start .0) 0) count d ⌝ }
 {
-    let from = start_of(d, start);
-    let name = d.name;
-    let syntax = d.syntax;
-    let index = d.index;
-    let augments = d.augments;
-    let objects = d.objects;
-    let columns = d.columns;
-    let oid = d.oid;
-    Definition {
-        kind: d.kind,
-        name,
-        status: d.status,
-        access: d.access,
-        default: d.default,
-        syntax,
-        index,
-        augments,
-        objects,
-        columns,
-        oid,
-        start: NumberIndex(from),
-        count,
-        class: d.class,
-        sequence: d.sequence,
-        parent: d.parent,
-    }
+    let own = start_of(d, start);
+    d.start = own;
+    d.count = count;
+    d
 }
 
 // Has each definition say where its numbers start among those of all, and how many they are.
@@ -135,7 +113,11 @@ pub fn measure(classes: &[u8], values: &[u32], definitions: &mut [usize])
     while k < c {
         let length = oid_length(classes, values, definitions, RecordIndex(k));
         let own = definition_at(definitions, RecordIndex(k));
-        store(definitions, RecordIndex(k), with_run(own, start, length));
+        store(
+            definitions,
+            RecordIndex(k),
+            with_run(own, NumberIndex(start), length),
+        );
         start += length;
         k += 1;
     }

@@ -1,11 +1,17 @@
 // What a program writes: its standard output, messages on standard error, and the status that it ends with. Nothing here knows of SMI.
+ghost use mathlib.Core.Path.{_≡_};
+ghost use mathlib.Core.Bool.{false};
+ghost use Rattle.output.specs.Status.{accepted, refused, rating, larger, Rated, Printed};
+
 mod message;
 
 use libc::STDOUT_FILENO;
 pub use message::complain;
 pub use message::fail;
+pub use message::fail_if;
 pub use message::misfit;
 pub use message::say_waiting;
+pub use message::start_on_files;
 
 // The descriptor on which a program says its status, since the language has none: one digit, as it ends. Nobody need read it.
 const STATUS_FILENO: i32 = 3;
@@ -24,16 +30,21 @@ pub struct Output {
     pub lost: bool,
 }
 
-pub fn start() -> Output {
+pub fn start() -> Output
+    ensures status { λ r. ⌜ r .status ≡ accepted ⌝ }
+    ensures lost { λ r. ⌜ r .lost ≡ false ⌝ }
+{
     Output {
         status: ACCEPTED,
         lost: false,
     }
 }
 
-// Something was refused.
-pub fn refuse(out: Output) -> Output {
-    if out.status == COMPLAINT {
+// Something was refused. That hides no complaint.
+pub fn refuse(out: Output) -> Output
+    ensures { λ r. ⌜ Rated out (larger (out .status) refused) r ⌝ }
+{
+    if REFUSED <= out.status {
         return out;
     }
     Output {
@@ -43,7 +54,9 @@ pub fn refuse(out: Output) -> Output {
 }
 
 // Something was refused, unless the number is 0.
-pub fn judge(out: Output, number: u64) -> Output {
+pub fn judge(out: Output, number: u64) -> Output
+    ensures { λ r. ⌜ Rated out (larger (out .status) (rating number)) r ⌝ }
+{
     if number == 0 {
         return out;
     }
@@ -51,7 +64,9 @@ pub fn judge(out: Output, number: u64) -> Output {
 }
 
 // Writes bytes to standard output, as they are.
-pub fn print(out: Output, bytes: &[u8]) -> Output {
+pub fn print(out: Output, bytes: &[u8]) -> Output
+    ensures { λ r. ⌜ Printed out r ⌝ }
+{
     if out.lost {
         return out;
     }
@@ -66,18 +81,24 @@ pub fn print(out: Output, bytes: &[u8]) -> Output {
 }
 
 // Writes a number in decimal.
-pub fn print_number(out: Output, n: u64) -> Output {
+pub fn print_number(out: Output, n: u64) -> Output
+    ensures { λ r. ⌜ Printed out r ⌝ }
+{
     let mut digits = [0u8; 20];
     let count = io::decimal(n, &mut digits);
     print(out, &digits[..count])
 }
 
 // What stands between the words of a line, and behind the last.
-pub fn print_tab(out: Output) -> Output {
+pub fn print_tab(out: Output) -> Output
+    ensures { λ r. ⌜ Printed out r ⌝ }
+{
     print(out, b"\t")
 }
 
-pub fn end_line(out: Output) -> Output {
+pub fn end_line(out: Output) -> Output
+    ensures { λ r. ⌜ Printed out r ⌝ }
+{
     print(out, b"\n")
 }
 

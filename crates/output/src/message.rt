@@ -1,12 +1,19 @@
 // Messages on standard error.
+ghost use mathlib.Core.Bool.{cond};
+ghost use mathlib.Core.Path.{_≡_};
+ghost use Prim.Native.Nat.{_<_, _≤_};
+ghost use Rattle.output.specs.Status.{accepted, complaint, Rated};
 use crate::COMPLAINT;
 use crate::Output;
 use crate::print;
+use crate::start;
 use libc::STDERR_FILENO;
 use libc::STDIN_FILENO;
 
 // There was a complaint.
-fn blame(out: Output) -> Output {
+fn blame(out: Output) -> Output
+    ensures { λ r. ⌜ Rated out complaint r ⌝ }
+{
     Output {
         status: COMPLAINT,
         lost: out.lost,
@@ -14,9 +21,32 @@ fn blame(out: Output) -> Output {
 }
 
 // Says why a call of the system failed, by errno; `what` is what it was asked for.
-pub fn fail(out: Output, what: &[u8]) -> Output {
+pub fn fail(out: Output, what: &[u8]) -> Output
+    ensures { λ r. ⌜ Rated out complaint r ⌝ }
+{
     os::fail(what);
     blame(out)
+}
+
+// The same, unless it did not fail.
+pub fn fail_if(out: Output, failed: bool, what: &[u8]) -> Output
+    ensures { λ r. ⌜ Rated out (cond failed complaint (out .status)) r ⌝ }
+{
+    if failed {
+        return fail(out, what);
+    }
+    out
+}
+
+// Starts a program that is to have the names of files as its arguments. `count` is one more than there are; none is a complaint.
+pub fn start_on_files(count: usize, command: &[u8], usage: &[u8]) -> Output
+    ensures some { λ r. ⌜ (1 < count → r .status ≡ accepted) ⌝ }
+    ensures none { λ r. ⌜ (count ≤ 1 → r .status ≡ complaint) ⌝ }
+{
+    if count <= 1 {
+        return complain(start(), command, 0, b"", b"is no file", usage);
+    }
+    start()
 }
 
 // Says that a word does not fit, in one line: the command, the line of the list if it is not 0, the word in quotes, why it does not fit,
@@ -28,12 +58,10 @@ pub fn complain(
     word: &[u8],
     why: &[u8],
     usage: &[u8],
-) -> Output {
-    io::write_all(STDERR_FILENO, command);
-    write_line_number(line);
-    write_quoted(word);
-    io::write_all(STDERR_FILENO, why);
-    write_usage(usage);
+) -> Output
+    ensures { λ r. ⌜ Rated out complaint r ⌝ }
+{
+    write_complaint(command, line, word, why, usage);
     blame(out)
 }
 
@@ -45,12 +73,14 @@ pub fn misfit(
     word: &[u8],
     why: &[u8],
     usage: &[u8],
-) -> Output {
-    let said = complain(out, command, line, word, why, usage);
+) -> Output
+    ensures { λ r. ⌜ r .status ≡ complaint ⌝ }
+{
+    write_complaint(command, line, word, why, usage);
     if line == 0 {
-        return said;
+        return blame(out);
     }
-    print(said, b"misfit\n")
+    blame(print(out, b"misfit\n"))
 }
 
 // Says what is waited for, where a list is to be typed at a terminal.
@@ -58,6 +88,14 @@ pub fn say_waiting(what: &[u8]) {
     if libc::isatty(STDIN_FILENO) == 1 {
         io::write_all(STDERR_FILENO, what);
     }
+}
+
+fn write_complaint(command: &[u8], line: u64, word: &[u8], why: &[u8], usage: &[u8]) {
+    io::write_all(STDERR_FILENO, command);
+    write_line_number(line);
+    write_quoted(word);
+    io::write_all(STDERR_FILENO, why);
+    write_usage(usage);
 }
 
 fn write_line_number(line: u64) {

@@ -23,6 +23,9 @@ pub const RECORD_WORDS: usize = MOST_DEFINITIONS * WIDTH;
 
 pub const NUMBER_WORDS: usize = MOST_NUMBERS;
 
+// How many bytes a buffer for a file has: one more than a text may have, to tell a longer one.
+pub const FILE_BYTES: usize = LONGEST_TEXT + 1;
+
 // The answer to a text. specs/Buffers.antt gives each case its number, place and count.
 pub enum Answer {
     // Accepted: so many definitions.

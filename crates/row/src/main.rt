@@ -2,9 +2,8 @@
 //
 // row STATE COMPLETE WILLING [VALUE] prints a line for each set value, or for the one value given. Without arguments it
 // reads the same words from standard input, a case a line, with tabs between them.
-use command::Line;
-use command::Lines;
-use libc::STDIN_FILENO;
+use command::List;
+use command::NO_LINE;
 use output::Output;
 use output::print;
 use output::print_number;
@@ -13,6 +12,8 @@ use row_status::Answer;
 use words::Flag;
 use words::Natural;
 use words::Number;
+ghost use lib.ListN.{length};
+ghost use Rattle.command.specs.Within.{ListWithin};
 
 // What stands for a state of more digits than a number here can have: a state over 3, as it is.
 const LONG_STATE: u64 = u64::MAX;
@@ -22,49 +23,44 @@ const LONG_VALUE: i64 = 0;
 
 fn main() {
     let mut space = io::large_buffer();
-    if os::arg_count() <= 1 {
-        let out = read_list(&mut space, output::start());
-        output::finish(out);
-        return;
-    }
-    let n = command::arguments(&mut space);
-    if space.len() < n {
-        let out = complain_long(output::start(), 0);
-        output::finish(out);
-        return;
-    }
-    let out = answer_case(&space[..n], 0, 0, output::start());
-    output::finish(out);
+    output::finish(answer(&mut space, output::start()));
 }
 
-// Answers each line of standard input. The lines are counted in 64 bits, which no run uses up.
-fn read_list(space: &mut [u8], out: Output) -> Output {
-    output::say_waiting(
-        b"mib row: waiting for cases, a line each, tabs between the words: STATE yes|no yes|no [VALUE]; Ctrl-D ends them\n",
-    );
-    let mut lines = Lines { from: 0, to: 0 };
-    let mut line: u64 = 0;
-    let mut next = out;
-    while line < u64::MAX {
-        line += 1;
-        match command::next_line(STDIN_FILENO, space, lines) {
-            Line::At(from, to, rest) => {
-                next = answer_case(&space[from..to], b'\t', line, next);
-                lines = rest;
-            }
-            Line::TooLong(rest) => {
-                next = complain_long(next, line);
-                lines = rest;
-            }
-            Line::Failed => {
-                return output::fail(next, b"mib row: standard input");
-            }
-            Line::End => {
-                return next;
-            }
-        }
+// Answers the case that the arguments are; without arguments, the list on standard input.
+fn answer(space: &mut [u8], out: Output) -> Output {
+    if os::arg_count() <= 1 {
+        output::say_waiting(
+            b"mib row: waiting for cases, a line each, tabs between the words: STATE yes|no yes|no [VALUE]; Ctrl-D ends them\n",
+        );
+        return answer_list(space, out);
     }
-    next
+    let n = command::arguments(space);
+    if space.len() < n {
+        return complain_long(out, 0);
+    }
+    answer_case(&space[0..n], 0, 0, out)
+}
+
+fn answer_list(space: &mut [u8], out: Output) -> Output {
+    let mut list = command::first_in_list(space);
+    let mut next = out;
+    while list.line < NO_LINE {
+        next = answer_line(space, list, next);
+        list = command::next_in_list(space, list);
+    }
+    output::fail_if(next, list.failed, b"mib row: standard input")
+}
+
+// Answers the last line of the list.
+fn answer_line(space: &[u8], list: List, out: Output) -> Output
+    requires { ⌜ ListWithin list (length (now space)) ⌝ }
+{
+    if list.long {
+        return complain_long(out, list.line);
+    }
+    let from = list.from;
+    let to = list.to;
+    answer_case(&space[from..to], b'\t', list.line, out)
 }
 
 // The flags of a case: whether the row is complete, and whether the agent is willing.

@@ -8,7 +8,7 @@ use native.Mathlib.Omega.{arith}
 use lib.ListN.{length, getD}
 use borrow.Author.Tests.{lt-ltb, le-ltb}
 use Rattle.index.specs.First.{first, any}
-use Rattle.index.proofs.Search.{first-inside, any-at}
+use Rattle.index.proofs.Search.{answers, first-inside, first-holds, first-is, any-at}
 use Rattle.index.proofs.Hits.{hit-inside, hit-holds}
 use Rattle.lexicon.specs.Word.{same, is-name}
 use Rattle.lexicon.proofs.Words.{same-equal}
@@ -26,8 +26,8 @@ use Rattle.token.specs.Cut.{meanings-in}
 use Rattle.name_chain.specs.Chain.{Placed, part-at}
 use Rattle.scope.specs.Token.{classes-of, spelled, TokensHeld}
 use Rattle.scope.specs.Import.{imports-end, is-import}
-use Rattle.scope.specs.Lead.{imports-name, is-imported, defined-as, leads-to}
-use Rattle.scope.specs.Held.{import-word, found-word}
+use Rattle.scope.specs.Lead.{imports-name, is-imported, defines-name, defined-as, leads-to}
+use Rattle.scope.specs.Held.{import-word, found-word, Distinct}
 use Rattle.scope.proofs.Imports.{end-inside, import-before, import-named, begins-named}
 use Rattle.scope.proofs.Tokens.{placed, placed-name}
 
@@ -113,6 +113,17 @@ module _ (cs : List ℕ) (words : List ℕ) (held : definitions-in words ≡ out
     pub name-named : is-name (class-at cs (getD (definitions cs) k 0)) ≡ true
     unfolding definitions
     name-named = begins-named cs _ (hit-holds (begins cs) 0 (last cs) k (omega (arith, defined-counted)))
+
+-- ---- the one definition of a name, wherever the search for it starts
+
+module _ (ms : List Meaning) (distinct : Distinct ms) (s : List ℕ) (from to k : ℕ) (at : k ≡ first (defines-name ms s) from to) where
+  pub only-defined : k < to → from ≤ to → to ≤ length (definitions (classes-of ms)) → k ≡ defined-as ms s
+  only-defined inside l h =
+      let n = length (definitions (classes-of ms)) in
+      let test = defines-name ms s in
+      let holds : defines-name ms s k ≡ true = ap test at ∙ first-holds test from to (omega (arith, at)) l in
+      sym (first-is test 0 n k (omega arith) (omega arith) holds
+      (λ i p q. answers (test i) (λ e. absurd (omega (arith, distinct s i k (omega arith) (omega arith) e holds))) (λ e. e)))
 
 -- ---- what the look-up compares: the names of tokens that introduce some, by where they stand
 

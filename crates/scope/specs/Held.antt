@@ -1,20 +1,21 @@
 -- What the look-up of a name is lent: where the tokens stand, the values of the imports, and the definitions.
 -- Assumes nothing.
 use mathlib.Core.Path.{_≡_}
-use mathlib.Core.Bool.{cond}
+use mathlib.Core.Bool.{true, cond}
 use mathlib.Core.List.{List}
 use Prim.Native.Nat.{ℕ, _<_}
 use lib.ListN.{length, getD}
 use Rattle.token.specs.Token.{Meaning}
 use Rattle.token.specs.Cut.{meanings-in}
 use Rattle.symbol.specs.Symbol.{symbol-of}
+use Rattle.definition.specs.Landmark.{definitions}
 use Rattle.module_table.specs.Definition.{definitions-in}
 use Rattle.module_table.specs.Lead.{word-of}
 use Rattle.module_table.specs.declared.Lead.the-variants.{Import}
 use Rattle.outline.specs.Outline.{outline}
 use Rattle.scope.specs.Token.{classes-of, spelled, TokensHeld}
 use Rattle.scope.specs.Import.{imports-end, is-import}
-use Rattle.scope.specs.Lead.{is-imported}
+use Rattle.scope.specs.Lead.{is-imported, defines-name}
 
 -- the value of token i of the imports: what the symbol there leads to, as a word; 0 where it is no symbol
 abbrev pub import-word : List Meaning → ℕ → ℕ
@@ -29,8 +30,15 @@ pub record ImportsHeld (ms : List Meaning) (values : List ℕ) : Type 0 where
   pub counted : length values ≡ imports-end (classes-of ms)
   pub held : (i : ℕ) → i < length values → getD values i 0 ≡ import-word ms i
 
+-- at most one definition has a name: what refusal 9 asks
+abbrev pub Distinct : List Meaning → Type 0
+Distinct ms =
+    (s : List ℕ) (i j : ℕ) → i < length (definitions (classes-of ms)) → j < length (definitions (classes-of ms)) → defines-name ms s i ≡ true
+    → defines-name ms s j ≡ true → i ≡ j
+
 -- all that a look-up is lent
 pub record ScopeHeld (text starts ends values definitions : List ℕ) : Type 0 where
   pub tokens : TokensHeld text (classes-of (meanings-in text)) starts ends
   pub imports : ImportsHeld (meanings-in text) values
   pub outlined : definitions-in definitions ≡ outline (classes-of (meanings-in text))
+  pub distinct : Distinct (meanings-in text)

@@ -6,6 +6,7 @@ mod spelling;
 pub use import::imports_end;
 pub use import::is_import;
 pub use import::is_offered;
+use index::RecordIndex;
 pub use lookup::leads_to;
 pub use spelling::name_at;
 
@@ -13,4 +14,10 @@ pub use spelling::name_at;
 pub struct Name {
     pub start: usize,
     pub end: usize,
+}
+
+// A name to look up, and the definition at which to start: most names lead near to where the last one led.
+pub struct Sought {
+    pub name: Name,
+    pub near: RecordIndex,
 }

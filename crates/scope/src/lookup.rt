@@ -1,15 +1,17 @@
 // What a name leads to: `iso`, an import, a definition, or nothing.
 ghost use mathlib.Core.Path.{_≡_};
-ghost use Prim.Native.Nat.{_<_};
+ghost use Prim.Native.Nat.{_<_, _≤_};
 ghost use lib.ListN.{length};
+ghost use Rattle.index.specs.First.{first};
 ghost use Rattle.lexicon.specs.Word.{between, Within};
 ghost use Rattle.token.specs.Cut.{meanings-in};
 ghost use Rattle.module_table.specs.Definition.{definitions-in};
 ghost use Rattle.outline.specs.Outline.{outline};
 ghost use Rattle.scope.specs.Token.{classes-of, TokensHeld};
 ghost use Rattle.scope.specs.Lead.{imports-name, defines-name, defined-as, leads-to};
-ghost use Rattle.scope.specs.Held.{import-word, found-word, ImportsHeld, ScopeHeld};
+ghost use Rattle.scope.specs.Held.{import-word, found-word, ImportsHeld, Distinct, ScopeHeld};
 use crate::Name;
+use crate::Sought;
 use crate::spelling::is_named;
 use index::RecordIndex;
 use module_table::Lead;
@@ -17,6 +19,10 @@ use module_table::count;
 use module_table::definition_at;
 use module_table::lead_in;
 use symbol::part::names_iso;
+
+// How many definitions are looked at first, from the one that the last name led to: the columns of a SEQUENCE stand in order, and one
+// head serves many definitions.
+const NEAR: usize = 32;
 
 // Whether token i of the imports, with this value, is a symbol of the name.
 fn imports_name(text: &[u8], starts: &[u32], ends: &[u32], value: u32, i: usize, name: Name) -> bool
@@ -54,40 +60,109 @@ fn defines_name(
     starts: &[u32],
     ends: &[u32],
     definitions: &[usize],
-    k: usize,
+    k: RecordIndex,
     name: Name,
 ) -> bool
     requires tokens { ⌜ TokensHeld (now text) (classes-of (meanings-in (now text))) (now starts) (now ends) ⌝ }
     requires outlined { ⌜ definitions-in (now definitions) ≡ outline (classes-of (meanings-in (now text))) ⌝ }
-    requires index { ⌜ k < length (definitions-in (now definitions)) ⌝ }
+    requires index { ⌜ k .0 < length (definitions-in (now definitions)) ⌝ }
     requires name { ⌜ Within (now text) (name .start) (name .end) ⌝ }
-    ensures { λ r. ⌜ r ≡ defines-name (meanings-in (now (text .entry))) (between (now (text .entry)) (name .start) (name .end)) k ⌝ }
+    ensures { λ r. ⌜ r ≡ defines-name (meanings-in (now (text .entry))) (between (now (text .entry)) (name .start) (name .end)) (k .0) ⌝ }
 {
-    let d = definition_at(definitions, RecordIndex(k));
+    let d = definition_at(definitions, k);
     is_named(text, starts, ends, d.name.0, name)
 }
 
-// The first definition of the name; as many as there are where none has it.
-fn find_definition(
+// Some definitions: from one up to, not including, another.
+struct Stretch {
+    from: RecordIndex,
+    to: RecordIndex,
+}
+
+// The first definition of a stretch that has the name; its end where none has it.
+fn search_in(
     text: &[u8],
     starts: &[u32],
     ends: &[u32],
     definitions: &[usize],
     name: Name,
-) -> usize
+    stretch: Stretch,
+) -> RecordIndex
     requires tokens { ⌜ TokensHeld (now text) (classes-of (meanings-in (now text))) (now starts) (now ends) ⌝ }
     requires outlined { ⌜ definitions-in (now definitions) ≡ outline (classes-of (meanings-in (now text))) ⌝ }
     requires name { ⌜ Within (now text) (name .start) (name .end) ⌝ }
-    ensures { λ r. ⌜ r ≡ defined-as (meanings-in (now (text .entry))) (between (now (text .entry)) (name .start) (name .end)) ⌝ }
+    requires ordered { ⌜ stretch .from .0 ≤ stretch .to .0 ⌝ }
+    requires inside { ⌜ stretch .to .0 ≤ length (definitions-in (now definitions)) ⌝ }
+    ensures { λ r. ⌜ r .0 ≡ first (defines-name (meanings-in (now (text .entry))) (between (now (text .entry)) (name .start) (name .end))) (stretch .from .0) (stretch .to .0) ⌝ }
 {
-    let mut k = 0;
-    while k < count(definitions) {
-        if defines_name(text, starts, ends, definitions, k, name) {
-            return k;
+    let to = stretch.to.0;
+    let mut k = stretch.from.0;
+    while k < to {
+        if defines_name(text, starts, ends, definitions, RecordIndex(k), name) {
+            return RecordIndex(k);
         }
         k += 1;
     }
-    k
+    RecordIndex(k)
+}
+
+// Where the first search for a name ends that starts at this definition, of so many.
+fn end_near(near: usize, count: usize) -> usize
+    requires { ⌜ near < count ⌝ }
+    ensures { λ r. ⌜ (near ≤ r) × (r ≤ count) ⌝ }
+{
+    if count - near < NEAR {
+        return count;
+    }
+    near + NEAR
+}
+
+// The definition of the name, of which there is at most one; as many as there are where none has it. It is looked for near where it is
+// likely to stand, and then among all.
+fn find_definition(
+    text: &[u8],
+    starts: &[u32],
+    ends: &[u32],
+    definitions: &[usize],
+    sought: Sought,
+) -> RecordIndex
+    requires tokens { ⌜ TokensHeld (now text) (classes-of (meanings-in (now text))) (now starts) (now ends) ⌝ }
+    requires outlined { ⌜ definitions-in (now definitions) ≡ outline (classes-of (meanings-in (now text))) ⌝ }
+    requires distinct { ⌜ Distinct (meanings-in (now text)) ⌝ }
+    requires name { ⌜ Within (now text) (sought .name .start) (sought .name .end) ⌝ }
+    ensures { λ r. ⌜ r .0 ≡ defined-as (meanings-in (now (text .entry))) (between (now (text .entry)) (sought .name .start) (sought .name .end)) ⌝ }
+{
+    let name = sought.name;
+    let from = sought.near;
+    let count = count(definitions);
+    if from.0 < count {
+        let to = end_near(from.0, count);
+        let k = search_in(
+            text,
+            starts,
+            ends,
+            definitions,
+            name,
+            Stretch {
+                from,
+                to: RecordIndex(to),
+            },
+        );
+        if k.0 < to {
+            return k;
+        }
+    }
+    search_in(
+        text,
+        starts,
+        ends,
+        definitions,
+        name,
+        Stretch {
+            from: RecordIndex(0),
+            to: RecordIndex(count),
+        },
+    )
 }
 
 // What the name leads to, by the values of the imports and by the definitions.
@@ -97,12 +172,13 @@ pub fn leads_to(
     ends: &[u32],
     values: &[u32],
     definitions: &[usize],
-    name: Name,
+    sought: Sought,
 ) -> Lead
     requires scope { ⌜ ScopeHeld (now text) (now starts) (now ends) (now values) (now definitions) ⌝ }
-    requires name { ⌜ Within (now text) (name .start) (name .end) ⌝ }
-    ensures { λ r. ⌜ r ≡ leads-to (meanings-in (now (text .entry))) (between (now (text .entry)) (name .start) (name .end)) ⌝ }
+    requires name { ⌜ Within (now text) (sought .name .start) (sought .name .end) ⌝ }
+    ensures { λ r. ⌜ r ≡ leads-to (meanings-in (now (text .entry))) (between (now (text .entry)) (sought .name .start) (sought .name .end)) ⌝ }
 {
+    let name = sought.name;
     if names_iso(text, name.start, name.end) {
         return Lead::Iso;
     }
@@ -110,9 +186,9 @@ pub fn leads_to(
     if word != 0 {
         return lead_in(word);
     }
-    let d = find_definition(text, starts, ends, definitions, name);
-    if d < count(definitions) {
-        return Lead::Definition(RecordIndex(d));
+    let d = find_definition(text, starts, ends, definitions, sought);
+    if d.0 < count(definitions) {
+        return Lead::Definition(d);
     }
     Lead::Nothing
 }

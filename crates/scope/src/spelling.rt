@@ -7,14 +7,8 @@ ghost use Rattle.name_chain.specs.Chain.{Placed, is-named};
 ghost use Rattle.scope.specs.Token.{name-in};
 use crate::Name;
 use index::TokenIndex;
+use index::wide;
 use lexicon::word::same_spelling;
-
-// A place of the table, as the index that it is.
-fn wide(place: u32) -> usize
-    ensures { λ r. ⌜ r ≡ place ⌝ }
-{
-    place as usize
-}
 
 // The name of token i; of a token that is no name, nothing.
 pub fn name_at(classes: &[u8], starts: &[u32], ends: &[u32], i: TokenIndex) -> Name

@@ -5,6 +5,7 @@ mod name;
 mod verdict;
 
 pub use listed::collect_listed;
+use module_table::MOST_DEFINITIONS;
 pub use name::columns_of;
 pub use name::named_at;
 pub use name::type_of;
@@ -12,3 +13,6 @@ pub use verdict::ALIKE;
 pub use verdict::MIXED;
 pub use verdict::REPEATING;
 pub use verdict::collect_verdicts;
+
+// How many entries such an array has: one for each number of a definition, counted from 1, and one for 0.
+pub const PLACES: usize = MOST_DEFINITIONS + 1;

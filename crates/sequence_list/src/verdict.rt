@@ -5,6 +5,7 @@ ghost use lib.ListN.{length};
 ghost use Rattle.module_table.specs.Definition.{definitions-in};
 ghost use Rattle.sequence_list.specs.Named.{repeats, is-stranger, names-stranger};
 ghost use Rattle.sequence_list.specs.Held.{places, first-named, parent-named, verdict-of, VerdictTable, Stamped, Answered, Marked};
+use crate::PLACES;
 use crate::name::columns_of;
 use crate::name::named_at;
 use index::TokenIndex;
@@ -20,7 +21,7 @@ pub const MIXED: u8 = 2;
 pub const REPEATING: u8 = 3;
 
 // Marks an object with the stamp, and answers whether it had it already; 0 is no object.
-fn mark(marks: &mut [usize; 513], number: usize, stamp: usize) -> bool
+fn mark(marks: &mut [usize; PLACES], number: usize, stamp: usize) -> bool
     requires long { ⌜ length (now marks) ≡ places ⌝ }
     requires inside { ⌜ number < places ⌝ }
     ensures { λ r. ⌜ Marked (now (marks .entry)) number stamp r (now (marks .exit)) ⌝ }
@@ -32,7 +33,12 @@ fn mark(marks: &mut [usize; 513], number: usize, stamp: usize) -> bool
 
 // Whether the SEQUENCE type of a number names an object twice. The objects of its list are marked with a stamp of its own, over all marks
 // before.
-fn repeats(values: &[u32], definitions: &[usize], number: usize, marks: &mut [usize; 513]) -> bool
+fn repeats(
+    values: &[u32],
+    definitions: &[usize],
+    number: usize,
+    marks: &mut [usize; PLACES],
+) -> bool
     requires stamped { ⌜ Stamped (now marks) (number + 1) ⌝ }
     requires inside { ⌜ number < places ⌝ }
     ensures { λ r. ⌜ Answered r (repeats (definitions-in (now (definitions .entry))) (now (values .entry)) number) (now (marks .exit)) (number + 1 + 1) ⌝ }
@@ -101,7 +107,12 @@ fn names_stranger(values: &[u32], definitions: &[usize], number: usize, parent: 
 }
 
 // What is noted of the list of the SEQUENCE type of a number.
-fn verdict_of(values: &[u32], definitions: &[usize], number: usize, marks: &mut [usize; 513]) -> u8
+fn verdict_of(
+    values: &[u32],
+    definitions: &[usize],
+    number: usize,
+    marks: &mut [usize; PLACES],
+) -> u8
     requires stamped { ⌜ Stamped (now marks) (number + 1) ⌝ }
     requires inside { ⌜ number < places ⌝ }
     ensures { λ r. ⌜ Answered r (verdict-of (definitions-in (now (definitions .entry))) (now (values .entry)) number) (now (marks .exit)) (number + 1 + 1) ⌝ }
@@ -128,16 +139,16 @@ fn verdict_of(values: &[u32], definitions: &[usize], number: usize, marks: &mut 
 pub fn collect_verdicts(
     values: &[u32],
     definitions: &[usize],
-    verdicts: &mut [u8; 513],
-    parents: &mut [usize; 513],
+    verdicts: &mut [u8; PLACES],
+    parents: &mut [usize; PLACES],
 )
     requires verdicts { ⌜ length (now verdicts) ≡ places ⌝ }
     requires parents { ⌜ length (now parents) ≡ places ⌝ }
     ensures { λ _. ⌜ VerdictTable (definitions-in (now (definitions .entry))) (now (values .entry)) (now (verdicts .exit)) (now (parents .exit)) ⌝ }
 {
-    let mut marks = [0usize; 513];
+    let mut marks = [0usize; PLACES];
     let mut number = 0;
-    while number < 513 {
+    while number < PLACES {
         verdicts[number] = verdict_of(values, definitions, number, &mut marks);
         parents[number] = parent_named(values, definitions, number);
         number += 1;

@@ -2,14 +2,16 @@
 //
 // shelf FILE... prints a line for each file: its name, `accepted` and the count of definitions; or its name, `refused`, the number and the
 // place; with tabs between them. Without arguments the names are lines of standard input. At the end a summary goes to standard error.
+ghost use lib.ListN.{length};
+ghost use Rattle.command.specs.Within.{ListWithin};
 use card_line::write_head;
-use command::Line;
-use command::Lines;
+use command::List;
+use command::NO_LINE;
 use libc::STDERR_FILENO;
-use libc::STDIN_FILENO;
 use libc::STDOUT_FILENO;
 use output::Output;
 use reader::Answer;
+use reader::FILE_BYTES;
 use reader::NUMBER_WORDS;
 use reader::RECORD_WORDS;
 
@@ -22,83 +24,80 @@ const UNREAD: usize = 31;
 const STRIDE: u64 = 64;
 
 fn main() {
-    let mut text = [0u8; 65537];
     let mut counts = [0u64; 32];
-    if os::arg_count() <= 1 {
-        let out = read_list(&mut text, &mut counts, output::start());
-        print_summary(&counts);
-        output::finish(out);
-        return;
-    }
-    let out = read_arguments(&mut text, &mut counts, output::start());
+    let out = read_files(&mut counts, output::start());
     print_summary(&counts);
     output::finish(out);
 }
 
+fn read_files(counts: &mut [u64], out: Output) -> Output {
+    if os::arg_count() <= 1 {
+        return read_list(counts, out);
+    }
+    read_arguments(counts, out)
+}
+
 // Reads the files that the arguments name.
-fn read_arguments(text: &mut [u8], counts: &mut [u64], out: Output) -> Output {
-    let mut name = io::buffer();
-    let mut next = out;
+fn read_arguments(counts: &mut [u64], out: Output) -> Output {
     let count = os::arg_count();
+    let mut next = out;
     let mut i = 1;
     while i < count {
-        next = read_argument(i, &mut name, text, counts, next);
+        next = read_argument(i, counts, next);
+        show_progress(i as u64);
         i += 1;
-        show_progress(i as u64 - 1);
     }
     next
 }
 
-// Reads the file that argument i names; or says that the name is too long for a file's.
-fn read_argument(
-    i: usize,
-    name: &mut [u8],
-    text: &mut [u8],
-    counts: &mut [u64],
-    out: Output,
-) -> Output {
-    let n = os::arg(i, name);
-    if os::errno() != 0 {
-        count_one(counts, UNREAD);
-        return output::fail(out, name);
-    }
-    read_one(&name[..n], text, counts, out)
+// Reads the file that argument i names.
+fn read_argument(i: usize, counts: &mut [u64], out: Output) -> Output {
+    let mut name = io::buffer();
+    let mut text = [0u8; FILE_BYTES];
+    let file = command::read_argument(i, &mut name, &mut text);
+    let n = file.name;
+    let count = file.count;
+    answer_file(&name[0..n], file.failed, &text[0..count], counts, out)
 }
 
-// Reads the files that the lines of standard input name. The lines are counted in 64 bits, which no run uses up.
-fn read_list(text: &mut [u8], counts: &mut [u64], out: Output) -> Output {
+// Reads the files that the lines of standard input name.
+fn read_list(counts: &mut [u64], out: Output) -> Output {
     let mut space = io::large_buffer();
     output::say_waiting(
         b"mib shelf: waiting for the names of files, a line each; Ctrl-D ends them\n",
     );
-    read_lines(&mut space, text, counts, out)
+    read_lines(&mut space, counts, out)
 }
 
-fn read_lines(space: &mut [u8], text: &mut [u8], counts: &mut [u64], out: Output) -> Output {
-    let mut lines = Lines { from: 0, to: 0 };
-    let mut line: u64 = 0;
+fn read_lines(space: &mut [u8], counts: &mut [u64], out: Output) -> Output {
+    let mut list = command::first_in_list(space);
     let mut next = out;
-    while line < u64::MAX {
-        line += 1;
-        match command::next_line(STDIN_FILENO, space, lines) {
-            Line::At(from, to, rest) => {
-                next = read_one(&space[from..to], text, counts, next);
-                lines = rest;
-                show_progress(line);
-            }
-            Line::TooLong(rest) => {
-                next = complain_long(line, counts, next);
-                lines = rest;
-            }
-            Line::Failed => {
-                return output::fail(next, b"mib shelf: standard input");
-            }
-            Line::End => {
-                return next;
-            }
-        }
+    while list.line < NO_LINE {
+        next = read_line(space, list, counts, next);
+        list = command::next_in_list(space, list);
     }
+    output::fail_if(next, list.failed, b"mib shelf: standard input")
+}
+
+// Reads the file that the last line of the list names.
+fn read_line(space: &[u8], list: List, counts: &mut [u64], out: Output) -> Output
+    requires { ⌜ ListWithin list (length (now space)) ⌝ }
+{
+    if list.long {
+        return complain_long(list.line, counts, out);
+    }
+    let from = list.from;
+    let to = list.to;
+    let next = read_named(&space[from..to], counts, out);
+    show_progress(list.line);
     next
+}
+
+fn read_named(name: &[u8], counts: &mut [u64], out: Output) -> Output {
+    let mut text = [0u8; FILE_BYTES];
+    let content = command::read_file(name, &mut text);
+    let n = content.count;
+    answer_file(name, content.failed, &text[..n], counts, out)
 }
 
 fn complain_long(line: u64, counts: &mut [u64], out: Output) -> Output {
@@ -113,16 +112,13 @@ fn complain_long(line: u64, counts: &mut [u64], out: Output) -> Output {
     )
 }
 
-// Reads one file and prints its line; or says why it cannot be read. The buffer for the text has a byte more than a text may have, to tell
-// a longer file.
-fn read_one(name: &[u8], text: &mut [u8], counts: &mut [u64], out: Output) -> Output {
-    let content = command::read_file(name, text);
-    if content.failed {
+// Counts a file and prints its line; or says why it cannot be read.
+fn answer_file(name: &[u8], failed: bool, text: &[u8], counts: &mut [u64], out: Output) -> Output {
+    if failed {
         count_one(counts, UNREAD);
         return output::fail(out, name);
     }
-    let n = content.count;
-    let answer = read_text(&text[..n]);
+    let answer = read_text(text);
     count_one(counts, number_of(answer));
     print_line(name, answer, output::judge(out, number_of(answer) as u64))
 }
@@ -147,7 +143,7 @@ fn print_line(name: &[u8], answer: Answer, out: Output) -> Output {
     let next = buffer::put(&mut line, 0, b'\t');
     let end = write_head(answer, &mut line, next);
     let out = output::print(out, name);
-    output::print(out, &line[..end])
+    output::print(out, &line[0..end])
 }
 
 // One more of this answer.

@@ -83,10 +83,10 @@ module _ (text : List ℕ) (a b : ℕ) where
     broken : BrokenIn (rules (meanings-in text)) m token
     starts : q ≡ start-of (cut text .tokens) token
 
-  -- where the text is derived, its rules are in order
-  module _ (order : Derives text → InOrder (rules (meanings-in text))) where
-    later-number : {m token : ℕ} → Derives text → BrokenIn (rules (meanings-in text)) m token → 8 ≤ m
-    later-number derives x = omega (arith, x .numbered, from-eight (meanings-in text) (order derives) (x .rule) (x .listed))
+  -- its rules are in order
+  module _ (order : InOrder (rules (meanings-in text))) where
+    later-number : {m token : ℕ} → BrokenIn (rules (meanings-in text)) m token → 8 ≤ m
+    later-number x = omega (arith, x .numbered, from-eight (meanings-in text) order (x .rule) (x .listed))
 
     -- what breaks a rule of a number below 3
     by-number : (m q : ℕ) → In m q
@@ -95,7 +95,7 @@ module _ (text : List ℕ) (a b : ℕ) where
     by-number m q (long-text over) = inr (inl (refl, over))
     by-number m q (not-cut e) = inr (inr (cut-numbered text m q e .0))
     by-number m q (not-derived c n f) = inr (inr (omega arith))
-    by-number m q (rule-broken c d x) = inr (inr (omega (arith, later-number d x)))
+    by-number m q (rule-broken c d x) = inr (inr (omega (arith, later-number x)))
 
     -- no number is 0
     pub numbered : (m q : ℕ) → In m q → 1 ≤ m
@@ -195,4 +195,4 @@ module _ (text : List ℕ) (a b : ℕ) where
                   ⊎-elim
                   (λ less. inl (omega (arith, y .numbered)))
                   (λ same. inr (same .0 ∙ y .numbered, omega (arith, o .starts, starts-rise text (f .token .0) (o .token) (omega (arith, same .1, y .placed)) inside)))
-                  (first-least (rules (meanings-in text)) first (order derives) (y .rule) (y .listed) (y .index) (y .broken))
+                  (first-least (rules (meanings-in text)) first order (y .rule) (y .listed) (y .index) (y .broken))

@@ -21,7 +21,7 @@ use Rattle.reader.specs.Buffers.{number-of, answer-to, Reads}
 use Rattle.reader.specs.declared.Answer.{Answer}
 use Rattle.reader.specs.declared.Answer.the-variants.{Accepted, Refused}
 use Rattle.statements.specs.Order.{InOrder, Placed}
-use Rattle.statements.specs.Breach.{WithinLimits, Cuts, Derives, InBreach, FirstBreach}
+use Rattle.statements.specs.Breach.{WithinLimits, Cuts, InBreach, FirstBreach}
 use Rattle.statements.proofs.Limits.{Lent, short, long, within, lent}
 use Rattle.statements.proofs.Breaches.{one-first, numbered, first-short, first-long, past-limits, first-uncut, first-underived, none-broken, first-broken}
 
@@ -30,8 +30,8 @@ abbrev pub Right : List ℕ → ℕ → ℕ → Answer → Type 0
 Right text a b (Accepted count) = (m q : ℕ) → InBreach text a b m q → ⊥
 Right text a b (Refused number place) = FirstBreach text a b number (place .0)
 
--- of a text whose rules, where it is derived, are in order, with places among the tokens
-module _ (text : List ℕ) (order : Derives text → InOrder (rules (meanings-in text))) (placed : Placed (length (meanings-in text)) (rules (meanings-in text))) where
+-- of a text whose rules are in order, with places among the tokens
+module _ (text : List ℕ) (order : InOrder (rules (meanings-in text))) (placed : Placed (length (meanings-in text)) (rules (meanings-in text))) where
   -- within the limits, by how the text is parsed
   module _ (a b : ℕ) (limits : WithinLimits text a b) where
     abbrev RightOutcome : Parsing → Type 0

@@ -12,7 +12,7 @@ use Rattle.definition.specs.Landmark.{begins, last, definitions, definition-end
 use Rattle.definition.specs.Fields.{fields-of, fields-at}
 use Rattle.definition.proofs.Inside.{Inside, syntax-inside}
 use Rattle.definition.proofs.Next.{definition-next}
-use Rattle.statements.proofs.RisingHits.{hits-rise}
+use Rattle.index.proofs.Hits.{hits-rise}
 
 module _ (cs : List ℕ) where
   -- definition k: its name's token, and where it ends

@@ -2,14 +2,12 @@
 -- Assumes nothing.
 use mathlib.Core.Path.{_≡_, refl}
 use mathlib.Core.Bool.{Bool, cond, true, false}
-use Prim.Native.Nat.{ℕ, zero, suc, _≤_, _<_}
-use native.Mathlib.Decide.{decLt}
+use Prim.Native.Nat.{ℕ, _≤_, _<_}
 use native.Mathlib.Omega.{arith}
 use lib.ListN.{length, getD}
 use Rattle.index.specs.First.{hits}
 use Rattle.rule.specs.Rule.{Rule}
-use Rattle.index.proofs.Search.{first-from}
-use Rattle.index.proofs.Hits.{hits-few, hit-inside, next-hit, inside-same}
+use Rattle.index.proofs.Hits.{hits-rise, hit-inside}
 use Rattle.statements.specs.Order.{Broken, Rises}
 
 -- a rule of number n whose breaches rise, each with its place from d on, below e
@@ -32,23 +30,6 @@ confined-either true p q = p
 confined-either false p q = q
 
 module _ (test : ℕ → Bool) (a b : ℕ) where
-  -- each hit stands before the next
-  next-later : (k : ℕ) → suc k < length (hits test a b) → getD (hits test a b) k 0 < getD (hits test a b) (suc k) 0
-  next-later k h =
-      let next = next-hit test a b k (omega (arith, hits-few test a b)) (omega arith) in
-      let same = inside-same (hits test a b) (suc k) 0 b h in
-      omega (arith, next, same, first-from test (suc (getD (hits test a b) k 0)) b)
-
-  -- and so before all later ones
-  pub hits-rise : (i j : ℕ) → i < j → j < length (hits test a b) → getD (hits test a b) i 0 < getD (hits test a b) j 0
-  hits-rise i zero l h = absurd (omega arith)
-  hits-rise i (suc j) l h = go (decLt i j) (hits-rise i j)
-    where
-      go : Dec (i < j) → (i < j → j < length (hits test a b) → getD (hits test a b) i 0 < getD (hits test a b) j 0)
-          → getD (hits test a b) i 0 < getD (hits test a b) (suc j) 0
-      go (yes m) before = omega (arith, before m (omega arith), next-later j h)
-      go (no m) before = let same : i ≡ j = omega arith in rw same (next-later j h)
-
   -- a rule whose places are the hits
   pub hits-confined : (r : Rule) → r .to ≡ length (hits test a b) → ((k : ℕ) → k < length (hits test a b) → r .place k ≡ getD (hits test a b) k 0)
       → Confined (r .number) a b r
@@ -56,7 +37,7 @@ module _ (test : ℕ → Bool) (a b : ℕ) where
     numbered = refl;
     rises = λ i j l p q.
         let more : j < length (hits test a b) = omega (arith, q .below) in
-        omega (arith, hits-rise i j l more, placed i (omega arith), placed j more);
+        omega (arith, hits-rise test a b i j l more, placed i (omega arith), placed j more);
     inside = λ i p.
         let more : i < length (hits test a b) = omega (arith, p .below) in
         let within = hit-inside test a b i more in

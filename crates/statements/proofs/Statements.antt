@@ -7,7 +7,6 @@ use Rattle.token.specs.Cut.{meanings-in}
 use Rattle.row_status.specs.RowStatus.{Outcome}
 use Rattle.reader.specs.Reading.{rules}
 use Rattle.statements.specs.Order.{InOrder}
-use Rattle.statements.specs.Breach.{Derives}
 use Rattle.statements.specs.Statements.{Statements}
 use Rattle.statements.proofs.Rising.{rules-in-order, rules-placed}
 use Rattle.statements.proofs.Demands.{first-demand, second-demand}
@@ -17,9 +16,9 @@ use Rattle.statements.proofs.Printing.{prints, printed-alike, octets-bo
 use Rattle.statements.proofs.Rows.{state-kept, same-answer}
 use Rattle.statements.proofs.Examples.{examples}
 
--- the rules of any text are in order, and so those of a derived one
-order : (text : List ℕ) → Derives text → InOrder (rules (meanings-in text))
-order text derives = rules-in-order (meanings-in text)
+-- the rules of any text are in order
+order : (text : List ℕ) → InOrder (rules (meanings-in text))
+order text = rules-in-order (meanings-in text)
 
 pub statements : Statements
 statements = record {

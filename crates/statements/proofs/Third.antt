@@ -20,24 +20,24 @@ use Rattle.reader.specs.Reading.{rules, judged, outcome}
 use Rattle.reader.specs.Buffers.{number-of, answer-to, Reads}
 use Rattle.reader.specs.declared.Answer.{Answer}
 use Rattle.statements.specs.Order.{InOrder}
-use Rattle.statements.specs.Breach.{WithinLimits, Cuts, Derives}
+use Rattle.statements.specs.Breach.{WithinLimits, Cuts}
 use Rattle.statements.specs.Statements.{ThirdDemand}
 use Rattle.statements.proofs.First.{first-found}
 use Rattle.statements.proofs.Breaches.{from-eight}
 
-module _ (text : List ℕ) (order : Derives text → InOrder (rules (meanings-in text))) where
+module _ (text : List ℕ) (order : InOrder (rules (meanings-in text))) where
   -- an answer to the rules is not refusal 7
-  not-seven : Derives text → (j : Judgement) → judge (rules (meanings-in text)) ≡ j → number-of (answer-to (judged (cut text .tokens) j)) ≡ 7 → ⊥
-  not-seven derives Kept is seven = omega (arith, seven)
-  not-seven derives (Broken f) is seven =
+  not-seven : (j : Judgement) → judge (rules (meanings-in text)) ≡ j → number-of (answer-to (judged (cut text .tokens) j)) ≡ 7 → ⊥
+  not-seven Kept is seven = omega (arith, seven)
+  not-seven (Broken f) is seven =
       let x = first-found (judged-broken (rules (meanings-in text)) f is) in
-      omega (arith, seven, x .numbered, from-eight (meanings-in text) (order derives) (x .rule) (x .listed))
+      omega (arith, seven, x .numbered, from-eight (meanings-in text) order (x .rule) (x .listed))
 
   demand-of : (v : Verdict) → ParsingDemand text (parsing-of (cut text .tokens) (length text) v)
       → ThirdDemand text (answer-to (outcome text (parsing-of (cut text .tokens) (length text) v)))
   demand-of derived d =
       let derives = d .otherwise .0 refl in
-      let never = not-seven derives (judge (rules (meanings-in text))) refl in
+      let never = not-seven (judge (rules (meanings-in text))) refl in
       record {
         exactly = (λ seven. absurd (never seven), λ none. absurd (none derives));
         at-fault = λ seven. absurd (never seven);

@@ -25,12 +25,6 @@ pub enum Sort {
 }
 
 // The same number in a wider type.
-fn wide_u8(x: u8) -> usize
-    ensures { λ r. ⌜ r ≡ x ⌝ }
-{
-    x as usize
-}
-
 fn wide_u16(x: u16) -> usize
     ensures { λ r. ⌜ r ≡ x ⌝ }
 {

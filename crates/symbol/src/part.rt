@@ -14,7 +14,7 @@ use crate::table::NAME_BYTES;
 use crate::table::NAME_STARTS;
 use crate::table::NAMES;
 use crate::table::SYMBOLS;
-use crate::wide_u8;
+use index::wide_byte;
 use lexicon::word::same_spelling;
 
 // Whether it is the name k of a table of joined names.
@@ -80,6 +80,6 @@ pub fn names_source(text: &[u8], start: usize, end: usize, k: usize) -> bool
     requires symbol { ⌜ k < symbol-count ⌝ }
     ensures { λ r. ⌜ r ≡ same (between (now (text .entry)) start end) (module-name k) ⌝ }
 {
-    let module = wide_u8(MODULES[k]);
+    let module = wide_byte(MODULES[k]);
     is_name_of(text, start, end, &MODULE_NAMES, &MODULE_STARTS, module)
 }

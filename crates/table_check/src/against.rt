@@ -24,70 +24,70 @@ fn is_of(definitions: &[usize], class: usize, number: usize, r: RecordIndex) -> 
 }
 
 // The first such object from an index on; the number of definitions where there is none, or the index past it.
-fn first_of(definitions: &[usize], class: usize, number: usize, from: usize) -> usize
-    ensures { λ r. ⌜ r ≡ first (is-of (definitions-in (now (definitions .entry))) class number) from (length (definitions-in (now (definitions .entry)))) ⌝ }
+fn first_of(definitions: &[usize], class: usize, number: usize, from: RecordIndex) -> RecordIndex
+    ensures { λ r. ⌜ r .0 ≡ first (is-of (definitions-in (now (definitions .entry))) class number) (from .0) (length (definitions-in (now (definitions .entry)))) ⌝ }
 {
     let n = count(definitions);
-    let mut r = from;
+    let mut r = from.0;
     while r < n {
         if is_of(definitions, class, number, RecordIndex(r)) {
-            return r;
+            return RecordIndex(r);
         }
         r += 1;
     }
-    r
+    RecordIndex(r)
 }
 
 // The definition of a number, counted from 1; k where it is 0.
-fn definition_or(k: usize, number: usize) -> usize
-    ensures { λ r. ⌜ r ≡ definition-or k number ⌝ }
+fn definition_or(k: RecordIndex, number: usize) -> RecordIndex
+    ensures { λ r. ⌜ r .0 ≡ definition-or (k .0) number ⌝ }
 {
     if number == 0 {
         return k;
     }
-    number - 1
+    RecordIndex(number - 1)
 }
 
 // The SEQUENCE type of definition k, else itself.
-fn type_against(definitions: &[usize], k: RecordIndex) -> usize
-    ensures { λ r. ⌜ r ≡ type-against (definitions-in (now (definitions .entry))) (k .0) ⌝ }
+fn type_against(definitions: &[usize], k: RecordIndex) -> RecordIndex
+    ensures { λ r. ⌜ r .0 ≡ type-against (definitions-in (now (definitions .entry))) (k .0) ⌝ }
 {
-    definition_or(k.0, type_of(definition_at(definitions, k)))
+    definition_or(k, type_of(definition_at(definitions, k)))
 }
 
 // The second row of its SEQUENCE type, else the first, else the type, else itself.
-fn row_against(definitions: &[usize], k: RecordIndex) -> usize
-    ensures { λ r. ⌜ r ≡ row-against (definitions-in (now (definitions .entry))) (k .0) ⌝ }
+fn row_against(definitions: &[usize], k: RecordIndex) -> RecordIndex
+    ensures { λ r. ⌜ r .0 ≡ row-against (definitions-in (now (definitions .entry))) (k .0) ⌝ }
 {
     let n = count(definitions);
     let number = type_of(definition_at(definitions, k));
-    let first = first_of(definitions, ROW, number, 0);
-    if n <= first {
+    let first = first_of(definitions, ROW, number, RecordIndex(0));
+    if n <= first.0 {
         return type_against(definitions, k);
     }
-    let second = first_of(definitions, ROW, number, first + 1);
-    if n <= second {
+    let second = first_of(definitions, ROW, number, RecordIndex(first.0 + 1));
+    if n <= second.0 {
         return first;
     }
     second
 }
 
 // The first table of its SEQUENCE type, else the type, else itself.
-fn table_against(definitions: &[usize], k: RecordIndex) -> usize
-    ensures { λ r. ⌜ r ≡ table-against (definitions-in (now (definitions .entry))) (k .0) ⌝ }
+fn table_against(definitions: &[usize], k: RecordIndex) -> RecordIndex
+    ensures { λ r. ⌜ r .0 ≡ table-against (definitions-in (now (definitions .entry))) (k .0) ⌝ }
 {
     let n = count(definitions);
     let number = type_of(definition_at(definitions, k));
-    let first = first_of(definitions, TABLE, number, 0);
-    if n <= first {
+    let first = first_of(definitions, TABLE, number, RecordIndex(0));
+    if n <= first.0 {
         return type_against(definitions, k);
     }
     first
 }
 
 // What definition k stands against by a clause.
-pub fn other_by(values: &[u32], definitions: &[usize], k: RecordIndex, clause: u8) -> usize
-    ensures { λ r. ⌜ r ≡ other-by (definitions-in (now (definitions .entry))) (now (values .entry)) (k .0) clause ⌝ }
+pub fn other_by(values: &[u32], definitions: &[usize], k: RecordIndex, clause: u8) -> RecordIndex
+    ensures { λ r. ⌜ r .0 ≡ other-by (definitions-in (now (definitions .entry))) (now (values .entry)) (k .0) clause ⌝ }
 {
     if clause == 1 {
         return row_against(definitions, k);
@@ -103,12 +103,12 @@ pub fn other_by(values: &[u32], definitions: &[usize], k: RecordIndex, clause: u
     }
     let d = definition_at(definitions, k);
     if clause == 7 {
-        return definition_or(k.0, d.parent);
+        return definition_or(k, d.parent);
     }
     if clause == 8 {
         let list = d.augments;
         let from = list.from;
-        return definition_or(k.0, number_at(values, TokenIndex(from)));
+        return definition_or(k, number_at(values, TokenIndex(from)));
     }
-    k.0
+    k
 }

@@ -40,10 +40,7 @@ fn found(values: &[u32], definitions: &[usize], k: RecordIndex, clause: u8) -> F
     ensures { λ r. ⌜ r ≡ found (definitions-in (now (definitions .entry))) (now (values .entry)) (k .0) clause ⌝ }
 {
     let d = definition_at(definitions, k);
-    let other = definition_at(
-        definitions,
-        RecordIndex(other_by(values, definitions, k, clause)),
-    );
+    let other = definition_at(definitions, other_by(values, definitions, k, clause));
     let token = d.name;
     let against = other.name;
     Finding {

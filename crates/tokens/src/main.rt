@@ -17,53 +17,34 @@ use token::LONGEST_TEXT;
 
 fn main() {
     let count = os::arg_count();
-    let mut out = output::start();
-    if count <= 1 {
-        output::finish(complain_none(out));
-        return;
-    }
-    let mut name = io::buffer();
-    // One byte more than a text may have, to tell a longer file.
-    let mut buf = [0u8; LONGEST_TEXT + 1];
+    let mut out = start(count);
     let mut i = 1;
     while i < count {
-        out = list_argument(i, &mut name, 2 < count, &mut buf, out);
+        out = list_argument(i, 2 < count, out);
         i += 1;
     }
     output::finish(out);
 }
 
-fn complain_none(out: Output) -> Output {
-    output::complain(
-        out,
-        b"mib tokens",
-        0,
-        b"",
-        b"is no file",
-        b"mib tokens FILE...",
-    )
+fn start(count: usize) -> Output {
+    output::start_on_files(count, b"mib tokens", b"mib tokens FILE...")
 }
 
-// Lists the file that argument i names; or says that the name is too long for a file's.
-fn list_argument(i: usize, name: &mut [u8], named: bool, buf: &mut [u8], out: Output) -> Output {
-    let n = os::arg(i, name);
-    if os::errno() != 0 {
-        return output::fail(out, name);
+// Lists the file that argument i names, behind a line with its name where it is named; or says why it cannot be read. The buffer has a
+// byte more than a text may have, to tell a longer file.
+fn list_argument(i: usize, named: bool, out: Output) -> Output {
+    let mut name = io::buffer();
+    let mut buf = [0u8; LONGEST_TEXT + 1];
+    let file = command::read_argument(i, &mut name, &mut buf);
+    let n = file.name;
+    if file.failed {
+        return output::fail(out, &name[0..n]);
     }
-    list_file(&name[..n], named, buf, out)
-}
-
-// Lists one file, behind a line with its name where it is named; or says why it cannot be opened or read.
-fn list_file(name: &[u8], named: bool, buf: &mut [u8], out: Output) -> Output {
-    let content = command::read_file(name, buf);
-    if content.failed {
-        return output::fail(out, name);
-    }
-    let n = content.count;
+    let count = file.count;
     if named {
-        return list_bytes(&buf[..n], print_line(name, out));
+        return list_bytes(&buf[0..count], print_line(&name[0..n], out));
     }
-    list_bytes(&buf[..n], out)
+    list_bytes(&buf[0..count], out)
 }
 
 fn print_line(line: &[u8], out: Output) -> Output {

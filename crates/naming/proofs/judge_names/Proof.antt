@@ -14,7 +14,7 @@ use Rattle.scope.specs.Held.{ImportsHeld}
 use Rattle.scope.proofs.Tokens.{classes-are, said-counted, held-said}
 use Rattle.naming.specs.Rules.{not-offered, unknown-name, after-count}
 use Rattle.naming.specs.Told.{ImportsFilled, UsesFilled}
-use Rattle.naming.proofs.Named.{imports-held, all-values}
+use Rattle.naming.proofs.Named.{names-distinct, imports-held, all-values}
 use Rattle.naming.proofs.Reading.{broken-filled}
 use borrow.Author.Needs.{needs}
 use Rattle.naming.proofs.judge_names.Statement.{statement}
@@ -99,7 +99,7 @@ judge-uses-requires c κs =
     let cs = classes-are _ _ _ _ (s .pre .0) in
     let filled = subst (λ (x : Judgement). ImportsFilled (meanings-in (s .args .text .now)) x (j .judge-offers .last .1 .1 .1 .1 .0)) (c .before .enum-told3 .given .1) (j .judge-offers .ensures .1 .1) in
     let imports = imports-held _ _ _ (held-said _ _ _ _ (s .pre .0)) _ (all ∙ ap length cs) filled in
-    (s .pre .0, (all, (subst (λ (l : List ℕ). ImportsHeld (meanings-in (s .args .text .now)) (take (imports-end l) (j .judge-offers .last .1 .1 .1 .1 .0))) (sym cs) imports, (s .pre .1 .1 .0, s .pre .1 .1 .1))))
+    (s .pre .0, (all, (subst (λ (l : List ℕ). ImportsHeld (meanings-in (s .args .text .now)) (take (imports-end l) (j .judge-offers .last .1 .1 .1 .1 .0))) (sym cs) imports, (s .pre .1 .1 .0, (s .pre .1 .1 .1, names-distinct _ (sym (j .before .before .enum-told .given .1) ∙ first-of j .judge-introduced .ensures .1))))))
 
 enum-told-5 : tie.Need-enum-told-5
 enum-told-5 c = search needs

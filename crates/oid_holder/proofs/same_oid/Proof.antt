@@ -5,7 +5,7 @@ use mathlib.Core.List.{List}
 use Prim.Native.Nat.{ℕ}
 use Rattle.lexicon.specs.Word.{same}
 use Rattle.module_table.specs.Module.{oid-in}
-use Rattle.number_list.specs.Run.{run}
+use Rattle.oid_run.specs.Run.{run}
 use borrow.Author.Needs.{needs}
 use Rattle.oid_holder.proofs.same_oid.Statement.{statement}
 use Rattle.oid_holder.proofs.same_oid.Tie as tie

@@ -14,8 +14,8 @@ use Rattle.module_table.specs.declared.Definition.{Definition}
 use Rattle.module_table.specs.declared.Lead.{Lead}
 use Rattle.module_table.specs.Definition.{definitions-in}
 use Rattle.module_table.specs.Lead.{word-of, Small}
-use Rattle.reference.specs.Need.{enclosing, need-at}
-use Rattle.reference.specs.declared.Need.{Need}
+use Rattle.name_kind.specs.Need.{enclosing, need-at}
+use Rattle.name_kind.specs.declared.need.Need.{Need}
 use Rattle.outline.specs.Outline.{outline}
 use Rattle.scope.specs.Token.{classes-of, spelled}
 use Rattle.scope.specs.Import.{imports-end}
@@ -32,11 +32,11 @@ use Rattle.naming.proofs.usage.judge_uses.Statement.{statement}
 use Rattle.naming.proofs.usage.judge_uses.Tie as tie
 
 abbrev Inv-loop : tie.InvT-loop
-Inv-loop text classes starts ends values₀ definitions end word₀ i₀ values word i =
+Inv-loop text classes starts ends values₀ definitions end word₀ near₀ i₀ values word near i =
     Using (meanings-in text) values₀ i values × (word ≡ enclosing (take (length classes) classes) i)
 
 abbrev μ-loop : tie.MeasureT-loop
-μ-loop text classes starts ends values₀ definitions end word₀ i₀ values word i = length classes - i
+μ-loop text classes starts ends values₀ definitions end word₀ near₀ i₀ values word near i = length classes - i
 
 abbrev start-of : tie.At-loop Inv-loop μ-loop → tie.Start Inv-loop μ-loop
 start-of l = l .before .before .before .before .before .before .before .before .before
@@ -132,7 +132,7 @@ leads-to-requires c κs =
     let l = c .before .before .before .before .before .before in
     let s = start-of l in
     let h = c .before .before .before .before .before .loop-test .taken in
-    (record { tokens = held-said _ _ _ _ (s .pre .0); imports = imports-now l; outlined = s .pre .1 .1 .1 .0 }, named-is _ _ _ _ (s .pre .0) _ h _ (c .before .name-at .ensures) .0)
+    (record { tokens = held-said _ _ _ _ (s .pre .0); imports = imports-now l; outlined = s .pre .1 .1 .1 .0; distinct = s .pre .1 .1 .1 .1 .1 }, named-is _ _ _ _ (s .pre .0) _ h _ (c .before .name-at .ensures) .0)
 
 serves-requires : tie.Need-serves-requires Inv-loop μ-loop
 serves-requires c κs = tt
@@ -150,34 +150,37 @@ returns c =
     let un = use-known _ _ _ (need-is a) _ (lead-is a) _ (served (start-of l) _ _ (c .before .before .serves .ensures)) in
     (l .loop .inv .0 .long, (ap Broken (c .plain-finding .ensures) ∙ using-broken _ _ _ _ (l .loop .inv .0) (inside a) (sym un ∙ c .before .if2 .taken), tt))
 
+nearest-requires : tie.Need-nearest-requires Inv-loop μ-loop
+nearest-requires c κs = tt
+
 word-for-requires : tie.Need-word-for-requires Inv-loop μ-loop
 word-for-requires c κs =
-    let a = c .before .before in
+    let a = c .before .before .before in
     let s = start-of (loop-of a) in
-    subst Small (sym (lead-is a)) (lead-small _ _ (omega (arith, s .pre .1 .1 .1 .1, defined-counted _ _ (s .pre .1 .1 .1 .0))))
+    subst Small (sym (lead-is a)) (lead-small _ _ (omega (arith, s .pre .1 .1 .1 .1 .0, defined-counted _ _ (s .pre .1 .1 .1 .0))))
 
 mul-values : tie.Need-mul-values Inv-loop μ-loop
-mul-values c = let a = c .before .before .before in omega (arith, a .before .before .before .before .before .before .loop-test .taken, few-classes _ _ _ _ (start-of (loop-of a) .pre .0))
+mul-values c = let a = c .before .before .before .before in omega (arith, a .before .before .before .before .before .before .loop-test .taken, few-classes _ _ _ _ (start-of (loop-of a) .pre .0))
 
 slice-write-values : tie.Need-slice-write-values Inv-loop μ-loop
-slice-write-values c = let a = c .before .before .before in room a
+slice-write-values c = let a = c .before .before .before .before in room a
 
 next-enclosing-requires : tie.Need-next-enclosing-requires Inv-loop μ-loop
-next-enclosing-requires c κs = (omega arith, loop-of (c .before .before .before) .loop .inv .1)
+next-enclosing-requires c κs = (omega arith, loop-of (c .before .before .before .before) .loop .inv .1)
 
 add-i : tie.Need-add-i Inv-loop μ-loop
-add-i c = let a = c .before .before .before .before in omega (arith, a .before .before .before .before .before .before .loop-test .taken, few-classes _ _ _ _ (start-of (loop-of a) .pre .0))
+add-i c = let a = c .before .before .before .before .before in omega (arith, a .before .before .before .before .before .before .loop-test .taken, few-classes _ _ _ _ (start-of (loop-of a) .pre .0))
 
 loop-less : tie.Need-loop-less Inv-loop μ-loop
-loop-less c = let a = c .before .before .before .before in omega (arith, a .before .before .before .before .before .before .loop-test .taken)
+loop-less c = let a = c .before .before .before .before .before in omega (arith, a .before .before .before .before .before .before .loop-test .taken)
 
 loop-again : tie.Need-loop-again Inv-loop μ-loop
 loop-again c =
-    let a = c .before .before .before .before in
+    let a = c .before .before .before .before .before in
     let l = loop-of a in
-    let known = use-known _ _ _ (need-is a) _ (lead-is a) _ (served (start-of l) _ _ (c .before .before .before .serves .ensures)) in
+    let known = use-known _ _ _ (need-is a) _ (lead-is a) _ (served (start-of l) _ _ (c .before .before .before .before .serves .ensures)) in
     let value = c .before .word-for .ensures ∙ ap word-of (lead-is a) ∙ use-value _ _ (l .loop .inv .0 .from) (used a) in
-    (using-next _ _ _ _ (l .loop .inv .0) (inside a) (sym known ∙ c .before .before .if2 .left) (room a) _ value, c .next-enclosing .ensures)
+    (using-next _ _ _ _ (l .loop .inv .0) (inside a) (sym known ∙ c .before .before .before .if2 .left) (room a) _ value, c .next-enclosing .ensures)
 
 magnitude-at-requires : tie.Need-magnitude-at-requires Inv-loop μ-loop
 magnitude-at-requires c κs = (start-of (c .before .before .before .before) .pre .0, c .before .before .before .loop-test .taken)
@@ -239,6 +242,7 @@ judge-uses-spec =
     plain-finding-requires
     same-length
     returns
+    nearest-requires
     word-for-requires
     mul-values
     slice-write-values

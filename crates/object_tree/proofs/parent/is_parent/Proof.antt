@@ -1,6 +1,6 @@
 -- `is_parent` is right, test by test.
 -- Assumes nothing.
-use Rattle.number_list.specs.Run.{is-below}
+use Rattle.oid_run.specs.Run.{is-below}
 use mathlib.Core.Path.{sym, _∙_}
 use borrow.Author.Tests.{not-true, not-false}
 use Rattle.object_tree.proofs.Parents.{no-child, not-parent, parent-below, below-same}

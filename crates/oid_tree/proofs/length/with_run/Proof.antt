@@ -12,9 +12,8 @@ start-of-requires c κs = search needs
 
 returns : tie.Need-returns
 returns c =
-    let r = c .before .before .before .before .before .before .before in
-    let s = r .before in
-    ap (λ (n : ℕ). with-run n (s .args .count) (s .args .d)) (r .start-of .ensures)
+    let s = c .before in
+    ap (λ (n : ℕ). with-run n (s .args .count) (s .args .d)) (c .start-of .ensures)
 
 pub with-run-spec : {M : Type 1} → statement M
 with-run-spec = tie.close (tie.spec start-of-requires returns)

@@ -22,19 +22,19 @@ abbrev start-of : Read → tie.Start
 start-of c = c .before .before .before .before .before
 
 abbrev name-of : tie.Start → ℕ
-name-of s = getD (definitions (classes-of (meanings-in (s .args .text .now)))) (s .args .k) 0
+name-of s = getD (definitions (classes-of (meanings-in (s .args .text .now)))) (s .args .k .0) 0
 
 -- the name that was read is the definition's
 token-is : (c : Read) → c .definition-at .result .name .0 ≡ name-of (start-of c)
 token-is c =
     let s = start-of c in
-    ap (λ (d : Definition). d .name .0) (c .definition-at .ensures) ∙ name-read _ _ (s .pre .1 .0) (s .args .k) (s .pre .1 .1 .0)
+    ap (λ (d : Definition). d .name .0) (c .definition-at .ensures) ∙ name-read _ _ (s .pre .1 .0) (s .args .k .0) (s .pre .1 .1 .0)
 
 inside : (s : tie.Start) → name-of s < length (classes-of (meanings-in (s .args .text .now)))
-inside s = name-inside _ _ (s .pre .1 .0) (s .args .k) (s .pre .1 .1 .0)
+inside s = name-inside _ _ (s .pre .1 .0) (s .args .k .0) (s .pre .1 .1 .0)
 
 named : (s : tie.Start) → is-name (class-at (classes-of (meanings-in (s .args .text .now))) (name-of s)) ≡ true
-named s = name-named _ _ (s .pre .1 .0) (s .args .k) (s .pre .1 .1 .0)
+named s = name-named _ _ (s .pre .1 .0) (s .args .k .0) (s .pre .1 .1 .0)
 
 definition-at-requires : tie.Need-definition-at-requires
 definition-at-requires c κs = search needs

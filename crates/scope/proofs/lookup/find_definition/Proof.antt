@@ -1,91 +1,64 @@
--- `find_definition` is right by the law of searching loops.
+-- `find_definition` is right because a name has at most one definition: one that is found anywhere is the first of all.
 -- Assumes nothing.
-use mathlib.Core.Path.{_≡_, sym, ap, _∙_}
-use Prim.Native.Nat.{_-_}
+use mathlib.Core.Path.{_≡_, _∙_, ap}
 use native.Mathlib.Omega.{arith}
-use borrow.Author.Needs.{needs}
 use lib.ListN.{length}
+use borrow.Author.Needs.{needs}
 use Rattle.index.specs.First.{first}
-use Rattle.index.proofs.Search.{Searched, searched-start, searched-miss, searched-hit, searched-end}
-use Rattle.lexicon.specs.Word.{between}
 use Rattle.token.specs.Cut.{meanings-in}
 use Rattle.definition.specs.Landmark.{definitions}
-use Rattle.scope.specs.Token.{classes-of}
 use Rattle.module_table.specs.Definition.{definitions-in}
-use Rattle.scope.specs.Lead.{defines-name}
-use Rattle.scope.proofs.Leads.{defined-counted}
+use Rattle.scope.specs.Token.{classes-of}
+use Rattle.scope.proofs.Leads.{defined-counted, only-defined}
 use Rattle.scope.proofs.lookup.find_definition.Statement.{statement}
 use Rattle.scope.proofs.lookup.find_definition.Tie as tie
 
-abbrev Inv-loop : tie.InvT-loop
-Inv-loop text starts ends definitions name k₀ k =
-    Searched (defines-name (meanings-in text) (between text (name .start) (name .end))) 0 (length (definitions-in definitions)) k
-
-abbrev μ-loop : tie.MeasureT-loop
-μ-loop text starts ends definitions name k₀ k = length (definitions-in definitions) - k
-
-abbrev start-of : tie.At-loop Inv-loop μ-loop → tie.Start Inv-loop μ-loop
-start-of l = l .before .before .before .before .before
+abbrev start-of : tie.After-count → tie.Start
+start-of c = c .before .before .before .before .before .before .before
 
 -- there are as many as the code counts
-all : (s : tie.Start Inv-loop μ-loop) → length (definitions-in (s .args .definitions .now)) ≡ length (definitions (classes-of (meanings-in (s .args .text .now))))
+all : (s : tie.Start) → length (definitions-in (s .args .definitions .now)) ≡ length (definitions (classes-of (meanings-in (s .args .text .now))))
 all s = defined-counted _ _ (s .pre .1 .0)
 
-loop-holds : tie.Need-loop-holds Inv-loop μ-loop
-loop-holds c = searched-start _ 0 _ (omega arith)
-
-count-requires : tie.Need-count-requires Inv-loop μ-loop
+count-requires : tie.Need-count-requires
 count-requires c κs = search needs
 
-defines-name-requires : tie.Need-defines-name-requires Inv-loop μ-loop
-defines-name-requires c κs =
-    let l = c .before .before in
-    let s = start-of l in
-    (s .pre .0, (s .pre .1 .0, (rw (c .before .count .ensures) at (c .if1 .taken), s .pre .1 .1)))
+end-near-requires : tie.Need-end-near-requires
+end-near-requires c κs = search needs
 
-returns : tie.Need-returns Inv-loop μ-loop
+search-in-requires : tie.Need-search-in-requires
+search-in-requires c κs =
+    let n = c .before .before .before in
+    let s = start-of n in
+    (s .pre .0, (s .pre .1 .0, (s .pre .1 .1 .1, (c .end-near .ensures .0, omega (arith, c .end-near .ensures .1, n .count .ensures)))))
+
+returns : tie.Need-returns
 returns c =
-    let l = c .before .before .before .before in
-    let s = start-of l in
-    let e = c .before .before in
-    let h = rw (e .before .count .ensures) at (e .if1 .taken) in
-    searched-hit _ 0 _ _ (l .loop .inv) h (sym (c .before .defines-name .ensures) ∙ c .if2 .taken) ∙ ap (first _ 0) (all s)
+    let k = c .before .before in
+    let e = k .before in
+    let n = e .before .before .before in
+    let s = start-of n in
+    only-defined (meanings-in (s .args .text .now)) (s .pre .1 .1 .0) _ _ _ _ (k .search-in .ensures) (c .if2 .taken) (e .end-near .ensures .0)
+    (omega (arith, e .end-near .ensures .1, n .count .ensures, all s))
 
-add-k : tie.Need-add-k Inv-loop μ-loop
-add-k c = omega (arith, c .before .before .if1 .taken)
+search-in-requires-2 : tie.Need-search-in-requires-2
+search-in-requires-2 c κs =
+    let n = c .before .before in
+    let s = start-of n in
+    (s .pre .0, (s .pre .1 .0, (s .pre .1 .1 .1, (omega arith, omega (arith, n .count .ensures)))))
 
-loop-less : tie.Need-loop-less Inv-loop μ-loop
-loop-less c =
-    let e = c .before .before in
-    let h = rw (e .before .count .ensures) at (e .if1 .taken) in
-    omega (arith, h)
-
-loop-again : tie.Need-loop-again Inv-loop μ-loop
-loop-again c =
-    let l = c .before .before .before .before in
-    let e = c .before .before in
-    let h = rw (e .before .count .ensures) at (e .if1 .taken) in
-    searched-miss _ 0 _ _ (l .loop .inv) h (sym (c .before .defines-name .ensures) ∙ c .if2 .left)
-
-returns-2 : tie.Need-returns-2 Inv-loop μ-loop
+returns-2 : tie.Need-returns-2
 returns-2 c =
-    let l = c .before .before in
-    let s = start-of l in
-    let h = rw (c .before .count .ensures) at (c .if1 .left) in
-    let end : l .loop .k ≡ length (definitions-in (s .args .definitions .now)) = omega (arith, h, l .loop .inv .1) in
-    end ∙ searched-end _ 0 _ _ (l .loop .inv) h ∙ ap (first _ 0) (all s)
+    let n = c .before .before .before in
+    c .search-in2 .ensures ∙ ap (first _ 0) (n .count .ensures ∙ all (start-of n))
 
 pub find-definition-spec : {M : Type 1} → statement M
 find-definition-spec =
     tie.close
     (tie.spec
-    Inv-loop
-    μ-loop
-    loop-holds
     count-requires
-    defines-name-requires
+    end-near-requires
+    search-in-requires
     returns
-    add-k
-    loop-less
-    loop-again
+    search-in-requires-2
     returns-2)

@@ -33,7 +33,7 @@ lead-in-requires c κs = search needs
 returns-2 : tie.Need-returns-2
 returns-2 c =
     let f = c .before .before in
-    let s = f .before .before .before .before .before .before .before .before in
+    let s = f .before .before .before .before .before .before .before .before .before in
     c .lead-in .ensures ∙ lead-import (meanings-in (s .args .text .now)) _ (sym (f .before .before .names-iso .ensures) ∙ f .before .if1 .left) _ (f .find-import .ensures) (c .before .if2 .taken)
 
 find-definition-requires : tie.Need-find-definition-requires
@@ -44,17 +44,17 @@ count-requires c κs = search needs
 
 returns-3 : tie.Need-returns-3
 returns-3 c =
-    let f = c .before .before .before .before in
-    let s = f .before .before .before .before .before .before .before .before in
-    lead-definition (meanings-in (s .args .text .now)) _ (sym (f .before .before .names-iso .ensures) ∙ f .before .if1 .left) _ (f .find-import .ensures) (c .before .before .before .if2 .left)
-    _ (c .before .before .find-definition .ensures) (omega (arith, c .if3 .taken, c .before .count .ensures, all s))
+    let f = c .before .before .before .before .before in
+    let s = f .before .before .before .before .before .before .before .before .before in
+    lead-definition (meanings-in (s .args .text .now)) _ (sym (f .before .before .names-iso .ensures) ∙ f .before .if1 .left) _ (f .find-import .ensures) (c .before .before .before .before .if2 .left)
+    _ (c .before .before .before .find-definition .ensures) (omega (arith, c .if3 .taken, c .before .before .count .ensures, all s))
 
 returns-4 : tie.Need-returns-4
 returns-4 c =
-    let f = c .before .before .before .before in
-    let s = f .before .before .before .before .before .before .before .before in
-    lead-nothing (meanings-in (s .args .text .now)) _ (sym (f .before .before .names-iso .ensures) ∙ f .before .if1 .left) _ (f .find-import .ensures) (c .before .before .before .if2 .left)
-    _ (c .before .before .find-definition .ensures) (omega (arith, c .if3 .left, c .before .count .ensures, all s))
+    let f = c .before .before .before .before .before in
+    let s = f .before .before .before .before .before .before .before .before .before in
+    lead-nothing (meanings-in (s .args .text .now)) _ (sym (f .before .before .names-iso .ensures) ∙ f .before .if1 .left) _ (f .find-import .ensures) (c .before .before .before .before .if2 .left)
+    _ (c .before .before .before .find-definition .ensures) (omega (arith, c .if3 .left, c .before .before .count .ensures, all s))
 
 pub leads-to-spec : {M : Type 1} → statement M
 leads-to-spec =

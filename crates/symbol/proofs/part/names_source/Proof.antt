@@ -13,11 +13,11 @@ use Rattle.symbol.proofs.Symbols.{module-indices, module-index-is, modu
 use Rattle.symbol.proofs.part.names_source.Statement.{statement}
 use Rattle.symbol.proofs.part.names_source.Tie as tie
 
-array-read-wide-u8 : tie.Need-array-read-wide-u8
-array-read-wide-u8 c = search needs
+array-read-wide-byte : tie.Need-array-read-wide-byte
+array-read-wide-byte c = search needs
 
-wide-u8-requires : tie.Need-wide-u8-requires
-wide-u8-requires c κs = search needs
+wide-byte-requires : tie.Need-wide-byte-requires
+wide-byte-requires c κs = search needs
 
 slice-aggregate-is-name-of : tie.Need-slice-aggregate-is-name-of
 slice-aggregate-is-name-of c = search needs
@@ -26,11 +26,11 @@ slice-aggregate-is-name-of-2 : tie.Need-slice-aggregate-is-name-of-2
 slice-aggregate-is-name-of-2 c = search needs
 
 -- the index that was read is that of the symbol's module
-module-read : (c : tie.After-wide-u8) → c .wide-u8 .result ≡ symbol (c .before .before .args .k) .module-index
+module-read : (c : tie.After-wide-byte) → c .wide-byte .result ≡ symbol (c .before .before .args .k) .module-index
 unfolding module-indices symbols of-smi of-tc
-module-read c = c .wide-u8 .ensures ∙ module-index-is (c .before .before .args .k)
+module-read c = c .wide-byte .ensures .0 ∙ module-index-is (c .before .before .args .k)
 
-read-inside : (c : tie.After-wide-u8) → c .wide-u8 .result < length modules
+read-inside : (c : tie.After-wide-byte) → c .wide-byte .result < length modules
 read-inside c = rw (module-read c) (module-inside (c .before .before .args .k) (c .before .before .pre .1))
 
 is-name-of-requires : tie.Need-is-name-of-requires
@@ -38,21 +38,21 @@ unfolding modules bytes joined starts-there
 is-name-of-requires c κs =
     let r = c .before .before in
     let s = r .before .before in
-    (s .pre .0, (omega (arith, read-inside r), part-within modules _ _ (joined-table modules _ _ refl refl tt) (r .wide-u8 .result) (read-inside r)))
+    (s .pre .0, (omega (arith, read-inside r), part-within modules _ _ (joined-table modules _ _ refl refl tt) (r .wide-byte .result) (read-inside r)))
 
 returns : tie.Need-returns
 unfolding modules bytes joined starts-there module-name
 returns c =
     let r = c .before .before .before in
     rw (← module-read r)
-    (part-compared modules _ _ (joined-table modules _ _ refl refl tt) (r .wide-u8 .result) (read-inside r) _ (c .is-name-of .ensures))
+    (part-compared modules _ _ (joined-table modules _ _ refl refl tt) (r .wide-byte .result) (read-inside r) _ (c .is-name-of .ensures))
 
 pub names-source-spec : {M : Type 1} → statement M
 names-source-spec =
     tie.close
     (tie.spec
-    array-read-wide-u8
-    wide-u8-requires
+    array-read-wide-byte
+    wide-byte-requires
     slice-aggregate-is-name-of
     slice-aggregate-is-name-of-2
     is-name-of-requires

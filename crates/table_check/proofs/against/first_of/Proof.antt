@@ -11,10 +11,10 @@ use Rattle.table_check.proofs.against.first_of.Statement.{statement}
 use Rattle.table_check.proofs.against.first_of.Tie as tie
 
 abbrev Inv-loop : tie.InvT-loop
-Inv-loop definitions class number from n r₀ r = Asking (is-of (definitions-in definitions) class number) from n r
+Inv-loop definitions class number n r₀ r = Asking (is-of (definitions-in definitions) class number) r₀ n r
 
 abbrev μ-loop : tie.MeasureT-loop
-μ-loop definitions class number from n r₀ r = n - r
+μ-loop definitions class number n r₀ r = n - r
 
 count-requires : tie.Need-count-requires Inv-loop μ-loop
 count-requires c κs = search needs
@@ -31,7 +31,7 @@ returns c =
     let l = t .before in
     let s = l .before .before .before in
     first-asked _ _ _ _ (l .loop .inv) (t .loop-test .taken) (sym (c .before .is-of .ensures) ∙ c .if1 .taken)
-    ∙ ap (first (is-of (definitions-in (s .args .definitions .now)) (s .args .class) (s .args .number)) (s .args .from)) (l .before .count .ensures)
+    ∙ ap (first (is-of (definitions-in (s .args .definitions .now)) (s .args .class) (s .args .number)) (s .args .from .0)) (l .before .count .ensures)
 
 add-r : tie.Need-add-r Inv-loop μ-loop
 add-r c = search needs
@@ -49,7 +49,7 @@ returns-2 c =
     let l = c .before in
     let s = l .before .before .before in
     none-asked _ _ _ _ (l .loop .inv) (c .loop-test .left)
-    ∙ ap (first (is-of (definitions-in (s .args .definitions .now)) (s .args .class) (s .args .number)) (s .args .from)) (l .before .count .ensures)
+    ∙ ap (first (is-of (definitions-in (s .args .definitions .now)) (s .args .class) (s .args .number)) (s .args .from .0)) (l .before .count .ensures)
 
 pub first-of-spec : {M : Type 1} → statement M
 first-of-spec =

@@ -17,7 +17,7 @@ use Rattle.table_check.proofs.against.table_against.Tie as tie
 abbrev start : tie.After-first-of → tie.Start
 start h = h .before .before .before .before .before
 
-first-is : (h : tie.After-first-of) → (let s = start h in let ds = definitions-in (s .args .definitions .now) in h .first-of .result ≡ first (is-of ds 13 (type-of (entry ds (s .args .k .0)))) 0 (length ds))
+first-is : (h : tie.After-first-of) → (let s = start h in let ds = definitions-in (s .args .definitions .now) in h .first-of .result .0 ≡ first (is-of ds 13 (type-of (entry ds (s .args .k .0)))) 0 (length ds))
 first-is h =
     let ds = definitions-in (start h .args .definitions .now) in
     h .first-of .ensures ∙ ap (λ (t : ℕ). first (is-of ds 13 t) 0 (length ds)) (h .before .type-of .ensures ∙ ap type-of (h .before .before .definition-at .ensures))
@@ -40,7 +40,7 @@ type-against-requires c κs = search needs
 returns : tie.Need-returns
 unfolding table-against
 returns c =
-    let f = c .before .before in
+    let f = c .before .before .before in
     let s = start f in
     let ds = definitions-in (s .args .definitions .now) in
     c .type-against .ensures ∙ first-none-of _ _ _ (first-is f) (type-against ds (s .args .k .0)) (omega (arith, c .before .if1 .taken, f .before .before .before .count .ensures))
@@ -48,7 +48,7 @@ returns c =
 returns-2 : tie.Need-returns-2
 unfolding table-against
 returns-2 c =
-    let f = c .before in
+    let f = c .before .before in
     let s = start f in
     let ds = definitions-in (s .args .definitions .now) in
     first-one-of _ _ _ (first-is f) (type-against ds (s .args .k .0)) (omega (arith, c .if1 .left, f .before .before .before .count .ensures))
