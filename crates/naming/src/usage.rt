@@ -1,6 +1,6 @@
 // Refusal 11: names that aren't known in the kind needed; and the values of the tokens behind the imports.
 ghost use mathlib.Core.Path.{_≡_};
-ghost use Prim.Native.Nat.{_≤_, _<_};
+ghost use Prim.Native.Nat.{_*_, _≤_, _<_};
 ghost use lib.ListN.{length, take};
 ghost use Rattle.rule.specs.Rule.{judge-one};
 ghost use Rattle.token.specs.Cut.{meanings-in};
@@ -10,6 +10,7 @@ ghost use Rattle.outline.specs.Outline.{outline};
 ghost use Rattle.scope.specs.Token.{classes-of, TokensHeld};
 ghost use Rattle.scope.specs.Import.{imports-end};
 ghost use Rattle.scope.specs.Held.{ImportsHeld, Distinct};
+ghost use Rattle.scope.specs.Tag.{name-words};
 ghost use Rattle.naming.specs.Rules.{unknown-name};
 ghost use Rattle.naming.specs.Values.{is-name-need};
 ghost use Rattle.naming.specs.Told.{UsesFilled};
@@ -18,6 +19,8 @@ use crate::plain_finding;
 use index::RecordIndex;
 use index::TokenIndex;
 use module_table::Lead;
+use module_table::MOST_DEFINITIONS;
+use module_table::count;
 use module_table::word_for;
 use name_kind::Need;
 use name_kind::enclosing_at;
@@ -25,10 +28,13 @@ use name_kind::need_at;
 use name_kind::next_enclosing;
 use name_kind::serves;
 use rule::Judgement;
+use scope::NAME_WORDS;
 use scope::Sought;
+use scope::collect_names;
 use scope::imports_end;
 use scope::leads_to;
 use scope::name_at;
+use scope::name_tag;
 
 // Whether it is a use of a name.
 fn is_name_need(need: Need) -> bool
@@ -55,6 +61,13 @@ fn nearest(lead: Lead, last: RecordIndex) -> RecordIndex {
     }
 }
 
+// Room for the names of the most definitions.
+fn blank_names() -> [u32; MOST_DEFINITIONS * NAME_WORDS]
+    ensures { λ r. ⌜ length r ≡ most-definitions * name-words ⌝ }
+{
+    [0u32; MOST_DEFINITIONS * NAME_WORDS]
+}
+
 // Refusal 11, at the first token from the imports' end on that is used as a name that isn't known. Each use is looked up once: where the
 // rule is kept, the tokens behind the imports have their values.
 pub fn judge_uses(
@@ -76,6 +89,9 @@ pub fn judge_uses(
     ensures filled { λ r. ⌜ UsesFilled (meanings-in (now (text .entry))) r (now (values .entry)) (now (values .exit)) ⌝ }
 {
     let end = imports_end(classes);
+    let size = count(definitions) * NAME_WORDS;
+    let mut names = blank_names();
+    collect_names(text, starts, ends, definitions, &mut names[..size]);
     let mut word = enclosing_at(classes, classes.len(), end);
     let mut near = RecordIndex(0);
     let mut i = end;
@@ -83,13 +99,14 @@ pub fn judge_uses(
         let need = need_at(classes, classes.len(), word, i);
         if is_name_need(need) {
             let name = name_at(classes, starts, ends, TokenIndex(i));
+            let tag = name_tag(text, name);
             let lead = leads_to(
                 text,
                 starts,
                 ends,
                 &values[..end],
-                definitions,
-                Sought { name, near },
+                &names[..size],
+                Sought { name, tag, near },
             );
             if !serves(definitions, lead, need) {
                 return Judgement::Broken(plain_finding(11, i));

@@ -97,22 +97,22 @@ module _ (ms : List Meaning) (s : List ℕ) where
 
 -- ---- the definitions
 
+module _ (cs : List ℕ) (k : ℕ) (h : k < length (definitions cs)) where
+  -- a definition's name is a token, and a name
+  pub name-inside : getD (definitions cs) k 0 < length cs
+  unfolding definitions
+  name-inside = omega (arith, hit-inside (begins cs) 0 (last cs) k h)
+
+  pub name-named : is-name (class-at cs (getD (definitions cs) k 0)) ≡ true
+  unfolding definitions
+  name-named = begins-named cs _ (hit-holds (begins cs) 0 (last cs) k h)
+
 module _ (cs : List ℕ) (words : List ℕ) (held : definitions-in words ≡ outline cs) where
   pub defined-counted : length (definitions-in words) ≡ length (definitions cs)
   defined-counted = ap length held ∙ outline-counted cs
 
-  module _ (k : ℕ) (h : k < length (definitions-in words)) where
-    pub name-read : entry (definitions-in words) k .name .0 ≡ getD (definitions cs) k 0
-    name-read = rw (held, outline-entry cs k (omega (arith, defined-counted)))
-
-    -- a definition's name is a token, and a name
-    pub name-inside : getD (definitions cs) k 0 < length cs
-    unfolding definitions
-    name-inside = omega (arith, hit-inside (begins cs) 0 (last cs) k (omega (arith, defined-counted)))
-
-    pub name-named : is-name (class-at cs (getD (definitions cs) k 0)) ≡ true
-    unfolding definitions
-    name-named = begins-named cs _ (hit-holds (begins cs) 0 (last cs) k (omega (arith, defined-counted)))
+  pub name-read : (k : ℕ) → k < length (definitions cs) → entry (definitions-in words) k .name .0 ≡ getD (definitions cs) k 0
+  name-read k h = rw (held, outline-entry cs k h)
 
 -- ---- the one definition of a name, wherever the search for it starts
 

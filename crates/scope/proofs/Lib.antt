@@ -1,3 +1,4 @@
+pub mod Tags
 pub mod Tokens
 pub mod Imports
 pub mod Leads

@@ -1,4 +1,4 @@
--- What the look-up of a name is lent: where the tokens stand, the values of the imports, and the definitions.
+-- What the look-up of a name is lent: where the tokens stand, the values of the imports, and the names of the definitions.
 -- Assumes nothing.
 use mathlib.Core.Path.{_≡_}
 use mathlib.Core.Bool.{true, cond}
@@ -9,13 +9,12 @@ use Rattle.token.specs.Token.{Meaning}
 use Rattle.token.specs.Cut.{meanings-in}
 use Rattle.symbol.specs.Symbol.{symbol-of}
 use Rattle.definition.specs.Landmark.{definitions}
-use Rattle.module_table.specs.Definition.{definitions-in}
 use Rattle.module_table.specs.Lead.{word-of}
 use Rattle.module_table.specs.declared.Lead.the-variants.{Import}
-use Rattle.outline.specs.Outline.{outline}
 use Rattle.scope.specs.Token.{classes-of, spelled, TokensHeld}
 use Rattle.scope.specs.Import.{imports-end, is-import}
 use Rattle.scope.specs.Lead.{is-imported, defines-name}
+use Rattle.scope.specs.Tag.{NamesHeld}
 
 -- the value of token i of the imports: what the symbol there leads to, as a word; 0 where it is no symbol
 abbrev pub import-word : List Meaning → ℕ → ℕ
@@ -37,8 +36,8 @@ Distinct ms =
     → defines-name ms s j ≡ true → i ≡ j
 
 -- all that a look-up is lent
-pub record ScopeHeld (text starts ends values definitions : List ℕ) : Type 0 where
+pub record ScopeHeld (text starts ends values names : List ℕ) : Type 0 where
   pub tokens : TokensHeld text (classes-of (meanings-in text)) starts ends
   pub imports : ImportsHeld (meanings-in text) values
-  pub outlined : definitions-in definitions ≡ outline (classes-of (meanings-in text))
+  pub definitions : NamesHeld (meanings-in text) names
   pub distinct : Distinct (meanings-in text)

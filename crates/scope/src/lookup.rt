@@ -5,18 +5,18 @@ ghost use lib.ListN.{length};
 ghost use Rattle.index.specs.First.{first};
 ghost use Rattle.lexicon.specs.Word.{between, Within};
 ghost use Rattle.token.specs.Cut.{meanings-in};
-ghost use Rattle.module_table.specs.Definition.{definitions-in};
-ghost use Rattle.outline.specs.Outline.{outline};
 ghost use Rattle.scope.specs.Token.{classes-of, TokensHeld};
 ghost use Rattle.scope.specs.Lead.{imports-name, defines-name, defined-as, leads-to};
+ghost use Rattle.definition.specs.Landmark.{definitions};
+ghost use Rattle.scope.specs.Tag.{SoughtIn, NamesHeld};
 ghost use Rattle.scope.specs.Held.{import-word, found-word, ImportsHeld, Distinct, ScopeHeld};
 use crate::Name;
 use crate::Sought;
+use crate::name_table::NAME_WORDS;
 use crate::spelling::is_named;
 use index::RecordIndex;
+use index::wide;
 use module_table::Lead;
-use module_table::count;
-use module_table::definition_at;
 use module_table::lead_in;
 use symbol::part::names_iso;
 
@@ -54,23 +54,27 @@ fn find_import(text: &[u8], starts: &[u32], ends: &[u32], values: &[u32], name: 
     0
 }
 
-// Whether definition k has the name.
+// Whether definition k has the name: most have another tag.
 fn defines_name(
     text: &[u8],
     starts: &[u32],
     ends: &[u32],
-    definitions: &[usize],
+    names: &[u32],
     k: RecordIndex,
-    name: Name,
+    sought: Sought,
 ) -> bool
     requires tokens { ⌜ TokensHeld (now text) (classes-of (meanings-in (now text))) (now starts) (now ends) ⌝ }
-    requires outlined { ⌜ definitions-in (now definitions) ≡ outline (classes-of (meanings-in (now text))) ⌝ }
-    requires index { ⌜ k .0 < length (definitions-in (now definitions)) ⌝ }
-    requires name { ⌜ Within (now text) (name .start) (name .end) ⌝ }
-    ensures { λ r. ⌜ r ≡ defines-name (meanings-in (now (text .entry))) (between (now (text .entry)) (name .start) (name .end)) (k .0) ⌝ }
+    requires names { ⌜ NamesHeld (meanings-in (now text)) (now names) ⌝ }
+    requires index { ⌜ k .0 < length (definitions (classes-of (meanings-in (now text)))) ⌝ }
+    requires sought { ⌜ SoughtIn (now text) sought ⌝ }
+    ensures { λ r. ⌜ r ≡ defines-name (meanings-in (now (text .entry))) (between (now (text .entry)) (sought .name .start) (sought .name .end)) (k .0) ⌝ }
 {
-    let d = definition_at(definitions, k);
-    is_named(text, starts, ends, d.name.0, name)
+    let at = k.0 * NAME_WORDS;
+    if names[at] != sought.tag {
+        return false;
+    }
+    let name = sought.name;
+    is_named(text, starts, ends, wide(names[at + 1]), name)
 }
 
 // Some definitions: from one up to, not including, another.
@@ -84,21 +88,21 @@ fn search_in(
     text: &[u8],
     starts: &[u32],
     ends: &[u32],
-    definitions: &[usize],
-    name: Name,
+    names: &[u32],
+    sought: Sought,
     stretch: Stretch,
 ) -> RecordIndex
     requires tokens { ⌜ TokensHeld (now text) (classes-of (meanings-in (now text))) (now starts) (now ends) ⌝ }
-    requires outlined { ⌜ definitions-in (now definitions) ≡ outline (classes-of (meanings-in (now text))) ⌝ }
-    requires name { ⌜ Within (now text) (name .start) (name .end) ⌝ }
+    requires names { ⌜ NamesHeld (meanings-in (now text)) (now names) ⌝ }
+    requires sought { ⌜ SoughtIn (now text) sought ⌝ }
     requires ordered { ⌜ stretch .from .0 ≤ stretch .to .0 ⌝ }
-    requires inside { ⌜ stretch .to .0 ≤ length (definitions-in (now definitions)) ⌝ }
-    ensures { λ r. ⌜ r .0 ≡ first (defines-name (meanings-in (now (text .entry))) (between (now (text .entry)) (name .start) (name .end))) (stretch .from .0) (stretch .to .0) ⌝ }
+    requires inside { ⌜ stretch .to .0 ≤ length (definitions (classes-of (meanings-in (now text)))) ⌝ }
+    ensures { λ r. ⌜ r .0 ≡ first (defines-name (meanings-in (now (text .entry))) (between (now (text .entry)) (sought .name .start) (sought .name .end))) (stretch .from .0) (stretch .to .0) ⌝ }
 {
     let to = stretch.to.0;
     let mut k = stretch.from.0;
     while k < to {
-        if defines_name(text, starts, ends, definitions, RecordIndex(k), name) {
+        if defines_name(text, starts, ends, names, RecordIndex(k), sought) {
             return RecordIndex(k);
         }
         k += 1;
@@ -123,26 +127,25 @@ fn find_definition(
     text: &[u8],
     starts: &[u32],
     ends: &[u32],
-    definitions: &[usize],
+    names: &[u32],
     sought: Sought,
 ) -> RecordIndex
     requires tokens { ⌜ TokensHeld (now text) (classes-of (meanings-in (now text))) (now starts) (now ends) ⌝ }
-    requires outlined { ⌜ definitions-in (now definitions) ≡ outline (classes-of (meanings-in (now text))) ⌝ }
+    requires names { ⌜ NamesHeld (meanings-in (now text)) (now names) ⌝ }
     requires distinct { ⌜ Distinct (meanings-in (now text)) ⌝ }
-    requires name { ⌜ Within (now text) (sought .name .start) (sought .name .end) ⌝ }
+    requires sought { ⌜ SoughtIn (now text) sought ⌝ }
     ensures { λ r. ⌜ r .0 ≡ defined-as (meanings-in (now (text .entry))) (between (now (text .entry)) (sought .name .start) (sought .name .end)) ⌝ }
 {
-    let name = sought.name;
     let from = sought.near;
-    let count = count(definitions);
+    let count = names.len() / NAME_WORDS;
     if from.0 < count {
         let to = end_near(from.0, count);
         let k = search_in(
             text,
             starts,
             ends,
-            definitions,
-            name,
+            names,
+            sought,
             Stretch {
                 from,
                 to: RecordIndex(to),
@@ -156,8 +159,8 @@ fn find_definition(
         text,
         starts,
         ends,
-        definitions,
-        name,
+        names,
+        sought,
         Stretch {
             from: RecordIndex(0),
             to: RecordIndex(count),
@@ -165,17 +168,17 @@ fn find_definition(
     )
 }
 
-// What the name leads to, by the values of the imports and by the definitions.
+// What the name leads to, by the values of the imports and by the names of the definitions.
 pub fn leads_to(
     text: &[u8],
     starts: &[u32],
     ends: &[u32],
     values: &[u32],
-    definitions: &[usize],
+    names: &[u32],
     sought: Sought,
 ) -> Lead
-    requires scope { ⌜ ScopeHeld (now text) (now starts) (now ends) (now values) (now definitions) ⌝ }
-    requires name { ⌜ Within (now text) (sought .name .start) (sought .name .end) ⌝ }
+    requires scope { ⌜ ScopeHeld (now text) (now starts) (now ends) (now values) (now names) ⌝ }
+    requires sought { ⌜ SoughtIn (now text) sought ⌝ }
     ensures { λ r. ⌜ r ≡ leads-to (meanings-in (now (text .entry))) (between (now (text .entry)) (sought .name .start) (sought .name .end)) ⌝ }
 {
     let name = sought.name;
@@ -186,8 +189,8 @@ pub fn leads_to(
     if word != 0 {
         return lead_in(word);
     }
-    let d = find_definition(text, starts, ends, definitions, sought);
-    if d.0 < count(definitions) {
+    let d = find_definition(text, starts, ends, names, sought);
+    if d.0 < names.len() / NAME_WORDS {
         return Lead::Definition(d);
     }
     Lead::Nothing

@@ -3,13 +3,14 @@
 use mathlib.Core.Path.{_≡_, sym, ap, subst, _∙_}
 use mathlib.Core.Bool.{Bool, true}
 use mathlib.Core.List.{List}
-use Prim.Native.Nat.{ℕ, _-_, _≤_, _<_}
+use Prim.Native.Nat.{ℕ, _-_, _*_, _≤_, _<_}
 use native.Mathlib.Omega.{arith}
-use lib.ListN.{length, take}
-use lib.Seq.{take-length, length-take-le}
+use lib.ListN.{length, take, length-append}
+use lib.Seq.{take-length, length-take-le, take-at}
 use Rattle.rule.specs.declared.Judgement.the-variants.{Broken}
 use Rattle.token.specs.Token.{Meaning}
 use Rattle.token.specs.Cut.{meanings-in}
+use Rattle.definition.specs.Landmark.{definitions}
 use Rattle.module_table.specs.declared.Definition.{Definition}
 use Rattle.module_table.specs.declared.Lead.{Lead}
 use Rattle.module_table.specs.Definition.{definitions-in}
@@ -20,6 +21,7 @@ use Rattle.outline.specs.Outline.{outline}
 use Rattle.scope.specs.Token.{classes-of, spelled}
 use Rattle.scope.specs.Import.{imports-end}
 use Rattle.scope.specs.Lead.{leads-to}
+use Rattle.scope.specs.Tag.{NamesHeld}
 use Rattle.scope.specs.Held.{ImportsHeld}
 use Rattle.scope.proofs.Tokens.{classes-are, said-counted, starts-long, ends-long, few-classes, held-said, named-is}
 use Rattle.scope.proofs.Imports.{end-inside}
@@ -32,26 +34,44 @@ use Rattle.naming.proofs.usage.judge_uses.Statement.{statement}
 use Rattle.naming.proofs.usage.judge_uses.Tie as tie
 
 abbrev Inv-loop : tie.InvT-loop
-Inv-loop text classes starts ends values₀ definitions end word₀ near₀ i₀ values word near i =
+Inv-loop text classes starts ends values₀ definitions end size names word₀ near₀ i₀ values word near i =
     Using (meanings-in text) values₀ i values × (word ≡ enclosing (take (length classes) classes) i)
 
 abbrev μ-loop : tie.MeasureT-loop
-μ-loop text classes starts ends values₀ definitions end word₀ near₀ i₀ values word near i = length classes - i
+μ-loop text classes starts ends values₀ definitions end size names word₀ near₀ i₀ values word near i = length classes - i
 
 abbrev start-of : tie.At-loop Inv-loop μ-loop → tie.Start Inv-loop μ-loop
-start-of l = l .before .before .before .before .before .before .before .before .before
+start-of l = l .before .before .before .before .before .before .before .before .before .before .before .before .before .before
+
+-- ---- the names of the definitions
+
+counted-few : (n : tie.After-count Inv-loop μ-loop) → n .count .result ≤ 512
+counted-few n = omega (arith, n .count .ensures, n .before .before .before .before .before .before .before .before .pre .1 .1 .1 .1 .0)
+
+-- there is room for them
+lent : (n : tie.After-names Inv-loop μ-loop) → n .before .before .count .result * 2 ≤ length (n .before .blank-names .result)
+lent n = omega (arith, counted-few (n .before .before), n .before .blank-names .ensures)
+
+-- as many words as were lent hold the names
+size-of : (ms : List Meaning) (xs : List ℕ) → NamesHeld ms xs → (n : ℕ) → n ≡ length (definitions (classes-of ms)) → n * 2 ≡ length xs
+size-of ms xs h n e = omega (arith, h .counted)
+
+count-is : (a : tie.After-collect-names Inv-loop μ-loop) → a .before .before .before .count .result ≡ length (definitions (classes-of (meanings-in (a .before .before .before .before .before .before .before .before .before .before .before .args .text .now))))
+count-is a = a .before .before .before .count .ensures ∙ defined-counted _ _ (a .before .before .before .before .before .before .before .before .before .before .before .pre .1 .1 .1 .0)
+
+-- ---- the loop
 
 -- the imports end where the code says
-end-is : (l : tie.At-loop Inv-loop μ-loop) → l .before .before .imports-end .result ≡ imports-end (classes-of (meanings-in (start-of l .args .text .now)))
-end-is l = l .before .before .imports-end .ensures ∙ ap imports-end (classes-are _ _ _ _ (start-of l .pre .0))
+end-is : (l : tie.At-loop Inv-loop μ-loop) → l .before .before .before .before .before .before .before .imports-end .result ≡ imports-end (classes-of (meanings-in (start-of l .args .text .now)))
+end-is l = l .before .before .before .before .before .before .before .imports-end .ensures ∙ ap imports-end (classes-are _ _ _ _ (start-of l .pre .0))
 
-end-in : (l : tie.At-loop Inv-loop μ-loop) → l .before .before .imports-end .result ≤ length (l .loop .values)
+end-in : (l : tie.At-loop Inv-loop μ-loop) → l .before .before .before .before .before .before .before .imports-end .result ≤ length (l .loop .values)
 end-in l =
     let s = start-of l in
-    omega (arith, l .before .before .imports-end .ensures, end-inside (s .args .classes .now), l .loop .inv .0 .long, s .pre .1 .0)
+    omega (arith, l .before .before .before .before .before .before .before .imports-end .ensures, end-inside (s .args .classes .now), l .loop .inv .0 .long, s .pre .1 .0)
 
 -- and their values are held
-imports-now : (l : tie.At-loop Inv-loop μ-loop) → ImportsHeld (meanings-in (start-of l .args .text .now)) (take (l .before .before .imports-end .result) (l .loop .values))
+imports-now : (l : tie.At-loop Inv-loop μ-loop) → ImportsHeld (meanings-in (start-of l .args .text .now)) (take (l .before .before .before .before .before .before .before .imports-end .result) (l .loop .values))
 imports-now l =
     let s = start-of l in
     let cs = classes-are _ _ _ _ (s .pre .0) in
@@ -72,41 +92,61 @@ abbrev Looked : Type 0
 Looked = tie.After-leads-to Inv-loop μ-loop
 
 abbrev loop-of : Looked → tie.At-loop Inv-loop μ-loop
-loop-of a = a .before .before .before .before .before .before .before
+loop-of a = a .before .before .before .before .before .before .before .before .before
 
 abbrev said-by : Looked → List Meaning
 said-by a = meanings-in (start-of (loop-of a) .args .text .now)
 
 inside : (a : Looked) → loop-of a .loop .i < length (said-by a)
-inside a = omega (arith, a .before .before .before .before .before .before .loop-test .taken, said-counted _ _ _ _ (start-of (loop-of a) .pre .0))
+inside a = omega (arith, a .before .before .before .before .before .before .before .before .loop-test .taken, said-counted _ _ _ _ (start-of (loop-of a) .pre .0))
 
 room : (a : Looked) → loop-of a .loop .i < length (loop-of a .loop .values)
 room a =
     let l = loop-of a in
-    omega (arith, a .before .before .before .before .before .before .loop-test .taken, l .loop .inv .0 .long, start-of l .pre .1 .0)
+    omega (arith, a .before .before .before .before .before .before .before .before .loop-test .taken, l .loop .inv .0 .long, start-of l .pre .1 .0)
 
-need-is : (a : Looked) → a .before .before .before .before .before .need-at .result ≡ need-at (classes-of (said-by a)) (loop-of a .loop .i)
-need-is a = need-said (start-of (loop-of a)) _ (a .before .before .before .before .before .need-at .ensures)
+need-is : (a : Looked) → a .before .before .before .before .before .before .before .need-at .result ≡ need-at (classes-of (said-by a)) (loop-of a .loop .i)
+need-is a = need-said (start-of (loop-of a)) _ (a .before .before .before .before .before .before .before .need-at .ensures)
 
 used : (a : Looked) → is-name-need (need-at (classes-of (said-by a)) (loop-of a .loop .i)) ≡ true
-used a = sym (ap is-name-need (need-is a)) ∙ sym (a .before .before .before .before .is-name-need .ensures) ∙ a .before .before .before .if1 .taken
+used a = sym (ap is-name-need (need-is a)) ∙ sym (a .before .before .before .before .before .before .is-name-need .ensures) ∙ a .before .before .before .before .before .if1 .taken
 
 lead-is : (a : Looked) → a .leads-to .result ≡ leads-to (said-by a) (spelled (said-by a) (loop-of a .loop .i))
 lead-is a =
     let s = start-of (loop-of a) in
     a .leads-to .ensures
-    ∙ ap (leads-to (said-by a)) (sym (named-is _ _ _ _ (s .pre .0) _ (a .before .before .before .before .before .before .loop-test .taken) _ (a .before .before .name-at .ensures) .1))
+    ∙ ap (leads-to (said-by a)) (sym (named-is _ _ _ _ (s .pre .0) _ (a .before .before .before .before .before .before .before .before .loop-test .taken) _ (a .before .before .before .before .name-at .ensures) .1))
 
 imports-end-requires : tie.Need-imports-end-requires Inv-loop μ-loop
 imports-end-requires c κs = tt
+
+count-requires : tie.Need-count-requires Inv-loop μ-loop
+count-requires c κs = tt
+
+mul-size : tie.Need-mul-size Inv-loop μ-loop
+mul-size c = omega (arith, counted-few c)
+
+blank-names-requires : tie.Need-blank-names-requires Inv-loop μ-loop
+blank-names-requires c κs = tt
+
+array-borrow-prefix-names : tie.Need-array-borrow-prefix-names Inv-loop μ-loop
+array-borrow-prefix-names c = omega (arith, counted-few (c .before), c .blank-names .ensures)
+
+slice-aggregate-collect-names : tie.Need-slice-aggregate-collect-names Inv-loop μ-loop
+slice-aggregate-collect-names c = sym (length-take-le _ _ (lent c))
+
+collect-names-requires : tie.Need-collect-names-requires Inv-loop μ-loop
+collect-names-requires c κs =
+    let s = c .before .before .before .before .before .before .before .before .before .before in
+    (held-said _ _ _ _ (s .pre .0), (s .pre .1 .1 .1 .0, (length-take-le _ _ (lent c) ∙ ap (λ (n : ℕ). n * 2) (c .before .before .count .ensures), s .pre .1 .1 .1 .1 .0)))
 
 enclosing-at-requires : tie.Need-enclosing-at-requires Inv-loop μ-loop
 enclosing-at-requires c κs = omega arith
 
 loop-holds : tie.Need-loop-holds Inv-loop μ-loop
 loop-holds c =
-    let s = c .before .before .before .before .before .before .before .before in
-    let is = c .before .imports-end .ensures ∙ ap imports-end (classes-are _ _ _ _ (s .pre .0)) in
+    let s = c .before .before .before .before .before .before .before .before .before .before .before .before .before in
+    let is = c .before .before .before .before .before .before .imports-end .ensures ∙ ap imports-end (classes-are _ _ _ _ (s .pre .0)) in
     (using-start _ _ _ is (omega (arith, is, end-inside (classes-of (meanings-in (s .args .text .now))), said-counted _ _ _ _ (s .pre .0), ap length (classes-are _ _ _ _ (s .pre .0)))), c .enclosing-at .ensures)
 
 need-at-requires : tie.Need-need-at-requires Inv-loop μ-loop
@@ -121,18 +161,38 @@ name-at-requires c κs =
     let h = c .before .before .before .loop-test .taken in
     (h, omega (arith, h, starts-long _ _ _ _ (s .pre .0)), omega (arith, h, ends-long _ _ _ _ (s .pre .0)))
 
+name-tag-requires : tie.Need-name-tag-requires Inv-loop μ-loop
+name-tag-requires c κs =
+    let s = start-of (c .before .before .before .before .before) in
+    named-is _ _ _ _ (s .pre .0) _ (c .before .before .before .before .loop-test .taken) _ (c .name-at .ensures) .0
+
 slice-reshare-prefix-leads-to : tie.Need-slice-reshare-prefix-leads-to Inv-loop μ-loop
-slice-reshare-prefix-leads-to c = end-in (c .before .before .before .before .before)
+slice-reshare-prefix-leads-to c = end-in (c .before .before .before .before .before .before)
 
 slice-aggregate-leads-to : tie.Need-slice-aggregate-leads-to Inv-loop μ-loop
-slice-aggregate-leads-to c = sym (length-take-le _ _ (end-in (c .before .before .before .before .before .before)))
+slice-aggregate-leads-to c = sym (length-take-le _ _ (end-in (c .before .before .before .before .before .before .before)))
+
+array-share-prefix-names : tie.Need-array-share-prefix-names Inv-loop μ-loop
+array-share-prefix-names c =
+    let a = c .before .before .before .before .before .before .before .before .before .before in simp length-append (omega (arith, a .collect-names .ensures .counted, count-is a))
+
+slice-aggregate-leads-to-2 : tie.Need-slice-aggregate-leads-to-2 Inv-loop μ-loop
+slice-aggregate-leads-to-2 c = sym (length-take-le _ _ (array-share-prefix-names (c .before)))
 
 leads-to-requires : tie.Need-leads-to-requires Inv-loop μ-loop
 leads-to-requires c κs =
-    let l = c .before .before .before .before .before .before in
+    let l = c .before .before .before .before .before .before .before .before in
     let s = start-of l in
-    let h = c .before .before .before .before .before .loop-test .taken in
-    (record { tokens = held-said _ _ _ _ (s .pre .0); imports = imports-now l; outlined = s .pre .1 .1 .1 .0; distinct = s .pre .1 .1 .1 .1 .1 }, named-is _ _ _ _ (s .pre .0) _ h _ (c .before .name-at .ensures) .0)
+    let h = c .before .before .before .before .before .before .before .loop-test .taken in
+    let n = named-is _ _ _ _ (s .pre .0) _ h _ (c .before .before .before .name-at .ensures) in (
+      record {
+        tokens = held-said _ _ _ _ (s .pre .0);
+        imports = imports-now l;
+        definitions = subst (NamesHeld (meanings-in (s .args .text .now))) (sym (take-at _ _ _ (sym (size-of _ _ (l .before .before .before .collect-names .ensures) _ (count-is (l .before .before .before)))))) (l .before .before .before .collect-names .ensures);
+        distinct = s .pre .1 .1 .1 .1 .1;
+      },
+      record { within = n .0; tagged = c .before .before .name-tag .ensures },
+    )
 
 serves-requires : tie.Need-serves-requires Inv-loop μ-loop
 serves-requires c κs = tt
@@ -141,7 +201,7 @@ plain-finding-requires : tie.Need-plain-finding-requires Inv-loop μ-loop
 plain-finding-requires c κs = tt
 
 same-length : tie.Need-same-length Inv-loop μ-loop
-same-length c = c .before .before .before .before .before .before .before .before .before .before .loop .inv .0 .long
+same-length c = c .before .before .before .before .before .before .before .before .before .before .before .before .loop .inv .0 .long
 
 returns : tie.Need-returns Inv-loop μ-loop
 returns c =
@@ -160,7 +220,7 @@ word-for-requires c κs =
     subst Small (sym (lead-is a)) (lead-small _ _ (omega (arith, s .pre .1 .1 .1 .1 .0, defined-counted _ _ (s .pre .1 .1 .1 .0))))
 
 mul-values : tie.Need-mul-values Inv-loop μ-loop
-mul-values c = let a = c .before .before .before .before in omega (arith, a .before .before .before .before .before .before .loop-test .taken, few-classes _ _ _ _ (start-of (loop-of a) .pre .0))
+mul-values c = let a = c .before .before .before .before in omega (arith, a .before .before .before .before .before .before .before .before .loop-test .taken, few-classes _ _ _ _ (start-of (loop-of a) .pre .0))
 
 slice-write-values : tie.Need-slice-write-values Inv-loop μ-loop
 slice-write-values c = let a = c .before .before .before .before in room a
@@ -169,10 +229,10 @@ next-enclosing-requires : tie.Need-next-enclosing-requires Inv-loop μ-loop
 next-enclosing-requires c κs = (omega arith, loop-of (c .before .before .before .before) .loop .inv .1)
 
 add-i : tie.Need-add-i Inv-loop μ-loop
-add-i c = let a = c .before .before .before .before .before in omega (arith, a .before .before .before .before .before .before .loop-test .taken, few-classes _ _ _ _ (start-of (loop-of a) .pre .0))
+add-i c = let a = c .before .before .before .before .before in omega (arith, a .before .before .before .before .before .before .before .before .loop-test .taken, few-classes _ _ _ _ (start-of (loop-of a) .pre .0))
 
 loop-less : tie.Need-loop-less Inv-loop μ-loop
-loop-less c = let a = c .before .before .before .before .before in omega (arith, a .before .before .before .before .before .before .loop-test .taken)
+loop-less c = let a = c .before .before .before .before .before in omega (arith, a .before .before .before .before .before .before .before .before .loop-test .taken)
 
 loop-again : tie.Need-loop-again Inv-loop μ-loop
 loop-again c =
@@ -197,7 +257,7 @@ next-enclosing-requires-2 : tie.Need-next-enclosing-requires-2 Inv-loop μ-loop
 next-enclosing-requires-2 c κs = (omega arith, c .before .before .before .before .before .loop .inv .1)
 
 add-i-2 : tie.Need-add-i-2 Inv-loop μ-loop
-add-i-2 c = omega (arith, c .before .before .before .before .before .loop-test .taken)
+add-i-2 c = omega (arith, c .before .before .before .before .before .loop-test .taken, few-classes _ _ _ _ (start-of (c .before .before .before .before .before .before) .pre .0))
 
 loop-less-2 : tie.Need-loop-less-2 Inv-loop μ-loop
 loop-less-2 c = omega (arith, c .before .before .before .before .before .loop-test .taken)
@@ -230,13 +290,22 @@ judge-uses-spec =
     Inv-loop
     μ-loop
     imports-end-requires
+    count-requires
+    mul-size
+    blank-names-requires
+    array-borrow-prefix-names
+    slice-aggregate-collect-names
+    collect-names-requires
     enclosing-at-requires
     loop-holds
     need-at-requires
     is-name-need-requires
     name-at-requires
+    name-tag-requires
     slice-reshare-prefix-leads-to
     slice-aggregate-leads-to
+    array-share-prefix-names
+    slice-aggregate-leads-to-2
     leads-to-requires
     serves-requires
     plain-finding-requires

@@ -1,21 +1,25 @@
 -- `leads_to` is right because it asks in the definition's order.
 -- Assumes nothing.
 use mathlib.Core.Path.{_≡_, sym, _∙_}
+use Prim.Native.Nat.{_/_}
 use native.Mathlib.Omega.{arith}
 use lib.ListN.{length}
 use Rattle.token.specs.Cut.{meanings-in}
 use Rattle.definition.specs.Landmark.{definitions}
-use Rattle.module_table.specs.Definition.{definitions-in}
 use Rattle.scope.specs.Token.{classes-of}
 use Rattle.scope.specs.Lead.{leads-to}
-use Rattle.scope.proofs.Leads.{defined-counted, lead-import, lead-definition, lead-nothing}
+use Rattle.scope.specs.Tag.{name-words}
+use Rattle.scope.proofs.Leads.{lead-import, lead-definition, lead-nothing}
 use borrow.Author.Needs.{needs}
 use Rattle.scope.proofs.lookup.leads_to.Statement.{statement}
 use Rattle.scope.proofs.lookup.leads_to.Tie as tie
 
 -- there are as many definitions as the code counts
-all : (s : tie.Start) → length (definitions-in (s .args .definitions .now)) ≡ length (definitions (classes-of (meanings-in (s .args .text .now))))
-all s = defined-counted _ _ (s .pre .0 .outlined)
+all : (s : tie.Start) → length (s .args .names .now) / name-words ≡ length (definitions (classes-of (meanings-in (s .args .text .now))))
+all s = omega (arith, s .pre .0 .definitions .counted)
+
+abbrev start-of : tie.After-find-import → tie.Start
+start-of f = f .before .before .before .before .before .before .before .before .before
 
 names-iso-requires : tie.Need-names-iso-requires
 names-iso-requires c κs = search needs
@@ -33,28 +37,25 @@ lead-in-requires c κs = search needs
 returns-2 : tie.Need-returns-2
 returns-2 c =
     let f = c .before .before in
-    let s = f .before .before .before .before .before .before .before .before .before in
+    let s = start-of f in
     c .lead-in .ensures ∙ lead-import (meanings-in (s .args .text .now)) _ (sym (f .before .before .names-iso .ensures) ∙ f .before .if1 .left) _ (f .find-import .ensures) (c .before .if2 .taken)
 
 find-definition-requires : tie.Need-find-definition-requires
 find-definition-requires c κs = search needs
 
-count-requires : tie.Need-count-requires
-count-requires c κs = search needs
-
 returns-3 : tie.Need-returns-3
 returns-3 c =
-    let f = c .before .before .before .before .before in
-    let s = f .before .before .before .before .before .before .before .before .before in
-    lead-definition (meanings-in (s .args .text .now)) _ (sym (f .before .before .names-iso .ensures) ∙ f .before .if1 .left) _ (f .find-import .ensures) (c .before .before .before .before .if2 .left)
-    _ (c .before .before .before .find-definition .ensures) (omega (arith, c .if3 .taken, c .before .before .count .ensures, all s))
+    let f = c .before .before .before .before in
+    let s = start-of f in
+    lead-definition (meanings-in (s .args .text .now)) _ (sym (f .before .before .names-iso .ensures) ∙ f .before .if1 .left) _ (f .find-import .ensures) (c .before .before .before .if2 .left)
+    _ (c .before .before .find-definition .ensures) (omega (arith, c .if3 .taken, all s))
 
 returns-4 : tie.Need-returns-4
 returns-4 c =
-    let f = c .before .before .before .before .before in
-    let s = f .before .before .before .before .before .before .before .before .before in
-    lead-nothing (meanings-in (s .args .text .now)) _ (sym (f .before .before .names-iso .ensures) ∙ f .before .if1 .left) _ (f .find-import .ensures) (c .before .before .before .before .if2 .left)
-    _ (c .before .before .before .find-definition .ensures) (omega (arith, c .if3 .left, c .before .before .count .ensures, all s))
+    let f = c .before .before .before .before in
+    let s = start-of f in
+    lead-nothing (meanings-in (s .args .text .now)) _ (sym (f .before .before .names-iso .ensures) ∙ f .before .if1 .left) _ (f .find-import .ensures) (c .before .before .before .if2 .left)
+    _ (c .before .before .find-definition .ensures) (omega (arith, c .if3 .left, all s))
 
 pub leads-to-spec : {M : Type 1} → statement M
 leads-to-spec =
@@ -66,6 +67,5 @@ leads-to-spec =
     lead-in-requires
     returns-2
     find-definition-requires
-    count-requires
     returns-3
     returns-4)

@@ -12,11 +12,11 @@ use Rattle.scope.proofs.lookup.search_in.Statement.{statement}
 use Rattle.scope.proofs.lookup.search_in.Tie as tie
 
 abbrev Inv-loop : tie.InvT-loop
-Inv-loop text starts ends definitions name to k₀ k =
-    Searched (defines-name (meanings-in text) (between text (name .start) (name .end))) k₀ to k
+Inv-loop text starts ends names sought to k₀ k =
+    Searched (defines-name (meanings-in text) (between text (sought .name .start) (sought .name .end))) k₀ to k
 
 abbrev μ-loop : tie.MeasureT-loop
-μ-loop text starts ends definitions name to k₀ k = to - k
+μ-loop text starts ends names sought to k₀ k = to - k
 
 abbrev start-of : tie.At-loop Inv-loop μ-loop → tie.Start Inv-loop μ-loop
 start-of l = l .before .before .before .before .before
