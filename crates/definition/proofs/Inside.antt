@@ -13,7 +13,7 @@ use Rattle.index.proofs.Search.{first-inside, first-none}
 use Rattle.terminal.specs.Terminal.{right-brace, assign, SEQUENCE, SYNTAX}
 use Rattle.definition.specs.Landmark.{class-at, kind-at, has-oid, sequence-type}
 use Rattle.definition.specs.declared.Span.{Span}
-use Rattle.definition.specs.Fields.{span, nowhere, braced-after, ends-syntax, syntax-span, columns-span, oid-span}
+use Rattle.definition.specs.Fields.{span, nowhere, braced-after, ends-syntax, syntax-span, syntax-behind, columns-span, oid-span}
 
 -- the span's tokens are some of those from d up to e
 pub record Inside (d e : ℕ) (s : Span) : Type 0 where
@@ -63,23 +63,7 @@ module _ (cs : List ℕ) (d e : ℕ) (fits : d ≤ e) where
       w : ℕ
       w = first word d e
 
-  -- where the word is the definition's last token, what stands between its braces is no tokens, one after the end
-  pub braced-inside : (class : ℕ) → Inside d (e + 1) (braced-after cs class d e)
-  unfolding braced-after
-  braced-inside class =
-      after-word (λ (i : ℕ). eqb (class-at cs i) class) (λ (i : ℕ). eqb (class-at cs i) right-brace) 2 (e + 1) (omega arith)
-      (omega arith)
-
   pub syntax-inside : Inside d e (syntax-span cs d e)
-  unfolding syntax-span
+  unfolding syntax-behind
   syntax-inside =
       after-word (λ (i : ℕ). eqb (class-at cs i) SYNTAX) (ends-syntax cs) 1 e (omega arith) (omega arith)
-
-  pub columns-inside : Inside d (e + 1) (columns-span cs d e)
-  unfolding columns-span
-  columns-inside =
-      either (eqb (kind-at cs d) sequence-type) (λ h. braced-inside SEQUENCE) (λ h. none-inside (e + 1) (omega arith))
-
-  pub oid-inside : Inside d (e + 1) (oid-span cs d e)
-  unfolding oid-span
-  oid-inside = either (has-oid (kind-at cs d)) (λ h. braced-inside assign) (λ h. none-inside (e + 1) (omega arith))

@@ -2,3 +2,4 @@ pub mod Cases
 pub mod Found
 pub mod Inside
 pub mod Next
+pub mod Firsts

@@ -2,11 +2,12 @@
 -- Assumes nothing.
 use mathlib.Core.Bool.{Bool, cond, _&&_, _||_}
 use mathlib.Core.List.{List}
-use Prim.Native.Nat.{ℕ, _+_, _-_}
+use mathlib.Core.Path.{_≡_}
+use Prim.Native.Nat.{ℕ, _+_, _-_, _<_}
 use lib.Dec.{ltb, eqb}
 use Rattle.index.specs.First.{first}
-use Rattle.terminal.specs.Terminal.{left-brace, right-brace, left-paren, right-paren, Upper, assign, current, not-accessible, AUGMENTS, BITS, DEFVAL, INDEX, INTEGER, MAX-ACCESS, OBJECT, OBJECTS, OCTET, SEQUENCE, SIZE, STATUS, SYNTAX, UNITS}
-use lib.ListN.{getD}
+use Rattle.terminal.specs.Terminal.{terminals, left-brace, right-brace, left-paren, right-paren, Upper, assign, current, not-accessible, AUGMENTS, BITS, DEFVAL, INDEX, INTEGER, MAX-ACCESS, OBJECT, OBJECTS, OCTET, SEQUENCE, SIZE, STATUS, SYNTAX, UNITS}
+use lib.ListN.{length, getD}
 use Rattle.definition.specs.Landmark.{class-at, kind-at, has-oid, sequence-type, definitions, definition-end}
 use Rattle.definition.specs.declared.Span.{Span}
 use Rattle.definition.specs.declared.Fields.{Fields}
@@ -19,6 +20,11 @@ use Rattle.definition.specs.declared.Syntax.the-variants.{Integer, Named
 abbrev pub find : List ℕ → ℕ → ℕ → ℕ → ℕ
 find cs class a b = first (λ (i : ℕ). eqb (class-at cs i) class) a b
 
+-- where each class of tokens is found first from d on, below e
+pub record FirstTokens (cs : List ℕ) (d e : ℕ) (firsts : List ℕ) : Type 0 where
+  pub counted : length firsts ≡ terminals
+  pub first-is : (class : ℕ) → class < terminals → getD firsts class 0 ≡ find cs class d e
+
 -- the tokens from a up to b
 abbrev pub span : ℕ → ℕ → Span
 span a b = record { from = a; to = b }
@@ -27,24 +33,33 @@ span a b = record { from = a; to = b }
 abbrev pub nowhere : ℕ → Span
 nowhere e = span e e
 
--- what stands between the braces after the word of this class, if the definition has it: { directly follows the word
-unfoldable pub braced-after : List ℕ → ℕ → ℕ → ℕ → Span
-braced-after cs class d e =
-    cond (ltb (find cs class d e) e) (span (find cs class d e + 2) (find cs right-brace (find cs class d e + 2) e)) (nowhere e)
+-- what stands between the braces after the word at token w, if that is before e: { directly follows the word
+unfoldable pub braced-at : List ℕ → ℕ → ℕ → Span
+braced-at cs w e = cond (ltb w e) (span (w + 2) (find cs right-brace (w + 2) e)) (nowhere e)
 
--- the number, from 1 on, of the word after the word of this class, among words that start with `base`; 0 where there is none
-unfoldable pub word-after : List ℕ → ℕ → ℕ → ℕ → ℕ → ℕ
-word-after cs class base d e =
-    cond (ltb (find cs class d e) e) (class-at cs (find cs class d e + 1) - base + 1) 0
+-- what stands between the braces after the word of this class, if the definition has it
+abbrev pub braced-after : List ℕ → ℕ → ℕ → ℕ → Span
+braced-after cs class d e = braced-at cs (find cs class d e) e
+
+-- the number, from 1 on, of the word after the word at token w, if that is before e, among words that start with `base`; else 0
+unfoldable pub word-at : List ℕ → ℕ → ℕ → ℕ → ℕ
+word-at cs base w e = cond (ltb w e) (class-at cs (w + 1) - base + 1) 0
+
+-- the number of the word after the word of this class, if the definition has it
+abbrev pub word-after : List ℕ → ℕ → ℕ → ℕ → ℕ → ℕ
+word-after cs class base d e = word-at cs base (find cs class d e) e
 
 -- the word that ends an object's syntax
 abbrev pub ends-syntax : List ℕ → ℕ → Bool
 ends-syntax cs i = eqb (class-at cs i) UNITS || eqb (class-at cs i) MAX-ACCESS
 
+-- what stands behind the word at token w, if that is before e, up to the word that ends an object's syntax
+unfoldable pub syntax-behind : List ℕ → ℕ → ℕ → Span
+syntax-behind cs w e = cond (ltb w e) (span (w + 1) (first (ends-syntax cs) (w + 1) e)) (nowhere e)
+
 -- the syntax, without the word SYNTAX: up to UNITS or MAX-ACCESS in an object, and to the definition's end in a convention
-unfoldable pub syntax-span : List ℕ → ℕ → ℕ → Span
-syntax-span cs d e =
-    cond (ltb (find cs SYNTAX d e) e) (span (find cs SYNTAX d e + 1) (first (ends-syntax cs) (find cs SYNTAX d e + 1) e)) (nowhere e)
+abbrev pub syntax-span : List ℕ → ℕ → ℕ → Span
+syntax-span cs d e = syntax-behind cs (find cs SYNTAX d e) e
 
 -- the columns of a SEQUENCE type: what stands between its braces
 unfoldable pub columns-span : List ℕ → ℕ → ℕ → Span

@@ -51,10 +51,28 @@ fn is_name_need(need: Need) -> bool
     }
 }
 
-// Where the next name is looked for first: at the definition that the last one led to.
-fn nearest(lead: Lead, last: RecordIndex) -> RecordIndex {
+// Where names are looked for first: at the definition that the last name with the same last byte led to, as far as 64 of them are told
+// apart. The columns of a row stand in order, and one head serves many definitions.
+const SLOTS: usize = 64;
+
+// The slot of a name of this tag.
+fn slot_of(tag: u32) -> usize
+    ensures { λ r. ⌜ r < 64 ⌝ }
+{
+    (tag / 65536 % 64) as usize
+}
+
+// No name has led anywhere.
+fn blank_recent() -> [usize; SLOTS]
+    ensures { λ r. ⌜ length r ≡ 64 ⌝ }
+{
+    [0usize; SLOTS]
+}
+
+// Where the next name of a slot is looked for first, when this was the last: near where it leads, if that is to a definition.
+fn nearest(lead: Lead, last: usize) -> usize {
     match lead {
-        Lead::Definition(d) => d,
+        Lead::Definition(d) => d.0,
         Lead::Iso => last,
         Lead::Import(_) => last,
         Lead::Nothing => last,
@@ -93,13 +111,15 @@ pub fn judge_uses(
     let mut names = blank_names();
     collect_names(text, starts, ends, definitions, &mut names[..size]);
     let mut word = enclosing_at(classes, classes.len(), end);
-    let mut near = RecordIndex(0);
+    let mut recent = blank_recent();
     let mut i = end;
     while i < classes.len() {
         let need = need_at(classes, classes.len(), word, i);
         if is_name_need(need) {
             let name = name_at(classes, starts, ends, TokenIndex(i));
             let tag = name_tag(text, name);
+            let slot = slot_of(tag);
+            let near = RecordIndex(recent[slot]);
             let lead = leads_to(
                 text,
                 starts,
@@ -111,7 +131,7 @@ pub fn judge_uses(
             if !serves(definitions, lead, need) {
                 return Judgement::Broken(plain_finding(11, i));
             }
-            near = nearest(lead, near);
+            recent[slot] = nearest(lead, recent[slot]);
             let found = word_for(lead);
             values[i] = found;
             word = next_enclosing(classes, classes.len(), word, i);

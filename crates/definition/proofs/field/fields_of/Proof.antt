@@ -1,10 +1,13 @@
 -- `fields_of` is right: each field is what its own function answers.
 -- Assumes nothing.
 use mathlib.Core.Path.{_≡_}
-use borrow.Author.Needs.{needs}
-use lib.ListN.{take}
+use lib.ListN.{take, getD}
 use Rattle.definition.specs.declared.Fields.{Fields}
-use Rattle.definition.specs.Fields.{columns-span, oid-span, fields-of}
+use Prim.Native.Nat.{ℕ, _<_}
+use native.Mathlib.Omega.{arith}
+use Rattle.terminal.specs.Terminal.{terminals, assign, AUGMENTS, DEFVAL, INDEX, MAX-ACCESS, OBJECTS, SEQUENCE, STATUS, SYNTAX}
+use Rattle.definition.specs.Fields.{find, columns-span, oid-span, fields-of}
+use borrow.Author.Needs.{needs}
 use Rattle.definition.proofs.field.fields_of.Statement.{statement}
 use Rattle.definition.proofs.field.fields_of.Tie as tie
 
@@ -26,29 +29,58 @@ fields-equal f g kind status access syntax index augments default objects column
       oid = oid i;
     }
 
+-- what is found first of each class
+found : (f : tie.After-first-tokens) (class : ℕ) → class < terminals
+    → getD (f .first-tokens .result) class 0 ≡ find (take (f .before .before .args .n) (f .before .before .args .classes .now)) class (f .before .before .args .d) (f .before .before .args .e)
+found f class h = f .first-tokens .ensures .first-is class h
+
+first-tokens-requires : tie.Need-first-tokens-requires
+first-tokens-requires c κs = search needs
+
 kind-at-requires : tie.Need-kind-at-requires
 kind-at-requires c κs = search needs
 
-word-after-requires : tie.Need-word-after-requires
-word-after-requires c κs = search needs
+array-read-word-at : tie.Need-array-read-word-at
+array-read-word-at c = search needs
 
-word-after-requires-2 : tie.Need-word-after-requires-2
-word-after-requires-2 c κs = search needs
+word-at-requires : tie.Need-word-at-requires
+word-at-requires c κs = search needs
 
-syntax-span-requires : tie.Need-syntax-span-requires
-syntax-span-requires c κs = search needs
+array-read-word-at-2 : tie.Need-array-read-word-at-2
+array-read-word-at-2 c = search needs
 
-braced-after-requires : tie.Need-braced-after-requires
-braced-after-requires c κs = search needs
+word-at-requires-2 : tie.Need-word-at-requires-2
+word-at-requires-2 c κs = search needs
 
-braced-after-requires-2 : tie.Need-braced-after-requires-2
-braced-after-requires-2 c κs = search needs
+array-read-syntax-behind : tie.Need-array-read-syntax-behind
+array-read-syntax-behind c = search needs
 
-find-requires : tie.Need-find-requires
-find-requires c κs = search needs
+syntax-behind-requires : tie.Need-syntax-behind-requires
+syntax-behind-requires c κs = search needs
 
-braced-after-requires-3 : tie.Need-braced-after-requires-3
-braced-after-requires-3 c κs = search needs
+array-read-braced-at : tie.Need-array-read-braced-at
+array-read-braced-at c = search needs
+
+braced-at-requires : tie.Need-braced-at-requires
+braced-at-requires c κs = search needs
+
+array-read-braced-at-2 : tie.Need-array-read-braced-at-2
+array-read-braced-at-2 c = search needs
+
+braced-at-requires-2 : tie.Need-braced-at-requires-2
+braced-at-requires-2 c κs = search needs
+
+array-read-has-default : tie.Need-array-read-has-default
+array-read-has-default c = search needs
+
+array-read-braced-at-3 : tie.Need-array-read-braced-at-3
+array-read-braced-at-3 c = search needs
+
+braced-at-requires-3 : tie.Need-braced-at-requires-3
+braced-at-requires-3 c κs = search needs
+
+array-read-braced-if : tie.Need-array-read-braced-if
+array-read-braced-if c = search needs
 
 braced-if-requires : tie.Need-braced-if-requires
 braced-if-requires c κs =
@@ -61,6 +93,9 @@ cast-has-oid c = search needs
 has-oid-requires : tie.Need-has-oid-requires
 has-oid-requires c κs = search needs
 
+array-read-braced-if-2 : tie.Need-array-read-braced-if-2
+array-read-braced-if-2 c = search needs
+
 braced-if-requires-2 : tie.Need-braced-if-requires-2
 braced-if-requires-2 c κs =
     let start = c .before .before .before .before .before .before .before .before .before .before .before in
@@ -71,40 +106,49 @@ unfolding columns-span oid-span fields-of
 returns c =
     let columns = c .before .before in
     let objects = columns .before in
-    let default = objects .before in
-    let augments = default .before in
+    let augments = objects .before in
     let index = augments .before in
     let syntax = index .before in
     let access = syntax .before in
     let status = access .before in
     let kind = status .before in
-    let start = kind .before .before in
+    let f = kind .before in
+    let start = f .before .before in
     fields-equal _ (fields-of (take (start .args .n) (start .args .classes .now)) (start .args .d) (start .args .e))
     (kind .kind-at .ensures)
-    (status .word-after .ensures)
-    (access .word-after2 .ensures)
-    (syntax .syntax-span .ensures)
-    (index .braced-after .ensures)
-    (augments .braced-after2 .ensures)
-    (rw (default .find .ensures))
-    (objects .braced-after3 .ensures)
-    (rw (← kind .kind-at .ensures) (columns .braced-if .ensures))
-    (rw (← kind .kind-at .ensures, ← c .before .has-oid .ensures) (c .braced-if2 .ensures))
+    (rw (← found f STATUS (omega arith)) (status .word-at .ensures))
+    (rw (← found f MAX-ACCESS (omega arith)) (access .word-at2 .ensures))
+    (rw (← found f SYNTAX (omega arith)) (syntax .syntax-behind .ensures))
+    (rw (← found f INDEX (omega arith)) (index .braced-at .ensures))
+    (rw (← found f AUGMENTS (omega arith)) (augments .braced-at2 .ensures))
+    (rw (← found f DEFVAL (omega arith)))
+    (rw (← found f OBJECTS (omega arith)) (objects .braced-at3 .ensures))
+    (rw (← found f SEQUENCE (omega arith), ← kind .kind-at .ensures) (columns .braced-if .ensures))
+    (rw (← found f assign (omega arith), ← kind .kind-at .ensures, ← c .before .has-oid .ensures) (c .braced-if2 .ensures))
 
 pub fields-of-spec : {M : Type 1} → statement M
 fields-of-spec =
     tie.close
     (tie.spec
+    first-tokens-requires
     kind-at-requires
-    word-after-requires
-    word-after-requires-2
-    syntax-span-requires
-    braced-after-requires
-    braced-after-requires-2
-    find-requires
-    braced-after-requires-3
+    array-read-word-at
+    word-at-requires
+    array-read-word-at-2
+    word-at-requires-2
+    array-read-syntax-behind
+    syntax-behind-requires
+    array-read-braced-at
+    braced-at-requires
+    array-read-braced-at-2
+    braced-at-requires-2
+    array-read-has-default
+    array-read-braced-at-3
+    braced-at-requires-3
+    array-read-braced-if
     braced-if-requires
     cast-has-oid
     has-oid-requires
+    array-read-braced-if-2
     braced-if-requires-2
     returns)

@@ -5,7 +5,7 @@ use mathlib.Core.Bool.{Bool, true}
 use mathlib.Core.List.{List}
 use Prim.Native.Nat.{ℕ, _-_, _*_, _≤_, _<_}
 use native.Mathlib.Omega.{arith}
-use lib.ListN.{length, take, length-append}
+use lib.ListN.{length, take, length-append, length-set}
 use lib.Seq.{take-length, length-take-le, take-at}
 use Rattle.rule.specs.declared.Judgement.the-variants.{Broken}
 use Rattle.token.specs.Token.{Meaning}
@@ -34,14 +34,14 @@ use Rattle.naming.proofs.usage.judge_uses.Statement.{statement}
 use Rattle.naming.proofs.usage.judge_uses.Tie as tie
 
 abbrev Inv-loop : tie.InvT-loop
-Inv-loop text classes starts ends values₀ definitions end size names word₀ near₀ i₀ values word near i =
-    Using (meanings-in text) values₀ i values × (word ≡ enclosing (take (length classes) classes) i)
+Inv-loop text classes starts ends values₀ definitions end size names word₀ recent₀ i₀ values word recent i =
+    Using (meanings-in text) values₀ i values × (word ≡ enclosing (take (length classes) classes) i) × (length recent ≡ 64)
 
 abbrev μ-loop : tie.MeasureT-loop
-μ-loop text classes starts ends values₀ definitions end size names word₀ near₀ i₀ values word near i = length classes - i
+μ-loop text classes starts ends values₀ definitions end size names word₀ recent₀ i₀ values word recent i = length classes - i
 
 abbrev start-of : tie.At-loop Inv-loop μ-loop → tie.Start Inv-loop μ-loop
-start-of l = l .before .before .before .before .before .before .before .before .before .before .before .before .before .before
+start-of l = l .before .before .before .before .before .before .before .before .before .before .before .before .before .before .before
 
 -- ---- the names of the definitions
 
@@ -62,16 +62,16 @@ count-is a = a .before .before .before .count .ensures ∙ defined-counted _ _ (
 -- ---- the loop
 
 -- the imports end where the code says
-end-is : (l : tie.At-loop Inv-loop μ-loop) → l .before .before .before .before .before .before .before .imports-end .result ≡ imports-end (classes-of (meanings-in (start-of l .args .text .now)))
-end-is l = l .before .before .before .before .before .before .before .imports-end .ensures ∙ ap imports-end (classes-are _ _ _ _ (start-of l .pre .0))
+end-is : (l : tie.At-loop Inv-loop μ-loop) → l .before .before .before .before .before .before .before .before .imports-end .result ≡ imports-end (classes-of (meanings-in (start-of l .args .text .now)))
+end-is l = l .before .before .before .before .before .before .before .before .imports-end .ensures ∙ ap imports-end (classes-are _ _ _ _ (start-of l .pre .0))
 
-end-in : (l : tie.At-loop Inv-loop μ-loop) → l .before .before .before .before .before .before .before .imports-end .result ≤ length (l .loop .values)
+end-in : (l : tie.At-loop Inv-loop μ-loop) → l .before .before .before .before .before .before .before .before .imports-end .result ≤ length (l .loop .values)
 end-in l =
     let s = start-of l in
-    omega (arith, l .before .before .before .before .before .before .before .imports-end .ensures, end-inside (s .args .classes .now), l .loop .inv .0 .long, s .pre .1 .0)
+    omega (arith, l .before .before .before .before .before .before .before .before .imports-end .ensures, end-inside (s .args .classes .now), l .loop .inv .0 .long, s .pre .1 .0)
 
 -- and their values are held
-imports-now : (l : tie.At-loop Inv-loop μ-loop) → ImportsHeld (meanings-in (start-of l .args .text .now)) (take (l .before .before .before .before .before .before .before .imports-end .result) (l .loop .values))
+imports-now : (l : tie.At-loop Inv-loop μ-loop) → ImportsHeld (meanings-in (start-of l .args .text .now)) (take (l .before .before .before .before .before .before .before .before .imports-end .result) (l .loop .values))
 imports-now l =
     let s = start-of l in
     let cs = classes-are _ _ _ _ (s .pre .0) in
@@ -92,30 +92,34 @@ abbrev Looked : Type 0
 Looked = tie.After-leads-to Inv-loop μ-loop
 
 abbrev loop-of : Looked → tie.At-loop Inv-loop μ-loop
-loop-of a = a .before .before .before .before .before .before .before .before .before
+loop-of a = a .before .before .before .before .before .before .before .before .before .before
 
 abbrev said-by : Looked → List Meaning
 said-by a = meanings-in (start-of (loop-of a) .args .text .now)
 
 inside : (a : Looked) → loop-of a .loop .i < length (said-by a)
-inside a = omega (arith, a .before .before .before .before .before .before .before .before .loop-test .taken, said-counted _ _ _ _ (start-of (loop-of a) .pre .0))
+inside a = omega (arith, a .before .before .before .before .before .before .before .before .before .loop-test .taken, said-counted _ _ _ _ (start-of (loop-of a) .pre .0))
 
 room : (a : Looked) → loop-of a .loop .i < length (loop-of a .loop .values)
 room a =
     let l = loop-of a in
-    omega (arith, a .before .before .before .before .before .before .before .before .loop-test .taken, l .loop .inv .0 .long, start-of l .pre .1 .0)
+    omega (arith, a .before .before .before .before .before .before .before .before .before .loop-test .taken, l .loop .inv .0 .long, start-of l .pre .1 .0)
 
-need-is : (a : Looked) → a .before .before .before .before .before .before .before .need-at .result ≡ need-at (classes-of (said-by a)) (loop-of a .loop .i)
-need-is a = need-said (start-of (loop-of a)) _ (a .before .before .before .before .before .before .before .need-at .ensures)
+need-is : (a : Looked) → a .before .before .before .before .before .before .before .before .need-at .result ≡ need-at (classes-of (said-by a)) (loop-of a .loop .i)
+need-is a = need-said (start-of (loop-of a)) _ (a .before .before .before .before .before .before .before .before .need-at .ensures)
 
 used : (a : Looked) → is-name-need (need-at (classes-of (said-by a)) (loop-of a .loop .i)) ≡ true
-used a = sym (ap is-name-need (need-is a)) ∙ sym (a .before .before .before .before .before .before .is-name-need .ensures) ∙ a .before .before .before .before .before .if1 .taken
+used a = sym (ap is-name-need (need-is a)) ∙ sym (a .before .before .before .before .before .before .before .is-name-need .ensures) ∙ a .before .before .before .before .before .before .if1 .taken
 
 lead-is : (a : Looked) → a .leads-to .result ≡ leads-to (said-by a) (spelled (said-by a) (loop-of a .loop .i))
 lead-is a =
     let s = start-of (loop-of a) in
     a .leads-to .ensures
-    ∙ ap (leads-to (said-by a)) (sym (named-is _ _ _ _ (s .pre .0) _ (a .before .before .before .before .before .before .before .before .loop-test .taken) _ (a .before .before .before .before .name-at .ensures) .1))
+    ∙ ap (leads-to (said-by a)) (sym (named-is _ _ _ _ (s .pre .0) _ (a .before .before .before .before .before .before .before .before .before .loop-test .taken) _ (a .before .before .before .before .before .name-at .ensures) .1))
+
+-- the slot of its name
+slot-few : (a : Looked) → a .before .before .before .slot-of .result < 64
+slot-few a = a .before .before .before .slot-of .ensures
 
 imports-end-requires : tie.Need-imports-end-requires Inv-loop μ-loop
 imports-end-requires c κs = tt
@@ -143,11 +147,14 @@ collect-names-requires c κs =
 enclosing-at-requires : tie.Need-enclosing-at-requires Inv-loop μ-loop
 enclosing-at-requires c κs = omega arith
 
+blank-recent-requires : tie.Need-blank-recent-requires Inv-loop μ-loop
+blank-recent-requires c κs = tt
+
 loop-holds : tie.Need-loop-holds Inv-loop μ-loop
 loop-holds c =
-    let s = c .before .before .before .before .before .before .before .before .before .before .before .before .before in
-    let is = c .before .before .before .before .before .before .imports-end .ensures ∙ ap imports-end (classes-are _ _ _ _ (s .pre .0)) in
-    (using-start _ _ _ is (omega (arith, is, end-inside (classes-of (meanings-in (s .args .text .now))), said-counted _ _ _ _ (s .pre .0), ap length (classes-are _ _ _ _ (s .pre .0)))), c .enclosing-at .ensures)
+    let s = c .before .before .before .before .before .before .before .before .before .before .before .before .before .before in
+    let is = c .before .before .before .before .before .before .before .imports-end .ensures ∙ ap imports-end (classes-are _ _ _ _ (s .pre .0)) in
+    (using-start _ _ _ is (omega (arith, is, end-inside (classes-of (meanings-in (s .args .text .now))), said-counted _ _ _ _ (s .pre .0), ap length (classes-are _ _ _ _ (s .pre .0)))), c .before .enclosing-at .ensures, c .blank-recent .ensures)
 
 need-at-requires : tie.Need-need-at-requires Inv-loop μ-loop
 need-at-requires c κs = (omega arith, c .before .loop .inv .1)
@@ -166,32 +173,41 @@ name-tag-requires c κs =
     let s = start-of (c .before .before .before .before .before) in
     named-is _ _ _ _ (s .pre .0) _ (c .before .before .before .before .loop-test .taken) _ (c .name-at .ensures) .0
 
+slot-of-requires : tie.Need-slot-of-requires Inv-loop μ-loop
+slot-of-requires c κs = tt
+
+mul-nearest : tie.Need-mul-nearest Inv-loop μ-loop
+mul-nearest c = omega (arith, c .slot-of .ensures)
+
+array-read-nearest : tie.Need-array-read-nearest Inv-loop μ-loop
+array-read-nearest c = omega (arith, c .slot-of .ensures, c .before .before .before .before .before .before .before .loop .inv .2)
+
 slice-reshare-prefix-leads-to : tie.Need-slice-reshare-prefix-leads-to Inv-loop μ-loop
-slice-reshare-prefix-leads-to c = end-in (c .before .before .before .before .before .before)
+slice-reshare-prefix-leads-to c = end-in (c .before .before .before .before .before .before .before)
 
 slice-aggregate-leads-to : tie.Need-slice-aggregate-leads-to Inv-loop μ-loop
-slice-aggregate-leads-to c = sym (length-take-le _ _ (end-in (c .before .before .before .before .before .before .before)))
+slice-aggregate-leads-to c = sym (length-take-le _ _ (end-in (c .before .before .before .before .before .before .before .before)))
 
 array-share-prefix-names : tie.Need-array-share-prefix-names Inv-loop μ-loop
 array-share-prefix-names c =
-    let a = c .before .before .before .before .before .before .before .before .before .before in simp length-append (omega (arith, a .collect-names .ensures .counted, count-is a))
+    let a = c .before .before .before .before .before .before .before .before .before .before .before .before in simp length-append (omega (arith, a .collect-names .ensures .counted, count-is a))
 
 slice-aggregate-leads-to-2 : tie.Need-slice-aggregate-leads-to-2 Inv-loop μ-loop
 slice-aggregate-leads-to-2 c = sym (length-take-le _ _ (array-share-prefix-names (c .before)))
 
 leads-to-requires : tie.Need-leads-to-requires Inv-loop μ-loop
 leads-to-requires c κs =
-    let l = c .before .before .before .before .before .before .before .before in
+    let l = c .before .before .before .before .before .before .before .before .before in
     let s = start-of l in
-    let h = c .before .before .before .before .before .before .before .loop-test .taken in
-    let n = named-is _ _ _ _ (s .pre .0) _ h _ (c .before .before .before .name-at .ensures) in (
+    let h = c .before .before .before .before .before .before .before .before .loop-test .taken in
+    let n = named-is _ _ _ _ (s .pre .0) _ h _ (c .before .before .before .before .name-at .ensures) in (
       record {
         tokens = held-said _ _ _ _ (s .pre .0);
         imports = imports-now l;
-        definitions = subst (NamesHeld (meanings-in (s .args .text .now))) (sym (take-at _ _ _ (sym (size-of _ _ (l .before .before .before .collect-names .ensures) _ (count-is (l .before .before .before)))))) (l .before .before .before .collect-names .ensures);
+        definitions = subst (NamesHeld (meanings-in (s .args .text .now))) (sym (take-at _ _ _ (sym (size-of _ _ (l .before .before .before .before .collect-names .ensures) _ (count-is (l .before .before .before .before)))))) (l .before .before .before .before .collect-names .ensures);
         distinct = s .pre .1 .1 .1 .1 .1;
       },
-      record { within = n .0; tagged = c .before .before .name-tag .ensures },
+      record { within = n .0; tagged = c .before .before .before .name-tag .ensures },
     )
 
 serves-requires : tie.Need-serves-requires Inv-loop μ-loop
@@ -201,7 +217,7 @@ plain-finding-requires : tie.Need-plain-finding-requires Inv-loop μ-loop
 plain-finding-requires c κs = tt
 
 same-length : tie.Need-same-length Inv-loop μ-loop
-same-length c = c .before .before .before .before .before .before .before .before .before .before .before .before .loop .inv .0 .long
+same-length c = c .before .before .before .before .before .before .before .before .before .before .before .before .before .loop .inv .0 .long
 
 returns : tie.Need-returns Inv-loop μ-loop
 returns c =
@@ -210,8 +226,20 @@ returns c =
     let un = use-known _ _ _ (need-is a) _ (lead-is a) _ (served (start-of l) _ _ (c .before .before .serves .ensures)) in
     (l .loop .inv .0 .long, (ap Broken (c .plain-finding .ensures) ∙ using-broken _ _ _ _ (l .loop .inv .0) (inside a) (sym un ∙ c .before .if2 .taken), tt))
 
+mul-nearest-2 : tie.Need-mul-nearest-2 Inv-loop μ-loop
+mul-nearest-2 c = omega (arith, slot-few (c .before .before))
+
+array-read-nearest-2 : tie.Need-array-read-nearest-2 Inv-loop μ-loop
+array-read-nearest-2 c = omega (arith, slot-few (c .before .before), loop-of (c .before .before) .loop .inv .2)
+
 nearest-requires : tie.Need-nearest-requires Inv-loop μ-loop
 nearest-requires c κs = tt
+
+mul-recent : tie.Need-mul-recent Inv-loop μ-loop
+mul-recent c = omega (arith, slot-few (c .before .before .before))
+
+array-write-recent : tie.Need-array-write-recent Inv-loop μ-loop
+array-write-recent c = omega (arith, slot-few (c .before .before .before), loop-of (c .before .before .before) .loop .inv .2)
 
 word-for-requires : tie.Need-word-for-requires Inv-loop μ-loop
 word-for-requires c κs =
@@ -220,7 +248,7 @@ word-for-requires c κs =
     subst Small (sym (lead-is a)) (lead-small _ _ (omega (arith, s .pre .1 .1 .1 .1 .0, defined-counted _ _ (s .pre .1 .1 .1 .0))))
 
 mul-values : tie.Need-mul-values Inv-loop μ-loop
-mul-values c = let a = c .before .before .before .before in omega (arith, a .before .before .before .before .before .before .before .before .loop-test .taken, few-classes _ _ _ _ (start-of (loop-of a) .pre .0))
+mul-values c = let a = c .before .before .before .before in omega (arith, a .before .before .before .before .before .before .before .before .before .loop-test .taken, few-classes _ _ _ _ (start-of (loop-of a) .pre .0))
 
 slice-write-values : tie.Need-slice-write-values Inv-loop μ-loop
 slice-write-values c = let a = c .before .before .before .before in room a
@@ -229,10 +257,10 @@ next-enclosing-requires : tie.Need-next-enclosing-requires Inv-loop μ-loop
 next-enclosing-requires c κs = (omega arith, loop-of (c .before .before .before .before) .loop .inv .1)
 
 add-i : tie.Need-add-i Inv-loop μ-loop
-add-i c = let a = c .before .before .before .before .before in omega (arith, a .before .before .before .before .before .before .before .before .loop-test .taken, few-classes _ _ _ _ (start-of (loop-of a) .pre .0))
+add-i c = let a = c .before .before .before .before .before in omega (arith, a .before .before .before .before .before .before .before .before .before .loop-test .taken, few-classes _ _ _ _ (start-of (loop-of a) .pre .0))
 
 loop-less : tie.Need-loop-less Inv-loop μ-loop
-loop-less c = let a = c .before .before .before .before .before in omega (arith, a .before .before .before .before .before .before .before .before .loop-test .taken)
+loop-less c = let a = c .before .before .before .before .before in omega (arith, a .before .before .before .before .before .before .before .before .before .loop-test .taken)
 
 loop-again : tie.Need-loop-again Inv-loop μ-loop
 loop-again c =
@@ -240,7 +268,7 @@ loop-again c =
     let l = loop-of a in
     let known = use-known _ _ _ (need-is a) _ (lead-is a) _ (served (start-of l) _ _ (c .before .before .before .before .serves .ensures)) in
     let value = c .before .word-for .ensures ∙ ap word-of (lead-is a) ∙ use-value _ _ (l .loop .inv .0 .from) (used a) in
-    (using-next _ _ _ _ (l .loop .inv .0) (inside a) (sym known ∙ c .before .before .before .if2 .left) (room a) _ value, c .next-enclosing .ensures)
+    (using-next _ _ _ _ (l .loop .inv .0) (inside a) (sym known ∙ c .before .before .before .if2 .left) (room a) _ value, c .next-enclosing .ensures, (simp length-set) ∙ l .loop .inv .2)
 
 magnitude-at-requires : tie.Need-magnitude-at-requires Inv-loop μ-loop
 magnitude-at-requires c κs = (start-of (c .before .before .before .before) .pre .0, c .before .before .before .loop-test .taken)
@@ -271,7 +299,7 @@ loop-again-2 c =
     let need = need-said s _ (n .need-at .ensures) in
     let none = sym (c .before .before .before .is-name-need .ensures) ∙ c .before .before .if1 .left in
     let value = c .before .magnitude-at .ensures ∙ other-value (meanings-in (s .args .text .now)) (l .loop .i) (l .loop .inv .0 .from) (sym (ap is-name-need need) ∙ none) in
-    (using-next _ _ _ _ (l .loop .inv .0) (omega (arith, h, said-counted _ _ _ _ (s .pre .0))) (sym (no-use-known _ _ _ need (no-need _ none))) (omega (arith, h, l .loop .inv .0 .long, s .pre .1 .0)) _ value, c .next-enclosing2 .ensures)
+    (using-next _ _ _ _ (l .loop .inv .0) (omega (arith, h, said-counted _ _ _ _ (s .pre .0))) (sym (no-use-known _ _ _ need (no-need _ none))) (omega (arith, h, l .loop .inv .0 .long, s .pre .1 .0)) _ value, c .next-enclosing2 .ensures, l .loop .inv .2)
 
 same-length-2 : tie.Need-same-length-2 Inv-loop μ-loop
 same-length-2 c = c .before .loop .inv .0 .long
@@ -297,11 +325,15 @@ judge-uses-spec =
     slice-aggregate-collect-names
     collect-names-requires
     enclosing-at-requires
+    blank-recent-requires
     loop-holds
     need-at-requires
     is-name-need-requires
     name-at-requires
     name-tag-requires
+    slot-of-requires
+    mul-nearest
+    array-read-nearest
     slice-reshare-prefix-leads-to
     slice-aggregate-leads-to
     array-share-prefix-names
@@ -311,7 +343,11 @@ judge-uses-spec =
     plain-finding-requires
     same-length
     returns
+    mul-nearest-2
+    array-read-nearest-2
     nearest-requires
+    mul-recent
+    array-write-recent
     word-for-requires
     mul-values
     slice-write-values
