@@ -77,6 +77,25 @@ def long_list(word):
                   ' } STATUS current DESCRIPTION "" ::= { w 0 1 }\n' + TAIL)
 
 
+SYMBOLS = {
+    "SNMPv2-SMI": "org dod internet directory mgmt experimental private security snmpV2 mib-2 transmission enterprises snmpDomains snmpProxys "
+                  "snmpModules zeroDotZero Integer32 IpAddress Counter32 Gauge32 Unsigned32 TimeTicks Opaque Counter64 MODULE-IDENTITY "
+                  "OBJECT-IDENTITY OBJECT-TYPE NOTIFICATION-TYPE",
+    "SNMPv2-TC": "TEXTUAL-CONVENTION DisplayString PhysAddress MacAddress DateAndTime TAddress TestAndIncr TimeInterval TruthValue RowStatus "
+                 "StorageType AutonomousType InstancePointer VariablePointer RowPointer TDomain TimeStamp",
+}
+
+
+def names_far_apart(listed):
+    """Every symbol imported, as many definitions as there may be, and a long list of two of them, far from each other, in turn."""
+    groups = "".join(f"{symbol} FROM {module} " for module, symbols in SYMBOLS.items() for symbol in symbols.split())
+    start = f'W DEFINITIONS::=BEGIN IMPORTS {groups};w MODULE-IDENTITY LAST-UPDATED""ORGANIZATION""CONTACT-INFO""DESCRIPTION""::={{iso 9}}'
+    fillers = [f" {name} OBJECT IDENTIFIER::={{w 1}}" for name in itertools.islice(names(), 700) if len(name) == 2 and name not in listed][:508]
+    objects = [f' {name} OBJECT-TYPE SYNTAX INTEGER MAX-ACCESS read-only STATUS current DESCRIPTION""::={{w {k + 2}}}' for k, name in enumerate(listed)]
+    text = start + "".join(fillers[:468]) + objects[0] + "".join(fillers[468:]) + objects[1] + " n NOTIFICATION-TYPE OBJECTS{"
+    return fitted(text, itertools.cycle(reversed(listed)), ",", '}STATUS current DESCRIPTION""::={w 0 1}END')
+
+
 def long_index():
     return fitted(HEAD + thing("t", "SEQUENCE OF S", "w", 1, "not-accessible") + "S ::= SEQUENCE { c Integer32 }\n" + thing("c", "Integer32", "r", 1)
                   + 'r OBJECT-TYPE SYNTAX S MAX-ACCESS not-accessible STATUS current DESCRIPTION "" INDEX { ', itertools.repeat("c"), ",",
@@ -121,6 +140,8 @@ TEXTS = {
     "rows of one type": rows_of_one_type,
     "columns of one type": columns_of_one_type,
     "OBJECTS list": lambda: long_list("OBJECTS"),
+    "names far apart": lambda: names_far_apart(["b", "a"]),
+    "names of one ending": lambda: names_far_apart(["ba", "aa"]),
     "INDEX list": long_index,
     "heads backwards": heads_backwards,
     "heads in a circle": heads_in_a_circle,
