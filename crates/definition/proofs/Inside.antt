@@ -10,10 +10,10 @@ use borrow.Author.Tests.{ltb-true}
 use lib.Dec.{ltb, eqb}
 use Rattle.index.specs.First.{first}
 use Rattle.index.proofs.Search.{first-inside, first-none}
-use Rattle.terminal.specs.Terminal.{right-brace, assign, SEQUENCE, SYNTAX}
-use Rattle.definition.specs.Landmark.{class-at, kind-at, has-oid, sequence-type}
+use Rattle.terminal.specs.Terminal.{SYNTAX}
+use Rattle.definition.specs.Landmark.{class-at}
 use Rattle.definition.specs.declared.Span.{Span}
-use Rattle.definition.specs.Fields.{span, nowhere, braced-after, ends-syntax, syntax-span, syntax-behind, columns-span, oid-span}
+use Rattle.definition.specs.Fields.{span, nowhere, ends-syntax, syntax-span, syntax-behind}
 
 -- the span's tokens are some of those from d up to e
 pub record Inside (d e : ℕ) (s : Span) : Type 0 where

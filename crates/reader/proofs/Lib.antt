@@ -8,3 +8,4 @@ pub mod Counting
 pub mod Stages
 pub mod Spelled
 pub mod Derived
+pub mod Fitting

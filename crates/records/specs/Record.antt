@@ -2,9 +2,9 @@
 -- Assumes nothing.
 use mathlib.Core.Bool.{Bool, cond, _||_}
 use mathlib.Core.List.{List, [], _∷_, _++_}
-use Prim.Native.Nat.{ℕ, zero, suc, _-_}
+use Prim.Native.Nat.{ℕ, zero, suc, _-_, _<_}
 use lib.Dec.{ltb, eqb}
-use lib.ListN.{getD}
+use lib.ListN.{length, getD}
 use Rattle.definition.specs.Landmark.{object, convention}
 use Rattle.definition.specs.Fields.{span}
 use Rattle.definition.specs.declared.Span.{Span}
@@ -26,9 +26,22 @@ has-syntax kind = eqb kind object || eqb kind convention
 abbrev pub syntax-tokens : Definition → Span
 syntax-tokens d = cond (has-syntax (d .kind)) (d .syntax) (span 0 0)
 
--- a word of 32 bits holds a number; one that it cannot hold would be 0, and no definition of a module has such a one
-abbrev pub word : ℕ → ℕ
-word x = cond (ltb x 4294967296) x 0
+-- one more than the most that a word of 32 bits holds
+abbrev pub word-limit : ℕ
+word-limit = 4294967296
+
+-- words of 32 bits hold the numbers of a definition that its record has
+pub record Fits (d : Definition) : Type 0 where
+  pub kind-fits : d .kind < word-limit
+  pub start-fits : d .start .0 < word-limit
+  pub count-fits : d .count < word-limit
+  pub access-fits : d .access < word-limit
+  pub status-fits : d .status < word-limit
+  pub class-fits : d .class < word-limit
+
+-- those of each definition
+abbrev pub AllFit : List Definition → Type 0
+AllFit ds = (k : ℕ) → k < length ds → Fits (entry ds k)
 
 -- how many words a record has
 abbrev pub record-width : ℕ
@@ -38,16 +51,16 @@ record-width = 10
 -- syntax; access; status; class. Absent fields are 0
 unfoldable pub record-of : List ℕ → List ℕ → Definition → List ℕ
 record-of starts ends d =
-    word (d .kind)
+    d .kind
     ∷ getD starts (d .name .0) 0
     ∷ (getD ends (d .name .0) 0 - getD starts (d .name .0) 0)
-    ∷ word (d .start .0)
-    ∷ word (d .count)
+    ∷ d .start .0
+    ∷ d .count
     ∷ offset-in starts (syntax-tokens d)
     ∷ length-in starts ends (syntax-tokens d)
-    ∷ word (d .access)
-    ∷ word (d .status)
-    ∷ word (d .class)
+    ∷ d .access
+    ∷ d .status
+    ∷ d .class
     ∷ []
 
 -- the records of the first k definitions, one after the other

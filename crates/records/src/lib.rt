@@ -1,10 +1,10 @@
 // The records of a module's definitions, ten words each, written in text order.
 ghost use mathlib.Core.Path.{_≡_};
-ghost use Prim.Native.Nat.{_-_, _≤_, _*_};
+ghost use Prim.Native.Nat.{_-_, _≤_, _<_, _*_};
 ghost use lib.ListN.{length, getD};
 ghost use Rattle.overlay.specs.Writing.{Written};
 ghost use Rattle.module_table.specs.Definition.{definitions-in};
-ghost use Rattle.records.specs.Record.{offset-in, length-in, syntax-tokens, record-width, record-of, records-before, word};
+ghost use Rattle.records.specs.Record.{offset-in, length-in, syntax-tokens, record-width, record-of, records-before, word-limit, Fits, AllFit};
 use definition::Span;
 use definition::kind;
 use index::RecordIndex;
@@ -72,16 +72,15 @@ fn syntax_tokens(d: Definition) -> Span
 
 // A number as a word of a record.
 fn word(x: usize) -> u32
-    ensures { λ r. ⌜ r ≡ word x ⌝ }
+    requires { ⌜ x < word-limit ⌝ }
+    ensures { λ r. ⌜ r ≡ x ⌝ }
 {
-    if x < 4294967296 {
-        return x as u32;
-    }
-    0
+    x as u32
 }
 
 // The record of a definition.
 fn record_of(starts: &[u32], ends: &[u32], d: Definition) -> [u32; WIDTH]
+    requires { ⌜ Fits d ⌝ }
     ensures { λ r. ⌜ r ≡ record-of (now (starts .entry)) (now (ends .entry)) d ⌝ }
 {
     let name = d.name.0;
@@ -122,7 +121,8 @@ pub fn write_records(
     definitions: &[usize],
     records: &mut [u32],
 ) -> usize
-    requires { ⌜ length (definitions-in (now definitions)) * record-width ≤ length (now records) ⌝ }
+    requires room { ⌜ length (definitions-in (now definitions)) * record-width ≤ length (now records) ⌝ }
+    requires fits { ⌜ AllFit (definitions-in (now definitions)) ⌝ }
     ensures { λ r. ⌜ Written (records-before (now (starts .entry)) (now (ends .entry)) (definitions-in (now (definitions .entry))) (length (definitions-in (now (definitions .entry))))) r (now (records .entry)) (now (records .exit)) ⌝ }
 {
     let count = module_table::count(definitions);

@@ -1,7 +1,7 @@
 -- `write_records` is right because the records of the definitions passed lie at the start, and the next one's is written to the rest
 -- that is lent.
 -- Assumes nothing.
-use mathlib.Core.Path.{_≡_, ap, _∙_}
+use mathlib.Core.Path.{_≡_, sym, ap, subst, _∙_}
 use mathlib.Core.List.{List, _++_}
 use Prim.Native.Nat.{ℕ, _+_, _-_, _≤_}
 use native.Mathlib.Omega.{arith}
@@ -11,7 +11,7 @@ use Rattle.module_table.specs.declared.Definition.{Definition}
 use Rattle.module_table.specs.Definition.{definitions-in, entry}
 use Rattle.overlay.specs.Writing.{Written}
 use Rattle.overlay.proofs.Writing.{overlaid-length, written-none, returned, first-inside, second-room, written-both}
-use Rattle.records.specs.Record.{record-of, records-before}
+use Rattle.records.specs.Record.{record-of, records-before, Fits}
 use Rattle.records.proofs.Words.{record-long, none-before, before-more, before-long}
 use Rattle.records.proofs.write_records.Statement.{statement}
 use Rattle.records.proofs.write_records.Tie as tie
@@ -41,7 +41,7 @@ room : (t : tie.In-loop Inv-loop μ-loop) → length (before t ++ own t) ≤ len
 room t =
     let s = start t in
     let k = t .before .loop .k in
-    omega (arith, length-append (before t) (own t), before-long (s .args .starts .now) (s .args .ends .now) (defined t) k, record-long (s .args .starts .now) (s .args .ends .now) (entry (defined t) k), t .loop-test .taken, t .before .before .count .ensures, s .pre)
+    omega (arith, length-append (before t) (own t), before-long (s .args .starts .now) (s .args .ends .now) (defined t) k, record-long (s .args .starts .now) (s .args .ends .now) (entry (defined t) k), t .loop-test .taken, t .before .before .count .ensures, s .pre .0)
 
 inside : (t : tie.In-loop Inv-loop μ-loop) → t .before .loop .at ≤ length (t .before .loop .records)
 inside t = first-inside (before t) (own t) _ _ _ (room t) (t .before .loop .inv .1)
@@ -78,7 +78,9 @@ definition-at-requires : tie.Need-definition-at-requires Inv-loop μ-loop
 definition-at-requires c κs = tt
 
 record-of-requires : tie.Need-record-of-requires Inv-loop μ-loop
-record-of-requires c κs = tt
+record-of-requires c κs =
+    let t = c .before in
+    subst Fits (sym (c .definition-at .ensures)) (start t .pre .1 (t .before .loop .k) (omega (arith, t .loop-test .taken, t .before .before .count .ensures)))
 
 mul-rest : tie.Need-mul-rest Inv-loop μ-loop
 mul-rest c = omega (arith, at-most (c .before .before), start (c .before .before) .good .1 .1 .1 .0)
@@ -124,7 +126,7 @@ same-length c =
     let ds = definitions-in (s .args .definitions .now) in
     ap length (l .loop .inv .1 .held)
     ∙ overlaid-length (records-before (s .args .starts .now) (s .args .ends .now) ds (l .loop .k)) (s .args .records .now)
-    (omega (arith, before-long (s .args .starts .now) (s .args .ends .now) ds (l .loop .k), l .loop .inv .0, l .before .count .ensures, s .pre))
+    (omega (arith, before-long (s .args .starts .now) (s .args .ends .now) ds (l .loop .k), l .loop .inv .0, l .before .count .ensures, s .pre .0))
 
 returns : tie.Need-returns Inv-loop μ-loop
 returns c =

@@ -2,10 +2,10 @@
 -- Assumes nothing.
 use mathlib.Core.Path.{_≡_, refl, sym, ap, subst, _∙_}
 use mathlib.Core.List.{List, _++_}
-use Prim.Native.Nat.{ℕ, _+_, _*_, _≤_}
+use Prim.Native.Nat.{ℕ, _+_, _*_, _≤_, _<_}
 use native.Mathlib.Omega.{arith}
 use borrow.Author.Needs.{needs}
-use lib.ListN.{length, take, drop, length-append, length-take}
+use lib.ListN.{length, getD, take, drop, length-append, length-take}
 use lib.Seq.{take-at, length-take-le}
 use Rattle.rule.specs.Rule.{judge-one, judge}
 use Rattle.rule.specs.declared.Judgement.the-variants.{Kept}
@@ -15,7 +15,7 @@ use Rattle.token.specs.Table.{overlaid}
 use Rattle.module_table.specs.Definition.{definitions-in}
 use Rattle.module_table.proofs.Table.{table-counted}
 use Rattle.scope.specs.Token.{spelled}
-use Rattle.scope.proofs.Tokens.{few-classes}
+use Rattle.scope.proofs.Tokens.{few-classes, classes-are}
 use Rattle.naming.specs.Rules.{name-rules}
 use Rattle.naming.specs.Values.{values-of}
 use Rattle.naming.specs.Values as naming
@@ -23,12 +23,13 @@ use Rattle.naming.specs.Told.{judgement, Holds}
 use Rattle.naming.specs.declared.Names.{Names}
 use Rattle.oid_tree.specs.Refusal.{counts-before, collecting-rules}
 use Rattle.oid_tree.specs.Stage.{with-oids}
-use Rattle.records.specs.Record.{records-before}
+use Rattle.records.specs.Record.{records-before, AllFit}
 use Rattle.oid_holder.specs.Holder.{held-twice}
 use Rattle.syntax_check.specs.Refusal.{rules-over}
 use Rattle.reader.specs.Reading.{numbered, classed, module-of, rules, records-of}
 use Rattle.reader.proofs.Counting as counting
 use Rattle.reader.proofs.Derived as derived
+use Rattle.reader.proofs.Fitting as fitting
 use Rattle.reader.proofs.Stages as stages
 use Rattle.reader.proofs.module.read_derived.Statement.{statement}
 use Rattle.reader.proofs.module.read_derived.Tie as tie
@@ -394,8 +395,16 @@ returns-5 c =
 write-records-requires : tie.Need-write-records-requires
 write-records-requires c κs =
     let j = c .before .before .before .before .before .before in
-    let k = after-names (oided (syntaxed j)) in
-    omega (arith, ap length (module-held j), counting.module-counted (ms (named k)), holds k .1, few k, start (named k) .pre .1 .0)
+    let y = syntaxed j in
+    let o = oided y in
+    let k = after-names o in
+    let n = named k in
+    let s = start n in
+    let e = twinned y .before .before .before .before .before in (
+      omega (arith, ap length (module-held j), counting.module-counted (ms n), holds k .1, few k, s .pre .1 .0),
+      subst AllFit (sym (module-held j))
+          (fitting.all-fit (ms n) (λ i. subst (λ (cs : List ℕ). getD cs i 0 < 256) (classes-are _ _ _ _ (s .pre .0)) (omega (arith, n .before .before .before .before .before .before .before .before .before .shared-slice-known2 .given i))) (omega (arith, numbers-few e, derived.numbers-long _ _ _ _ (s .pre .0) _ _ (values-are k) (holds k .2) _ _ _ _ (o .collect-oids .ensures) (e .enum-told2 .given .1)))),
+    )
 
 same-length-5 : tie.Need-same-length-5
 same-length-5 c = search needs

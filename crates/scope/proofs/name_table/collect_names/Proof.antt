@@ -8,7 +8,6 @@ use lib.ListN.{length, getD, length-set}
 use Rattle.token.specs.Cut.{meanings-in}
 use Rattle.definition.specs.Landmark.{definitions}
 use Rattle.module_table.specs.declared.Definition.{Definition}
-use Rattle.module_table.specs.Definition.{definitions-in}
 use Rattle.scope.specs.Token.{classes-of, spelled}
 use Rattle.scope.specs.Tag.{name-tag}
 use Rattle.scope.proofs.Tags.{Laid, laid-none, laid-next, laid-all}
