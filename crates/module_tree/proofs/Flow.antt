@@ -28,6 +28,28 @@ pub both-pass : (a b : Bool) → T a → T b → T (a && b)
 both-pass true b p q = q
 both-pass false b p q = p
 
+-- The machine: its step by the state, the class and the mark; from the left, or else from the right.
+module _ {S : Type 0} (move : S → ℕ → ℕ → S) where
+  abbrev pub from-left : S → List (ℕ × ℕ) → S
+  from-left s [] = s
+  from-left s (p ∷ ps) = from-left (move s (p .0) (p .1)) ps
+
+  abbrev pub from-right : S → List (ℕ × ℕ) → S
+  from-right s [] = s
+  from-right s (p ∷ ps) = move (from-right s ps) (p .0) (p .1)
+
+  abbrev pub run : Bool → S → List (ℕ × ℕ) → S
+  run true s ps = from-left s ps
+  run false s ps = from-right s ps
+
+  left-append : (s : S) (ps qs : List (ℕ × ℕ)) → from-left s (ps ++ qs) ≡ from-left (from-left s ps) qs
+  left-append s [] qs = refl
+  left-append s (p ∷ ps) qs = left-append (move s (p .0) (p .1)) ps qs
+
+  right-append : (s : S) (ps qs : List (ℕ × ℕ)) → from-right s (ps ++ qs) ≡ from-right (from-right s qs) ps
+  right-append s [] qs = refl
+  right-append s (p ∷ ps) qs = ap (λ x. move x (p .0) (p .1)) (right-append s ps qs)
+
 -- States, compared by a test; `every` in a list stands for all states.
 module _ {S : Type 0} (same : S → S → Bool) (every : S) where
   abbrev pub has : S → List S → Bool
@@ -60,6 +82,26 @@ module _ {S : Type 0} (same : S → S → Bool) (every : S) where
 
   abbrev pub closed : (List S → List S) → List S → List S
   closed f l = let g = grow 12 f l in settled (within l g && within (f g) g) g
+
+  -- the states behind a rule, from those before it
+  module _ (move : S → ℕ → ℕ → S) (family : ℕ) where
+    abbrev image : ℕ → ℕ → List S → List S
+    image c v [] = []
+    image c v (x ∷ l) = insert (cond (same x every) every (move x c v)) (image c v l)
+
+    -- one part and then the other, as the machine meets them
+    abbrev in-turn : Bool → (List S → List S) → (List S → List S) → List S → List S
+    in-turn true f g l = g (f l)
+    in-turn false f g l = f (g l)
+
+    abbrev pub flow : Bool → Marked → ℕ → List S → List S
+    flow left nothing v l = []
+    flow left nil v l = l
+    flow left (word c) v l = image c v l
+    flow left (a then b) v l = in-turn left (flow left a v) (flow left b v) l
+    flow left (a either b) v l = join (flow left a v l) (flow left b v l)
+    flow left (steps a b) v l = in-turn left (closed (flow left a v)) (flow left b v) l
+    flow left (mark f number a) v l = flow left a (cond (eqb f family) number v) l
 
   module _ (reflexive : (s : S) → T (same s s)) (sound : (s t : S) → T (same s t) → s ≡ t) where
     every-has : (s : S) → T (has s (every ∷ []))
@@ -130,62 +172,23 @@ module _ {S : Type 0} (same : S → S → Bool) (every : S) where
             at true e p = within-has s (f g) g (and-right (within l g) (within (f g) g) (rw e tt)) p
             at false e p = every-has s
 
-    -- ---- the machine: its step by the state, the class and the mark; from the left, or else from the right
     module _ (move : S → ℕ → ℕ → S) (family : ℕ) where
-      abbrev pub from-left : S → List (ℕ × ℕ) → S
-      from-left s [] = s
-      from-left s (p ∷ ps) = from-left (move s (p .0) (p .1)) ps
-
-      abbrev pub from-right : S → List (ℕ × ℕ) → S
-      from-right s [] = s
-      from-right s (p ∷ ps) = move (from-right s ps) (p .0) (p .1)
-
-      abbrev pub run : Bool → S → List (ℕ × ℕ) → S
-      run true s ps = from-left s ps
-      run false s ps = from-right s ps
-
-      abbrev image : ℕ → ℕ → List S → List S
-      image c v [] = []
-      image c v (x ∷ l) = insert (cond (same x every) every (move x c v)) (image c v l)
-
-      -- one part and then the other, as the machine meets them
-      abbrev in-turn : Bool → (List S → List S) → (List S → List S) → List S → List S
-      in-turn true f g l = g (f l)
-      in-turn false f g l = f (g l)
-
-      abbrev pub flow : Bool → Marked → ℕ → List S → List S
-      flow left nothing v l = []
-      flow left nil v l = l
-      flow left (word c) v l = image c v l
-      flow left (a then b) v l = in-turn left (flow left a v) (flow left b v) l
-      flow left (a either b) v l = join (flow left a v l) (flow left b v l)
-      flow left (steps a b) v l = in-turn left (closed (flow left a v)) (flow left b v) l
-      flow left (mark f number a) v l = flow left a (cond (eqb f family) number v) l
-
-      left-append : (s : S) (ps qs : List (ℕ × ℕ)) → from-left s (ps ++ qs) ≡ from-left (from-left s ps) qs
-      left-append s [] qs = refl
-      left-append s (p ∷ ps) qs = left-append (move s (p .0) (p .1)) ps qs
-
-      right-append : (s : S) (ps qs : List (ℕ × ℕ)) → from-right s (ps ++ qs) ≡ from-right (from-right s qs) ps
-      right-append s [] qs = refl
-      right-append s (p ∷ ps) qs = ap (λ x. move x (p .0) (p .1)) (right-append s ps qs)
-
-      image-has : (c v : ℕ) (s : S) (l : List S) → T (has s l) → T (has (move s c v) (image c v l))
+      image-has : (c v : ℕ) (s : S) (l : List S) → T (has s l) → T (has (move s c v) (image move family c v l))
       image-has c v s [] h = absurd h
       image-has c v s (x ∷ l) h =
           or-cases (same x s || same x every) (has s l) h (λ p. go (same x every) refl p)
-          (λ p. insert-rest (cond (same x every) every (move x c v)) (move s c v) (image c v l) (image-has c v s l p))
+          (λ p. insert-rest (cond (same x every) every (move x c v)) (move s c v) (image move family c v l) (image-has c v s l p))
         where
           go : (b : Bool) → same x every ≡ b → T (same x s || same x every)
-              → T (has (move s c v) (insert (cond b every (move x c v)) (image c v l)))
-          go true e p = has-every (move s c v) (insert every (image c v l)) (insert-first every (image c v l))
+              → T (has (move s c v) (insert (cond b every (move x c v)) (image move family c v l)))
+          go true e p = has-every (move s c v) (insert every (image move family c v l)) (insert-first every (image move family c v l))
           go false e p =
               let q : x ≡ s = sound x s (or-cases (same x s) (same x every) p (λ r. r) (λ r. absurd (rw e at r))) in
-              subst (λ y. T (has (move y c v) (insert (move x c v) (image c v l)))) q (insert-first (move x c v) (image c v l))
+              subst (λ y. T (has (move y c v) (insert (move x c v) (image move family c v l)))) q (insert-first (move x c v) (image move family c v l))
 
       -- from a state of the list the machine ends in one of those computed
       abbrev Lands : Bool → Marked → Type 0
-      Lands left m = (v : ℕ) (l : List S) (t : Tree (unmarked m)) (s : S) → T (has s l) → T (has (run left s (leaves family v m t)) (flow left m v l))
+      Lands left m = (v : ℕ) (l : List S) (t : Tree (unmarked m)) (s : S) → T (has s l) → T (has (run move left s (leaves family v m t)) (flow move family left m v l))
 
       lands-none : (left : Bool) → Lands left nil
       lands-none true v l t s h = h
@@ -197,40 +200,40 @@ module _ {S : Type 0} (same : S → S → Bool) (every : S) where
 
       lands-then : (left : Bool) (a b : Marked) → Lands left a → Lands left b → Lands left (a then b)
       lands-then true a b f g v l t s h =
-          rw (left-append s (leaves family v a (t .0)) (leaves family v b (t .1)))
-          (g v (flow true a v l) (t .1) (from-left s (leaves family v a (t .0))) (f v l (t .0) s h))
+          rw (left-append move s (leaves family v a (t .0)) (leaves family v b (t .1)))
+          (g v (flow move family true a v l) (t .1) (from-left move s (leaves family v a (t .0))) (f v l (t .0) s h))
       lands-then false a b f g v l t s h =
-          rw (right-append s (leaves family v a (t .0)) (leaves family v b (t .1)))
-          (f v (flow false b v l) (t .0) (from-right s (leaves family v b (t .1))) (g v l (t .1) s h))
+          rw (right-append move s (leaves family v a (t .0)) (leaves family v b (t .1)))
+          (f v (flow move family false b v l) (t .0) (from-right move s (leaves family v b (t .1))) (g v l (t .1) s h))
 
       lands-either : (left : Bool) (a b : Marked) → Lands left a → Lands left b → Lands left (a either b)
       lands-either left a b f g v l (inl t) s h =
-          join-left (run left s (leaves family v a t)) (flow left a v l) (flow left b v l) (f v l t s h)
+          join-left (run move left s (leaves family v a t)) (flow move family left a v l) (flow move family left b v l) (f v l t s h)
       lands-either left a b f g v l (inr t) s h =
-          join-right (run left s (leaves family v b t)) (flow left a v l) (flow left b v l) (g v l t s h)
+          join-right (run move left s (leaves family v b t)) (flow move family left a v l) (flow move family left b v l) (g v l t s h)
 
       -- the steps keep to the closed list
       left-steps : (a b : Marked) → Lands true a → Lands true b → (v : ℕ) (l : List S) (t : Tree (unmarked (steps a b))) (s : S)
-          → T (has s (closed (flow true a v) l)) → T (has (from-left s (leaves family v (steps a b) t)) (flow true b v (closed (flow true a v) l)))
-      left-steps a b f g v l (last t) s h = g v (closed (flow true a v) l) t s h
+          → T (has s (closed (flow move family true a v) l)) → T (has (from-left move s (leaves family v (steps a b) t)) (flow move family true b v (closed (flow move family true a v) l)))
+      left-steps a b f g v l (last t) s h = g v (closed (flow move family true a v) l) t s h
       left-steps a b f g v l (step t more) s h =
-          rw (left-append s (leaves family v a t) (leaves family v (steps a b) more))
-          (left-steps a b f g v l more (from-left s (leaves family v a t))
-          (closed-step (flow true a v) l (from-left s (leaves family v a t)) (f v (closed (flow true a v) l) t s h)))
+          rw (left-append move s (leaves family v a t) (leaves family v (steps a b) more))
+          (left-steps a b f g v l more (from-left move s (leaves family v a t))
+          (closed-step (flow move family true a v) l (from-left move s (leaves family v a t)) (f v (closed (flow move family true a v) l) t s h)))
 
       right-steps : (a b : Marked) → Lands false a → Lands false b → (v : ℕ) (l : List S) (t : Tree (unmarked (steps a b))) (s : S)
-          → T (has s l) → T (has (from-right s (leaves family v (steps a b) t)) (closed (flow false a v) (flow false b v l)))
+          → T (has s l) → T (has (from-right move s (leaves family v (steps a b) t)) (closed (flow move family false a v) (flow move family false b v l)))
       right-steps a b f g v l (last t) s h =
-          closed-start (flow false a v) (flow false b v l) (from-right s (leaves family v b t)) (g v l t s h)
+          closed-start (flow move family false a v) (flow move family false b v l) (from-right move s (leaves family v b t)) (g v l t s h)
       right-steps a b f g v l (step t more) s h =
           let behind = leaves family v (steps a b) more in
-          let k = flow false b v l in
-          rw (right-append s (leaves family v a t) behind)
-          (closed-step (flow false a v) k (from-right (from-right s behind) (leaves family v a t))
-          (f v (closed (flow false a v) k) t (from-right s behind) (right-steps a b f g v l more s h)))
+          let k = flow move family false b v l in
+          rw (right-append move s (leaves family v a t) behind)
+          (closed-step (flow move family false a v) k (from-right move (from-right move s behind) (leaves family v a t))
+          (f v (closed (flow move family false a v) k) t (from-right move s behind) (right-steps a b f g v l more s h)))
 
       lands-steps : (left : Bool) (a b : Marked) → Lands left a → Lands left b → Lands left (steps a b)
-      lands-steps true a b f g v l t s h = left-steps a b f g v l t s (closed-start (flow true a v) l s h)
+      lands-steps true a b f g v l t s h = left-steps a b f g v l t s (closed-start (flow move family true a v) l s h)
       lands-steps false a b f g v l t s h = right-steps a b f g v l t s h
 
       pub lands : (left : Bool) (m : Marked) → Lands left m

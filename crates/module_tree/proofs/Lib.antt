@@ -1,2 +1,5 @@
 pub mod Same
 pub mod Flow
+pub mod Machine
+pub mod Answers
+pub mod Starts
