@@ -3,3 +3,5 @@ pub mod Flow
 pub mod Machine
 pub mod Answers
 pub mod Starts
+pub mod Leading
+pub mod Field

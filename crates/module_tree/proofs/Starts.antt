@@ -97,3 +97,11 @@ output-at (c ∷ l) (suc i) h = output-at l i (omega arith) ∙ sym (start-later
 tested : T (passes next out same-answers every-state dead-state answers-self answers-equal false start 0 module-tree (shown [] ∷ []) (shown (Upper ∷ DEFINITIONS ∷ assign ∷ []) ∷ []))
 unfolding module-tree
 tested = tt
+
+-- what the landmarks say of the tokens is what is marked
+pub starts-marked : (t : Tree (unmarked module-tree)) (i : ℕ) → i < length (yield (unmarked module-tree) t)
+    → start-at (yield (unmarked module-tree) t) i ≡ getD (marks start module-tree t) i 0
+starts-marked t i h =
+    sym (output-at (yield (unmarked module-tree) t) i h)
+    ∙ ap (λ l. getD l i 0) (reads-right next out same-answers every-state dead-state answers-self answers-equal start 0 module-tree
+    (shown [] ∷ []) (shown (Upper ∷ DEFINITIONS ∷ assign ∷ []) ∷ []) t (shown []) tt tested)
