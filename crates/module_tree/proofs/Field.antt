@@ -7,7 +7,7 @@ use mathlib.Core.List.{List, [], _∷_, _++_}
 use Prim.Native.Nat.{ℕ, zero, suc, _+_, _-_, _≤_, _<_}
 use native.Mathlib.Nat.{add-zero}
 use native.Mathlib.Omega.{arith}
-use borrow.Author.Tests.{lt-ltb, le-ltb, eq-eqb, ne-eqb}
+use borrow.Author.Tests.{lt-ltb, le-ltb, ltb-true, ltb-false, eq-eqb, ne-eqb}
 use lib.Dec.{T, eqb, ltb, eqb-refl, eqb→eq}
 use lib.ListN.{length, getD, drop, length-drop, List·getD-eq-default}
 use lib.Seq.{getD-drop, drop-cons}
@@ -16,7 +16,7 @@ use Rattle.index.proofs.Search.{true-false, answers}
 use Rattle.index.proofs.Hits.{hits-hit, hits-miss, hits-none}
 use Rattle.definition.specs.Landmark.{class-at}
 use Rattle.definition.specs.declared.Span.{Span}
-use Rattle.definition.specs.Fields.{find, span, nowhere}
+use Rattle.definition.specs.Fields.{find, span, nowhere, word-after}
 use Rattle.module_tree.specs.Module.{leading, is-none, first-marked, first-mark, some-marked, marked-span, places}
 use Rattle.module_tree.proofs.Flow.{has}
 use Rattle.module_tree.proofs.Machine.{after, outputs}
@@ -188,3 +188,71 @@ module _ (class : ℕ) (two : Bool) (stop : ℕ → Bool) (value : ℕ → ℕ) 
             ∙ ap (span (d + k)) (stop-at k r ∙ ap (λ n. d + k + n) (sym runs ∙ ap (leading (λ (v : ℕ). not (is-none v))) (sym dr)))
             ∙ ap (λ f. span (d + f) (d + f + leading (λ (v : ℕ). not (is-none v)) (drop f ls))) (sym m)
             ∙ sym (first-branch _ _ (ltb (first-marked ls) (length ls)) (lt-ltb (first-marked ls) (length ls) (omega (arith, ls-long))))
+
+-- a word behind the word of this class, by its number from `base` on
+abbrev pub word-value : ℕ → ℕ → ℕ
+word-value base c = c - base + 1
+
+abbrev pub never-bad : ℕ → Bool
+never-bad c = false
+
+abbrev pub at-once : ℕ → Bool
+at-once c = true
+
+word-nonzero : (base c : ℕ) → is-none (word-value base c) ≡ false
+word-nonzero base c = ne-eqb (word-value base c) 0 (λ e. omega arith)
+
+module _ (class base : ℕ) (cs xs : List ℕ) (d : ℕ) (st : Stands cs d xs) where
+  words : List ℕ
+  words = told class false never-bad at-once (word-value base) 0 xs
+
+  pub word-told : T (has eqb every-number (ends class false never-bad at-once (word-value base) 0 xs) complete)
+      → word-after cs class base d (d + length xs) ≡ first-mark (told class false never-bad at-once (word-value base) 0 xs)
+  unfolding word-after words
+  word-told h = go (sought class false never-bad at-once (word-value base) (word-nonzero base) xs h)
+    where
+      at : find cs class d (d + length xs) ≡ d + leading (λ (c : ℕ). not (eqb c class)) xs
+      at = first-leading (λ (c : ℕ). eqb c class) cs xs d st
+
+      long : length words ≡ length xs
+      long = outputs-long (next class false never-bad at-once (word-value base)) (out class false never-bad at-once (word-value base)) 0 xs
+
+      go : Sought class false never-bad at-once (word-value base) xs
+          → cond (ltb (find cs class d (d + length xs)) (d + length xs)) (class-at cs (find cs class d (d + length xs) + 1) - base + 1) 0 ≡ first-mark words
+      go (none a m) =
+          second-branch _ _ (ltb (find cs class d (d + length xs)) (d + length xs)) (le-ltb (find cs class d (d + length xs)) (d + length xs) (omega (arith, at)))
+          ∙ sym (List·getD-eq-default words 0 {n = first-marked words} (omega (arith, long)))
+      go (found k a r m dr g) =
+          let behind-it : find cs class d (d + length xs) + 1 ≡ d + k = omega (arith, at) in
+          first-branch _ _ (ltb (find cs class d (d + length xs)) (d + length xs)) (lt-ltb (find cs class d (d + length xs)) (d + length xs) (omega (arith, at)))
+          ∙ ap (λ i. class-at cs i - base + 1) behind-it ∙ ap (word-value base) (st k r)
+          ∙ sym (ap (λ l. getD (told class false never-bad at-once (word-value base) 2 l) 0 0) (drop-cons xs k 0 r))
+          ∙ sym (ap (λ l. getD l 0 0) dr) ∙ getD-drop k words 0 0 ∙ ap (λ i. getD words i 0) (add-zero k ∙ sym m)
+
+-- whether the word of this class is there at all
+module _ (class : ℕ) where
+  abbrev pub stays : ℕ → ℕ → ℕ
+  stays s c = s
+
+  abbrev pub is-there : ℕ → ℕ → ℕ
+  is-there s c = cond (eqb c class) 1 0
+
+  there-leading : (s : ℕ) (xs : List ℕ) → first-marked (outputs stays is-there s xs) ≡ leading (λ (c : ℕ). not (eqb c class)) xs
+  there-leading s [] = refl
+  there-leading s (x ∷ xs) = go (eqb x class) (there-leading s xs)
+    where
+      go : (b : Bool) → first-marked (outputs stays is-there s xs) ≡ leading (λ (c : ℕ). not (eqb c class)) xs
+          → cond (is-none (cond b 1 0)) (suc (first-marked (outputs stays is-there s xs))) 0 ≡ cond (not b) (suc (leading (λ (c : ℕ). not (eqb c class)) xs)) 0
+      go true ih = refl
+      go false ih = ap suc ih
+
+  pub there-told : (cs xs : List ℕ) (d : ℕ) → Stands cs d xs
+      → ltb (find cs class d (d + length xs)) (d + length xs) ≡ some-marked (outputs stays is-there 0 xs)
+  there-told cs xs d st =
+      let at = first-leading (λ (c : ℕ). eqb c class) cs xs d st in
+      let ls = outputs stays is-there 0 xs in
+      let long = outputs-long stays is-there 0 xs in
+      let lead = there-leading 0 xs in
+      answers (ltb (first-marked ls) (length ls))
+      (λ e. lt-ltb (find cs class d (d + length xs)) (d + length xs) (let l : first-marked ls < length ls = ltb-true (first-marked ls) (length ls) e in omega (arith, at, long, lead)) ∙ sym e)
+      (λ e. le-ltb (find cs class d (d + length xs)) (d + length xs) (let l : length ls ≤ first-marked ls = ltb-false (first-marked ls) (length ls) e in omega (arith, at, long, lead)) ∙ sym e)
