@@ -133,7 +133,7 @@ module _ (class : ℕ) (two : Bool) (bad stop : ℕ → Bool) (value : ℕ → �
         go true e ih = rw e
         go false e ih = rw (e, nonzero x) (ap suc ih)
 
-    run-from : (xs : List ℕ) → 0 < length xs → bad (getD xs 0 0) ≡ false → stop (getD xs 0 0) ≡ false
+    pub run-from : (xs : List ℕ) → 0 < length xs → bad (getD xs 0 0) ≡ false → stop (getD xs 0 0) ≡ false
         → leading (λ (v : ℕ). not (is-none v)) (told 2 xs) ≡ leading (λ (c : ℕ). not (stop c)) xs
     run-from [] h g e = refl
     run-from (x ∷ xs) h g e = rw (nonzero x, g, e) (ap suc (run-on xs))

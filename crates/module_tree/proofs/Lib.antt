@@ -5,3 +5,4 @@ pub mod Answers
 pub mod Starts
 pub mod Leading
 pub mod Field
+pub mod Numbers
