@@ -229,11 +229,11 @@ module _ (class base : ℕ) (cs xs : List ℕ) (d : ℕ) (st : Stands cs d xs) w
           ∙ sym (ap (λ l. getD (told class false never-bad at-once (word-value base) 2 l) 0 0) (drop-cons xs k 0 r))
           ∙ sym (ap (λ l. getD l 0 0) dr) ∙ getD-drop k words 0 0 ∙ ap (λ i. getD words i 0) (add-zero k ∙ sym m)
 
--- whether the word of this class is there at all
-module _ (class : ℕ) where
-  abbrev pub stays : ℕ → ℕ → ℕ
-  stays s c = s
+-- whether the word of this class is there at all: the machine has one state
+abbrev pub stays : ℕ → ℕ → ℕ
+stays s c = s
 
+module _ (class : ℕ) where
   abbrev pub is-there : ℕ → ℕ → ℕ
   is-there s c = cond (eqb c class) 1 0
 

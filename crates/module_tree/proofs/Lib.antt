@@ -6,3 +6,4 @@ pub mod Starts
 pub mod Leading
 pub mod Field
 pub mod Numbers
+pub mod Line

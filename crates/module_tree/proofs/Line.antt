@@ -1,0 +1,207 @@
+-- The lines of definitions: a test that is computed once for a line of the grammar says that the fields of each definition of that line
+-- stand where its tree has them.
+-- Assumes nothing.
+use mathlib.Core.Path.{_≡_, refl, sym, ap, ap₂, _∙_, subst}
+use mathlib.Core.Bool.{Bool, true, false, cond, not, _&&_, _||_}
+use mathlib.Core.List.{List, [], _∷_, _++_, map}
+use Prim.Native.Nat.{ℕ, zero, suc, _+_, _≤_, _<_}
+use native.Mathlib.Omega.{arith}
+use borrow.Author.Tests.{le-ltb}
+use lib.Dec.{T, eqb, ltb, eqb-refl, eqb→eq}
+use lib.ListN.{length, getD}
+use Rattle.grammar.specs.Rule.{Tree, yield}
+use Rattle.index.proofs.Search.{answers}
+use Rattle.index.proofs.Hits.{hits-none}
+use Rattle.index.proofs.Tested.{and-left, and-right}
+use Rattle.terminal.specs.Terminal.{number, right-brace, assign, current, not-accessible, AUGMENTS, DEFVAL, INDEX, MAX-ACCESS, OBJECTS, SEQUENCE, STATUS, SYNTAX, UNITS}
+use Rattle.definition.specs.Landmark.{class-at, kind-at, has-oid, sequence-type}
+use Rattle.definition.specs.Fields.{find, span, nowhere, braced-after, word-after, syntax-span, columns-span, oid-span, fields-of}
+use Rattle.definition.specs.Members.{oid-numbers}
+use Rattle.definition.specs.declared.Span.{Span}
+use Rattle.definition.specs.declared.Fields.{Fields}
+use Rattle.module_tree.specs.Marked.{Marked, unmarked, leaves, marks, size}
+use Rattle.module_tree.specs.Grammar.{start, status, access, syntax, index, augments, default, objects, columns, oid, own-number}
+use Rattle.module_tree.specs.Module.{leading, is-none, first-marked, first-mark, some-marked, marked-span, places, fields-of-part, numbers-of-part}
+use Rattle.module_tree.proofs.Flow.{has, within, within-has, flow, lands, from-left}
+use Rattle.module_tree.proofs.Machine.{after, outputs, passes, reads-left}
+use Rattle.module_tree.proofs.Leading.{Stands}
+use Rattle.module_tree.proofs.Field.{every-number, dead-number, complete, next, out, told, ends, span-after, span-told, word-value, never-bad, at-once, word-told, stays, is-there, there-told, outputs-long, first-branch, second-branch}
+use Rattle.module_tree.proofs.Numbers.{oid-value, oid-nonzero, closing, numbers-found}
+
+-- a machine over numbers, from state 0
+abbrev reads : (next out : ℕ → ℕ → ℕ) (family : ℕ) → List ℕ → Marked → Bool
+reads next out family allowed m = passes next out eqb every-number dead-number eqb-refl eqb→eq true family 0 m (0 ∷ []) allowed
+
+module _ (next out : ℕ → ℕ → ℕ) (family : ℕ) (allowed : List ℕ) (m : Marked) (p : T (reads next out family allowed m)) (t : Tree (unmarked m)) where
+  marks-are : outputs next out 0 (yield (unmarked m) t) ≡ marks family m t
+  marks-are = reads-left next out eqb every-number dead-number eqb-refl eqb→eq family 0 m (0 ∷ []) allowed t 0 tt p .0
+
+  ends-in : T (has eqb every-number (after next out 0 (yield (unmarked m) t)) allowed)
+  ends-in = reads-left next out eqb every-number dead-number eqb-refl eqb→eq family 0 m (0 ∷ []) allowed t 0 tt p .1
+
+-- ---- the tests of the fields
+
+abbrev spans : (class : ℕ) (two : Bool) (stop : ℕ → Bool) (value : ℕ → ℕ) (family : ℕ) → Marked → Bool
+spans class two stop value family m = reads (next class two stop stop value) (out class two stop stop value) family complete m
+
+abbrev words : (class base family : ℕ) → Marked → Bool
+words class base family m =
+    reads (next class false never-bad at-once (word-value base)) (out class false never-bad at-once (word-value base)) family complete m
+
+abbrev there : (class family : ℕ) → Marked → Bool
+there class family m = reads stays (is-there class) family (0 ∷ []) m
+
+-- nothing is marked
+abbrev no-output : ℕ → ℕ → ℕ
+no-output s c = 0
+
+abbrev absent : (family : ℕ) → Marked → Bool
+absent family m = reads stays no-output family (0 ∷ []) m
+
+-- the first token has the mark k, and no other has one
+abbrev first-state : ℕ → ℕ → ℕ
+first-state s c = 1
+
+abbrev first-output : ℕ → ℕ → ℕ → ℕ
+first-output k s c = cond (eqb s 0) k 0
+
+abbrev named : (k : ℕ) → Marked → Bool
+named k m = reads first-state (first-output k) start (1 ∷ []) m
+
+-- what ends a syntax
+abbrev syntax-stop : ℕ → Bool
+syntax-stop c = eqb c UNITS || eqb c MAX-ACCESS
+
+abbrev one : ℕ → ℕ
+one c = 1
+
+module _ (m : Marked) (t : Tree (unmarked m)) (cs : List ℕ) (d : ℕ) (st : Stands cs d (yield (unmarked m) t)) where
+  span-law : (class : ℕ) (two : Bool) (stop : ℕ → Bool) (value : ℕ → ℕ) (nonzero : (c : ℕ) → is-none (value c) ≡ false) (family : ℕ)
+      → T (spans class two stop value family m) → span-after class two stop cs d (d + size m t) ≡ marked-span d (marks family m t)
+  span-law class two stop value nonzero family p =
+      span-told class two stop value nonzero cs (yield (unmarked m) t) d st
+      (ends-in (next class two stop stop value) (out class two stop stop value) family complete m p t)
+      ∙ ap (marked-span d) (marks-are (next class two stop stop value) (out class two stop stop value) family complete m p t)
+
+  word-law : (class base family : ℕ) → T (words class base family m) → word-after cs class base d (d + size m t) ≡ first-mark (marks family m t)
+  word-law class base family p =
+      let n = next class false never-bad at-once (word-value base) in
+      let o = out class false never-bad at-once (word-value base) in
+      word-told class base cs (yield (unmarked m) t) d st (ends-in n o family complete m p t) ∙ ap first-mark (marks-are n o family complete m p t)
+
+  there-law : (class family : ℕ) → T (there class family m) → ltb (find cs class d (d + size m t)) (d + size m t) ≡ some-marked (marks family m t)
+  there-law class family p =
+      there-told class cs (yield (unmarked m) t) d st ∙ ap some-marked (marks-are stays (is-there class) family (0 ∷ []) m p t)
+
+  absent-law : (family : ℕ) → T (absent family m) → nowhere (d + size m t) ≡ marked-span d (marks family m t)
+  absent-law family p = go (yield (unmarked m) t) ∙ ap (marked-span d) (marks-are stays no-output family (0 ∷ []) m p t)
+    where
+      unmarked-all : (xs : List ℕ) → first-marked (outputs stays no-output 0 xs) ≡ length xs
+      unmarked-all [] = refl
+      unmarked-all (x ∷ xs) = ap suc (unmarked-all xs)
+
+      go : (xs : List ℕ) → nowhere (d + length xs) ≡ marked-span d (outputs stays no-output 0 xs)
+      go xs =
+          let ls = outputs stays no-output 0 xs in
+          let long = outputs-long stays no-output 0 xs in
+          ap (λ n. nowhere (d + n)) (sym long)
+          ∙ sym (second-branch _ _ (some-marked ls) (le-ltb (first-marked ls) (length ls) (omega (arith, long, unmarked-all xs))))
+
+-- ---- the test of a line, of definitions of this kind
+
+-- a field that definitions of some kinds have
+abbrev if-of : Bool → Bool → (family : ℕ) → Marked → Bool
+if-of true test family m = test
+if-of false test family m = absent family m
+
+-- a number of its own is among the tokens of an OID: the machine has met its mark
+abbrev meets : ℕ → ℕ → ℕ → ℕ
+meets s c v = cond (eqb v own-number) 1 s
+
+abbrev numbered : Marked → Bool
+numbered m = within eqb every-number (flow eqb every-number meets oid true m 0 (0 ∷ [])) (1 ∷ [])
+
+abbrev tests : ℕ → Marked → List Bool
+tests k m =
+    words STATUS current status m
+    ∷ words MAX-ACCESS not-accessible access m
+    ∷ spans SYNTAX false syntax-stop one syntax m
+    ∷ spans INDEX true closing one index m
+    ∷ spans AUGMENTS true closing one augments m
+    ∷ there DEFVAL default m
+    ∷ spans OBJECTS true closing one objects m
+    ∷ if-of (eqb k sequence-type) (spans SEQUENCE true closing one columns m) columns m
+    ∷ if-of (has-oid k) (spans assign true closing oid-value oid m) oid m
+    ∷ named k m
+    ∷ (not (has-oid k) || numbered m)
+    ∷ []
+
+abbrev all-pass : List Bool → Bool
+all-pass [] = true
+all-pass (b ∷ bs) = b && all-pass bs
+
+abbrev pub line-passes : ℕ → Marked → Bool
+line-passes k m = all-pass (tests k m)
+
+pass-at : (bs : List Bool) (i : ℕ) → T (all-pass bs) → T (getD bs i true)
+pass-at [] i h = tt
+pass-at (b ∷ bs) zero h = and-left b (all-pass bs) h
+pass-at (b ∷ bs) (suc i) h = pass-at bs i (and-right b (all-pass bs) h)
+
+module _ (k : ℕ) (m : Marked) (p : T (line-passes k m)) (t : Tree (unmarked m)) (cs : List ℕ) (d : ℕ) (st : Stands cs d (yield (unmarked m) t)) where
+  -- a field that definitions of some kinds have
+  if-law : (b : Bool) (class : ℕ) (value : ℕ → ℕ) (nonzero : (c : ℕ) → is-none (value c) ≡ false) (family : ℕ)
+      → T (if-of b (spans class true closing value family m) family m)
+      → cond b (span-after class true closing cs d (d + size m t)) (nowhere (d + size m t)) ≡ marked-span d (marks family m t)
+  if-law true class value nonzero family q = span-law m t cs d st class true closing value nonzero family q
+  if-law false class value nonzero family q = absent-law m t cs d st family q
+
+  -- the fields are those of the tree
+  pub fields-are : kind-at cs d ≡ k → fields-of cs d (d + size m t) ≡ fields-of-part k m d t
+  unfolding fields-of braced-after syntax-span columns-span oid-span
+  fields-are is = λ i. record {
+    kind = is i;
+    status = word-law m t cs d st STATUS current status (pass-at (tests k m) 0 p) i;
+    access = word-law m t cs d st MAX-ACCESS not-accessible access (pass-at (tests k m) 1 p) i;
+    syntax = span-law m t cs d st SYNTAX false syntax-stop one (λ c. refl) syntax (pass-at (tests k m) 2 p) i;
+    index = span-law m t cs d st INDEX true closing one (λ c. refl) index (pass-at (tests k m) 3 p) i;
+    augments = span-law m t cs d st AUGMENTS true closing one (λ c. refl) augments (pass-at (tests k m) 4 p) i;
+    «has_default» = there-law m t cs d st DEFVAL default (pass-at (tests k m) 5 p) i;
+    objects = span-law m t cs d st OBJECTS true closing one (λ c. refl) objects (pass-at (tests k m) 6 p) i;
+    columns = columns-are i;
+    oid = oid-is i;
+  }
+    where
+      columns-are : columns-span cs d (d + size m t) ≡ marked-span d (marks columns m t)
+      columns-are =
+          ap (λ j. cond (eqb j sequence-type) (span-after SEQUENCE true closing cs d (d + size m t)) (nowhere (d + size m t))) is
+          ∙ if-law (eqb k sequence-type) SEQUENCE one (λ c. refl) columns (pass-at (tests k m) 7 p)
+
+      oid-is : oid-span cs d (d + size m t) ≡ marked-span d (marks oid m t)
+      oid-is =
+          ap (λ j. cond (has-oid j) (span-after assign true closing cs d (d + size m t)) (nowhere (d + size m t))) is
+          ∙ if-law (has-oid k) assign oid-value oid-nonzero oid (pass-at (tests k m) 8 p)
+
+  -- so are the OID's own numbers
+  pub numbers-are : oid-numbers cs (marked-span d (marks oid m t)) ≡ numbers-of-part k m d t
+  unfolding oid-numbers
+  numbers-are = go (has-oid k) (pass-at (tests k m) 8 p)
+    where
+      none-marked : (e : ℕ) (xs : List ℕ) → places own-number e (outputs stays no-output 0 xs) ≡ []
+      none-marked e [] = refl
+      none-marked e (x ∷ xs) = none-marked (suc e) xs
+
+      go : (b : Bool) → T (if-of b (spans assign true closing oid-value oid m) oid m) → oid-numbers cs (marked-span d (marks oid m t)) ≡ places own-number d (marks oid m t)
+      go true q =
+          let n = next assign true closing closing oid-value in
+          let o = out assign true closing closing oid-value in
+          let same = marks-are n o oid complete m q t in
+          ap (λ l. oid-numbers cs (marked-span d l)) (sym same)
+          ∙ numbers-found cs (yield (unmarked m) t) d st (ends-in n o oid complete m q t) ∙ ap (places own-number d) same
+      go false q =
+          let same = marks-are stays no-output oid (0 ∷ []) m q t in
+          ap (oid-numbers cs) (sym (absent-law m t cs d st oid q)) ∙ no-span (d + size m t)
+          ∙ sym (ap (places own-number d) (sym same) ∙ none-marked d (yield (unmarked m) t))
+        where
+          no-span : (e : ℕ) → oid-numbers cs (nowhere e) ≡ []
+          no-span e = hits-none (λ (i : ℕ). eqb (class-at cs i) number) e e (omega arith)
