@@ -20,7 +20,7 @@ use Rattle.definition.specs.Fields.{find, span, nowhere, word-after}
 use Rattle.module_tree.specs.Module.{leading, is-none, first-marked, first-mark, some-marked, marked-span, places}
 use Rattle.module_tree.proofs.Flow.{has}
 use Rattle.module_tree.proofs.Machine.{after, outputs}
-use Rattle.module_tree.proofs.Leading.{Stands, stands-first, stands-rest, stands-drop, first-leading, leading-few}
+use Rattle.module_tree.proofs.Leading.{Stands, along-drop, first-leading}
 
 -- there are as many outputs as tokens
 pub outputs-long : {S : Type 0} (next : S → ℕ → S) (out : S → ℕ → ℕ) (s : S) (xs : List ℕ) → length (outputs next out s xs) ≡ length xs
@@ -167,7 +167,7 @@ module _ (class : ℕ) (two : Bool) (stop : ℕ → Bool) (value : ℕ → ℕ) 
     stop-at : (k : ℕ) → k < length xs → first (λ (i : ℕ). stop (class-at cs i)) (d + k) (d + length xs) ≡ d + k + leading (λ (c : ℕ). not (stop c)) (drop k xs)
     stop-at k r =
         let end : d + length xs ≡ d + k + length (drop k xs) = omega (arith, length-drop k xs) in
-        ap (first (λ (i : ℕ). stop (class-at cs i)) (d + k)) end ∙ first-leading stop cs (drop k xs) (d + k) (stands-drop cs d k xs st)
+        ap (first (λ (i : ℕ). stop (class-at cs i)) (d + k)) end ∙ first-leading stop cs (drop k xs) (d + k) (along-drop (class-at cs) d k xs st)
 
     -- the span of the field
     pub span-told : span-after class two stop cs d (d + length xs) ≡ marked-span d (told class two stop stop value 0 xs)

@@ -7,7 +7,7 @@ use mathlib.Core.List.{List, [], _∷_, _++_, map}
 use Prim.Native.Nat.{ℕ, zero, suc, _+_, _≤_, _<_}
 use native.Mathlib.Omega.{arith}
 use borrow.Author.Tests.{le-ltb}
-use lib.Dec.{T, eqb, ltb, eqb-refl, eqb→eq}
+use lib.Dec.{T, eqb, ltb, eqb-refl, eqb→eq, ltb→lt}
 use lib.ListN.{length, getD}
 use Rattle.grammar.specs.Rule.{Tree, yield}
 use Rattle.index.proofs.Search.{answers}
@@ -19,8 +19,8 @@ use Rattle.definition.specs.Fields.{find, span, nowhere, braced-after, word-aft
 use Rattle.definition.specs.Members.{oid-numbers}
 use Rattle.definition.specs.declared.Span.{Span}
 use Rattle.definition.specs.declared.Fields.{Fields}
-use Rattle.module_tree.specs.Marked.{Marked, unmarked, leaves, marks, size}
-use Rattle.module_tree.specs.Grammar.{start, status, access, syntax, index, augments, default, objects, columns, oid, own-number}
+use Rattle.module_tree.specs.Marked.{Marked, nothing, nil, word, _then_, _either_, steps, mark, unmarked, leaves, marks, size}
+use Rattle.module_tree.specs.Grammar.{definition, start, the-end, status, access, syntax, index, augments, default, objects, columns, oid, own-number, identity, def}
 use Rattle.module_tree.specs.Module.{leading, is-none, first-marked, first-mark, some-marked, marked-span, places, fields-of-part, numbers-of-part}
 use Rattle.module_tree.proofs.Flow.{has, within, within-has, flow, lands, from-left}
 use Rattle.module_tree.proofs.Machine.{after, outputs, passes, reads-left}
@@ -133,6 +133,7 @@ tests k m =
     ∷ if-of (eqb k sequence-type) (spans SEQUENCE true closing one columns m) columns m
     ∷ if-of (has-oid k) (spans assign true closing oid-value oid m) oid m
     ∷ named k m
+    ∷ (ltb 0 k && ltb k the-end)
     ∷ (not (has-oid k) || numbered m)
     ∷ []
 
@@ -205,3 +206,77 @@ module _ (k : ℕ) (m : Marked) (p : T (line-passes k m)) (t : Tree (unmarked m)
         where
           no-span : (e : ℕ) → oid-numbers cs (nowhere e) ≡ []
           no-span e = hits-none (λ (i : ℕ). eqb (class-at cs i) number) e e (omega arith)
+
+  -- its first token has the mark of its kind, and no other has one
+  pub record Named : Type 0 where
+    pub some : 0 < size m t
+    pub at-first : getD (marks start m t) 0 0 ≡ k
+    pub later : (i : ℕ) → 0 < i → getD (marks start m t) i 0 ≡ 0
+
+  pub named-is : Named
+  named-is =
+      let q : T (named k m) = pass-at (tests k m) 9 p in
+      let same = marks-are first-state (first-output k) start (1 ∷ []) m q t in
+      let all = go (yield (unmarked m) t) (ends-in first-state (first-output k) start (1 ∷ []) m q t) in
+      record {
+        some = all .0;
+        at-first = ap (λ l. getD l 0 0) (sym same) ∙ all .1;
+        later = λ i h. ap (λ l. getD l i 0) (sym same) ∙ all .2 i h;
+      }
+    where
+      none-later : (xs : List ℕ) (i : ℕ) → getD (outputs first-state (first-output k) 1 xs) i 0 ≡ 0
+      none-later [] i = refl
+      none-later (x ∷ xs) zero = refl
+      none-later (x ∷ xs) (suc i) = none-later xs i
+
+      behind-first : (xs : List ℕ) (i : ℕ) → 0 < i → getD (k ∷ outputs first-state (first-output k) 1 xs) i 0 ≡ 0
+      behind-first xs zero h = absurd (omega arith)
+      behind-first xs (suc i) h = none-later xs i
+
+      go : (xs : List ℕ) → T (has eqb every-number (after first-state (first-output k) 0 xs) (1 ∷ []))
+          → (0 < length xs) × (getD (outputs first-state (first-output k) 0 xs) 0 0 ≡ k) × ((i : ℕ) → 0 < i → getD (outputs first-state (first-output k) 0 xs) i 0 ≡ 0)
+      go [] h = absurd h
+      go (x ∷ xs) h = (omega arith, refl, behind-first xs)
+
+  pub its-kind : (0 < k) × (k < the-end)
+  its-kind =
+      let q : T (ltb 0 k && ltb k the-end) = pass-at (tests k m) 10 p in
+      (ltb→lt 0 k (and-left (ltb 0 k) (ltb k the-end) q), ltb→lt k the-end (and-right (ltb 0 k) (ltb k the-end) q))
+
+  -- an OID has a number
+  pub has-number : has-oid k ≡ true → 0 < length (numbers-of-part k m d t)
+  has-number e =
+      go d (leaves oid 0 m t)
+      (within-has eqb every-number eqb-refl eqb→eq (from-left meets 0 (leaves oid 0 m t)) (flow eqb every-number meets oid true m 0 (0 ∷ [])) (1 ∷ []) q
+      (lands eqb every-number eqb-refl eqb→eq meets oid true m 0 (0 ∷ []) t 0 tt))
+    where
+      q : T (numbered m)
+      q = rw e at (pass-at (tests k m) 11 p)
+
+      go : (n : ℕ) (ps : List (ℕ × ℕ)) → T (has eqb every-number (from-left meets 0 ps) (1 ∷ [])) → 0 < length (places own-number n (map (λ (x : ℕ × ℕ). x .1) ps))
+      go n [] h = absurd h
+      go n (x ∷ ps) h = at (eqb (x .1) own-number) h (go (suc n) ps)
+        where
+          at : (b : Bool) → T (has eqb every-number (from-left meets (cond b 1 0) ps) (1 ∷ []))
+              → (T (has eqb every-number (from-left meets 0 ps) (1 ∷ [])) → 0 < length (places own-number (suc n) (map (λ (x : ℕ × ℕ). x .1) ps)))
+              → 0 < length (cond b (n ∷ places own-number (suc n) (map (λ (x : ℕ × ℕ). x .1) ps)) (places own-number (suc n) (map (λ (x : ℕ × ℕ). x .1) ps)))
+          at true k′ ih = omega arith
+          at false k′ ih = ih k′
+
+-- all lines of a rule, each a definition
+abbrev pub lines-pass : Marked → Bool
+lines-pass nothing = false
+lines-pass nil = false
+lines-pass (word c) = false
+lines-pass (a then b) = false
+lines-pass (a either b) = lines-pass a && lines-pass b
+lines-pass (steps a b) = false
+lines-pass (mark f k a) = eqb f definition && line-passes k a
+
+pub identity-passes : T (lines-pass identity)
+unfolding has-oid
+identity-passes = tt
+
+pub def-passes : T (lines-pass def)
+unfolding has-oid
+def-passes = tt

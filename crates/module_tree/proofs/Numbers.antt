@@ -20,7 +20,7 @@ use Rattle.definition.specs.Members.{oid-numbers}
 use Rattle.module_tree.specs.Module.{leading, is-none, first-marked, some-marked, marked-span, places}
 use Rattle.module_tree.specs.Grammar.{own-number}
 use Rattle.module_tree.proofs.Flow.{has}
-use Rattle.module_tree.proofs.Leading.{Stands, stands-first, stands-rest, stands-drop}
+use Rattle.module_tree.proofs.Leading.{Stands, along-first, along-rest, along-drop}
 use Rattle.module_tree.proofs.Field.{every-number, complete, told, ends, Sought, none, found, sought, first-branch, second-branch, run-from, outputs-long, next, out}
 
 -- what the machine puts out inside an OID
@@ -65,7 +65,7 @@ module _ (cs : List ℕ) where
   hits-on : (xs : List ℕ) (q : ℕ) → Stands cs q xs
       → hits is-number q (q + leading (λ (c : ℕ). not (closing c)) xs) ≡ places own-number q (numbers-told 3 xs)
   hits-on [] q st = hits-none is-number q (q + 0) (omega arith)
-  hits-on (x ∷ xs) q st = go (closing x) refl (eqb x number) refl (hits-on xs (suc q) (stands-rest cs q x xs st))
+  hits-on (x ∷ xs) q st = go (closing x) refl (eqb x number) refl (hits-on xs (suc q) (along-rest (class-at cs) q x xs st))
     where
       rest : ℕ
       rest = leading (λ (c : ℕ). not (closing c)) xs
@@ -76,12 +76,12 @@ module _ (cs : List ℕ) where
       go false e true f ih =
           let on : q + suc rest ≡ suc q + rest = omega arith in
           rw (e, f)
-          (hits-hit is-number q (q + suc rest) (omega arith) (ap (λ c. eqb c number) (stands-first cs q x xs st) ∙ f)
+          (hits-hit is-number q (q + suc rest) (omega arith) (ap (λ c. eqb c number) (along-first (class-at cs) q x xs st) ∙ f)
           ∙ ap (λ l. q ∷ l) (ap (hits is-number (suc q)) on ∙ ih))
       go false e false f ih =
           let on : q + suc rest ≡ suc q + rest = omega arith in
           rw (e, f)
-          (hits-miss is-number q (q + suc rest) (omega arith) (ap (λ c. eqb c number) (stands-first cs q x xs st) ∙ f)
+          (hits-miss is-number q (q + suc rest) (omega arith) (ap (λ c. eqb c number) (along-first (class-at cs) q x xs st) ∙ f)
           ∙ ap (hits is-number (suc q)) on ∙ ih)
 
   -- at its first token
@@ -114,6 +114,6 @@ module _ (cs : List ℕ) where
           ap between (first-branch _ _ (some-marked ls) (lt-ltb (first-marked ls) (length ls) (omega (arith, long)))
           ∙ ap (λ f. span (d + f) (d + f + leading (λ (v : ℕ). not (is-none v)) (drop f ls))) m)
           ∙ ap (λ n. hits is-number (d + k) (d + k + n)) (ap (leading (λ (v : ℕ). not (is-none v))) dr ∙ runs)
-          ∙ hits-on (drop k xs) (d + k) (stands-drop cs d k xs st)
+          ∙ hits-on (drop k xs) (d + k) (along-drop (class-at cs) d k xs st)
           ∙ ap (places own-number (d + k)) (sym (dr ∙ same-inside (drop k xs) first-good))
           ∙ sym (places-skip d ls ∙ ap (λ f. places own-number (d + f) (drop f ls)) m)
