@@ -7,3 +7,4 @@ pub mod Leading
 pub mod Field
 pub mod Numbers
 pub mod Line
+pub mod Place
