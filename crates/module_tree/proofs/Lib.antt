@@ -8,3 +8,4 @@ pub mod Field
 pub mod Numbers
 pub mod Line
 pub mod Place
+pub mod Nodes
