@@ -9,3 +9,5 @@ pub mod Numbers
 pub mod Line
 pub mod Place
 pub mod Nodes
+pub mod Parts
+pub mod Definitions

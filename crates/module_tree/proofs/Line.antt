@@ -29,7 +29,7 @@ use Rattle.module_tree.proofs.Field.{every-number, dead-number, complet
 use Rattle.module_tree.proofs.Numbers.{oid-value, oid-nonzero, closing, numbers-found}
 
 -- a machine over numbers, from state 0
-abbrev reads : (next out : ℕ → ℕ → ℕ) (family : ℕ) → List ℕ → Marked → Bool
+abbrev pub reads : (next out : ℕ → ℕ → ℕ) (family : ℕ) → List ℕ → Marked → Bool
 reads next out family allowed m = passes next out eqb every-number dead-number eqb-refl eqb→eq true family 0 m (0 ∷ []) allowed
 
 module _ (next out : ℕ → ℕ → ℕ) (family : ℕ) (allowed : List ℕ) (m : Marked) (p : T (reads next out family allowed m)) (t : Tree (unmarked m)) where
@@ -52,11 +52,19 @@ abbrev there : (class family : ℕ) → Marked → Bool
 there class family m = reads stays (is-there class) family (0 ∷ []) m
 
 -- nothing is marked
-abbrev no-output : ℕ → ℕ → ℕ
+abbrev pub no-output : ℕ → ℕ → ℕ
 no-output s c = 0
 
-abbrev absent : (family : ℕ) → Marked → Bool
+abbrev pub absent : (family : ℕ) → Marked → Bool
 absent family m = reads stays no-output family (0 ∷ []) m
+
+pub unmarked-part : (family : ℕ) (m : Marked) → T (absent family m) → (t : Tree (unmarked m)) (i : ℕ) → getD (marks family m t) i 0 ≡ 0
+unmarked-part family m p t i = ap (λ l. getD l i 0) (sym (marks-are stays no-output family (0 ∷ []) m p t)) ∙ go (yield (unmarked m) t) i
+  where
+    go : (xs : List ℕ) (i : ℕ) → getD (outputs stays no-output 0 xs) i 0 ≡ 0
+    go [] i = refl
+    go (x ∷ xs) zero = refl
+    go (x ∷ xs) (suc i) = go xs i
 
 -- the first token has the mark k, and no other has one
 abbrev first-state : ℕ → ℕ → ℕ
