@@ -36,13 +36,6 @@ use Rattle.module_tree.proofs.Parts.{without, no-parts}
 use Rattle.module_tree.proofs.Place.{At, at-left, at-right, marks-long, none-starts, hits-skip}
 use Rattle.module_tree.proofs.Nodes.{Node, Row, lines-row, many-row}
 
--- nothing starts among the imports
-imports-start-none : T (absent start imports)
-imports-start-none = tt
-
-imports-define-none : T (without definition imports)
-imports-define-none = tt
-
 four-none : (vs : List ℕ) (i : ℕ) → i < 4 → getD (0 ∷ 0 ∷ 0 ∷ 0 ∷ vs) i 0 ≡ 0
 four-none vs zero h = refl
 four-none vs (suc zero) h = refl
@@ -143,3 +136,93 @@ module _ (brought first others : Marked) (quiet : T (absent start brought)) (bar
         (rest-row .row ∙ ap (λ l. parts definition make (many others) others-at (w .1 .0) ++ l)
         (ap (map f) (hits-none (begins cs) end-at (landmark.last cs) (omega (arith, ends-last)))))
         ∙ sym (ap (λ l. l ++ parts definition make (body first others) first-at w) (no-parts definition make brought bare 4 (u .0)))
+
+  -- ---- what is said of each
+
+  module _ (k : ℕ) (m : Marked) (d : ℕ) (v : Tree (unmarked m)) (n : Node cs k m d v) where
+    its-fields : fields-of cs d (definition-end cs d) ≡ fields-of-part k m d v
+    its-fields = ap (fields-of cs d) (n .ended) ∙ fields-are k m (n .passes) v cs d (n .classes) (n .kind)
+
+    its-numbers : oid-numbers cs (fields-of cs d (definition-end cs d) .oid) ≡ numbers-of-part k m d v
+    its-numbers = ap (λ (x : Fields). oid-numbers cs (x .oid)) its-fields ∙ numbers-are k m (n .passes) v cs d (n .classes)
+
+    -- an OID has a number
+    is-numbered : not (has-oid (kind-at cs d)) || ltb 0 (length (oid-numbers cs (fields-of cs d (definition-end cs d) .oid))) ≡ true
+    is-numbered = go (has-oid k) refl
+      where
+        go : (b : Bool) → has-oid k ≡ b → not (has-oid (kind-at cs d)) || ltb 0 (length (oid-numbers cs (fields-of cs d (definition-end cs d) .oid))) ≡ true
+        go true e =
+            rw (n .kind, e)
+            (lt-ltb 0 (length (oid-numbers cs (fields-of cs d (definition-end cs d) .oid)))
+            (omega (arith, ap length its-numbers, has-number k m (n .passes) v cs d (n .classes) e)))
+        go false e = rw (n .kind, e)
+
+  pub outline-is : outline cs ≡ parts definition definition-of-part (heading-then (brought then body first others)) 0 t
+  unfolding outline
+  outline-is = all-definitions (outlined-at cs) definition-of-part (λ k m d v n. ap (outlined d) (its-fields k m d v n))
+
+  pub ends-are : map (λ (x : Definition). definition-end cs (x .name .0)) (outline cs) ≡ parts definition end-of-part (heading-then (brought then body first others)) 0 t
+  unfolding outline
+  ends-are =
+      map-map (λ (x : Definition). definition-end cs (x .name .0)) (outlined-at cs) (landmark.definitions cs)
+      ∙ all-definitions (definition-end cs) end-of-part (λ k m d v n. n .ended)
+
+  pub numbers-of-all : map (λ (x : Definition). oid-numbers cs (x .oid)) (outline cs) ≡ parts definition numbers-of-part (heading-then (brought then body first others)) 0 t
+  unfolding outline
+  numbers-of-all =
+      map-map (λ (x : Definition). oid-numbers cs (x .oid)) (outlined-at cs) (landmark.definitions cs)
+      ∙ all-definitions (λ d. oid-numbers cs (fields-of cs d (definition-end cs d) .oid)) numbers-of-part its-numbers
+
+  pub each-numbered : EachNumbered cs
+  unfolding fields-of
+  each-numbered k h oid-kind =
+      let l = landmark.definitions cs in
+      let d = getD l k 0 in
+      let inside : k < length l = omega (arith, outline-counted cs) in
+      let is : entry (outline cs) k ≡ outlined-at cs d = outline-entry cs k inside in
+      let test : ℕ → Bool = λ i. not (has-oid (kind-at cs i)) || ltb 0 (length (oid-numbers cs (fields-of cs i (definition-end cs i) .oid))) in
+      let always : ℕ → Bool = λ i. true in
+      let alike : map test l ≡ map always l =
+      all-definitions test (λ j m i v. true) (λ j m i v n. is-numbered j m i v n) ∙ sym (all-definitions always (λ j m i v. true) (λ j m i v n. refl)) in
+      let passed : test d ≡ true = sym (entry-made test l k 0 true inside) ∙ ap (λ x. getD x k true) alike ∙ entry-made always l k 0 true inside in
+      let kind-is : has-oid (kind-at cs d) ≡ true = ap (λ (x : Definition). has-oid (x .kind)) (sym is) ∙ oid-kind in
+      let some : 0 < length (oid-numbers cs (fields-of cs d (definition-end cs d) .oid)) =
+      ltb-true 0 (length (oid-numbers cs (fields-of cs d (definition-end cs d) .oid))) (rw kind-is at passed) in
+      subst (λ (x : Definition). 0 < length (oid-numbers cs (x .oid))) (sym is) some
+
+-- ---- the module of the grammar
+
+-- nothing starts among the imports, and nothing is defined there
+imports-quiet : T (absent start imports)
+imports-quiet = tt
+
+imports-bare : T (without definition imports)
+imports-bare = tt
+
+module _ (t : Tree (unmarked module-tree)) where
+  abbrev classes : List ℕ
+  classes = yield (unmarked module-tree) t
+
+  whole : At classes module-tree 0 t
+  whole = record {
+    classes = stands-all classes;
+    starts = λ i h.
+        let on : 0 + i ≡ i = omega arith in
+        ap (start-at classes) on ∙ starts-marked t i (omega (arith, marks-long start module-tree t));
+  }
+
+  pub module-outline : outline classes ≡ parts definition definition-of-part module-tree 0 t
+  unfolding module-tree
+  module-outline = outline-is imports identity def imports-quiet imports-bare identity-passes def-passes classes t whole refl
+
+  pub module-ends : map (λ (x : Definition). definition-end classes (x .name .0)) (outline classes) ≡ parts definition end-of-part module-tree 0 t
+  unfolding module-tree
+  module-ends = ends-are imports identity def imports-quiet imports-bare identity-passes def-passes classes t whole refl
+
+  pub module-numbers : map (λ (x : Definition). oid-numbers classes (x .oid)) (outline classes) ≡ parts definition numbers-of-part module-tree 0 t
+  unfolding module-tree
+  module-numbers = numbers-of-all imports identity def imports-quiet imports-bare identity-passes def-passes classes t whole refl
+
+  pub module-numbered : EachNumbered classes
+  unfolding module-tree
+  module-numbered = each-numbered imports identity def imports-quiet imports-bare identity-passes def-passes classes t whole refl
