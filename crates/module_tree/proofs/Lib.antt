@@ -11,3 +11,5 @@ pub mod Place
 pub mod Nodes
 pub mod Parts
 pub mod Definitions
+pub mod Watch
+pub mod Imports

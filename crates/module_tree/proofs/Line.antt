@@ -33,10 +33,10 @@ abbrev pub reads : (next out : ℕ → ℕ → ℕ) (family : ℕ) → List ℕ 
 reads next out family allowed m = passes next out eqb every-number dead-number eqb-refl eqb→eq true family 0 m (0 ∷ []) allowed
 
 module _ (next out : ℕ → ℕ → ℕ) (family : ℕ) (allowed : List ℕ) (m : Marked) (p : T (reads next out family allowed m)) (t : Tree (unmarked m)) where
-  marks-are : outputs next out 0 (yield (unmarked m) t) ≡ marks family m t
+  pub marks-are : outputs next out 0 (yield (unmarked m) t) ≡ marks family m t
   marks-are = reads-left next out eqb every-number dead-number eqb-refl eqb→eq family 0 m (0 ∷ []) allowed t 0 tt p .0
 
-  ends-in : T (has eqb every-number (after next out 0 (yield (unmarked m) t)) allowed)
+  pub ends-in : T (has eqb every-number (after next out 0 (yield (unmarked m) t)) allowed)
   ends-in = reads-left next out eqb every-number dead-number eqb-refl eqb→eq family 0 m (0 ∷ []) allowed t 0 tt p .1
 
 -- ---- the tests of the fields
@@ -48,7 +48,7 @@ abbrev words : (class base family : ℕ) → Marked → Bool
 words class base family m =
     reads (next class false never-bad at-once (word-value base)) (out class false never-bad at-once (word-value base)) family complete m
 
-abbrev there : (class family : ℕ) → Marked → Bool
+abbrev pub there : (class family : ℕ) → Marked → Bool
 there class family m = reads stays (is-there class) family (0 ∷ []) m
 
 -- nothing is marked
