@@ -2,7 +2,7 @@
 -- Assumes nothing.
 use mathlib.Core.Path.{_≡_, refl, sym, ap, ap₂, _∙_, subst}
 use mathlib.Core.Bool.{Bool, true, false, cond, not, _&&_, _||_}
-use mathlib.Core.List.{List, [], _∷_, _++_, map, map-append, append-assoc}
+use mathlib.Core.List.{List, [], _∷_, _++_, map, map-append, append-assoc, append-nil}
 use mathlib.Core.Logic.{inl, inr}
 use Prim.Native.Nat.{ℕ, zero, suc, _+_, _-_, _≤_, _<_, min}
 use native.Mathlib.Decide.{decLt}
@@ -57,8 +57,11 @@ group-read = tt
 symbols-no-from : T (avoids FROM symbols)
 symbols-no-from = tt
 
-group-no-end : T (avoids semicolon inside)
+group-no-end : T (avoids semicolon import-group)
 group-no-end = tt
+
+groups-no-end : T (avoids semicolon (many import-group))
+groups-no-end = tt
 
 -- no symbol is a source
 abbrev no-source : ℕ → ℕ → ℕ → ℕ
@@ -287,3 +290,78 @@ module _ (rest : Marked) where
         subst (λ l. Stands cs (5 + size import-group g) l)
         (append-assoc (yield (unmarked (many import-group)) gs) (semicolon ∷ []) (yield (unmarked rest) w))
         (along-right (class-at cs) 5 (yield (unmarked import-group) g) _ groups-stand)
+
+    no-end : (i : ℕ) → 5 ≤ i → i < end → eqb (class-at cs i) semicolon ≡ false
+    no-end i l h = go (decLt i (5 + size import-group g))
+      where
+        go : Dec (i < 5 + size import-group g) → eqb (class-at cs i) semicolon ≡ false
+        go (yes m) =
+            let on : 5 + (i - 5) ≡ i = omega arith in
+            ap (λ j. eqb (class-at cs j) semicolon) (sym on)
+            ∙ ap (λ c. eqb c semicolon) (along-left (class-at cs) 5 (yield (unmarked import-group) g) _ groups-stand (i - 5) (omega arith))
+            ∙ never-there semicolon import-group group-no-end g (i - 5) (omega arith)
+        go (no m) =
+            let j : ℕ = i - (5 + size import-group g) in
+            let on : 5 + size import-group g + j ≡ i = omega arith in
+            ap (λ j. eqb (class-at cs j) semicolon) (sym on)
+            ∙ ap (λ c. eqb c semicolon)
+            (along-left (class-at cs) (5 + size import-group g) (yield (unmarked (many import-group)) gs) (semicolon ∷ yield (unmarked rest) w) more-stand j (omega arith))
+            ∙ never-there semicolon (many import-group) groups-no-end gs j (omega arith)
+
+    end-there : class-at cs end ≡ semicolon
+    end-there =
+        along-first (class-at cs) end semicolon (yield (unmarked rest) w)
+        (along-right (class-at cs) (5 + size import-group g) (yield (unmarked (many import-group)) gs) (semicolon ∷ yield (unmarked rest) w) more-stand)
+
+    text-long : length cs ≡ end + 1 + size rest w
+    text-long =
+        let a = length-append (yield (unmarked import-group) g ++ (yield (unmarked (many import-group)) gs ++ semicolon ∷ [])) (yield (unmarked rest) w) in
+        let b = length-append (yield (unmarked import-group) g) (yield (unmarked (many import-group)) gs ++ semicolon ∷ []) in
+        let c = length-append (yield (unmarked (many import-group)) gs) (semicolon ∷ []) in
+        omega (arith, a, b, c)
+
+    pub end-is : imports-end cs ≡ end
+    unfolding imports-end
+    end-is =
+        first-is (λ (i : ℕ). eqb (class-at cs i) semicolon) 5 (length cs) end (omega arith) (omega (arith, text-long)) (eq-eqb (class-at cs end) semicolon end-there) no-end
+
+    -- the groups behind the first
+    rows : (d : ℕ) (more : Tree (unmarked (many import-group))) → Stands cs d (yield (unmarked (many import-group)) more) → state cs d ≡ 0 → 5 ≤ d
+        → d + size (many import-group) more ≡ end → from cs d ≡ in-a-row (parts group imports-of-part (many import-group) d more) ++ from cs end
+    rows d (last t) st fresh l e = ap (from cs) (sym (add-zero d) ∙ e)
+    rows d (step s more) st fresh l e =
+        let both = length-append (yield (unmarked import-group) s) (yield (unmarked (many import-group)) more) in
+        let behind = size (many import-group) more in
+        let here = along-left (class-at cs) d (yield (unmarked import-group) s) (yield (unmarked (many import-group)) more) st in
+        let room : d + size import-group s ≤ length cs = omega (arith, text-long, both) in
+        group-row cs d s here fresh room (λ j h. inside-imports cs (d + j) (omega arith) (omega (arith, end-is, both)))
+        ∙ ap (λ x. imports-of-part 1 inside d s ++ x)
+        (rows (d + size import-group s) more (along-right (class-at cs) d (yield (unmarked import-group) s) (yield (unmarked (many import-group)) more) st)
+        (fresh-after cs d s here fresh room) (omega arith) (omega (arith, both)))
+        ∙ sym (append-assoc (imports-of-part 1 inside d s) (in-a-row (parts group imports-of-part (many import-group) (d + size import-group s) more)) (from cs end))
+
+    none-behind : from cs end ≡ []
+    none-behind =
+        ap (map (sourced cs))
+        (hits-skip (is-import cs) (length cs - end) end (length cs) (omega (arith, text-long)) (λ i l h. after-imports cs i (omega (arith, end-is)))
+        ∙ hits-none (is-import cs) (end + (length cs - end)) (length cs) (omega (arith, text-long)))
+
+    all-imports : from cs 0 ≡ in-a-row (parts group imports-of-part imports 4 (inr (tt, (g, (gs, tt)))))
+    unfolding state
+    all-imports =
+        let here = along-left (class-at cs) 5 (yield (unmarked import-group) g) _ groups-stand in
+        let room : 5 + size import-group g ≤ length cs = omega (arith, text-long) in
+        let l = in-a-row (parts group imports-of-part (many import-group) (5 + size import-group g) gs) in
+        ap (map (sourced cs)) (hits-skip (is-import cs) 5 0 (length cs) (omega (arith, text-long)) (λ i l h. before-imports cs i h))
+        ∙ group-row cs 5 g here refl room (λ j h. inside-imports cs (5 + j) (omega arith) (omega (arith, end-is)))
+        ∙ ap (λ x. imports-of-part 1 inside 5 g ++ x)
+        (rows (5 + size import-group g) gs
+        (along-left (class-at cs) (5 + size import-group g) (yield (unmarked (many import-group)) gs) (semicolon ∷ yield (unmarked rest) w) more-stand)
+        (fresh-after cs 5 g here refl room) (omega arith) refl
+        ∙ ap (λ x. l ++ x) none-behind ∙ append-nil l ∙ sym (ap in-a-row (append-nil (parts group imports-of-part (many import-group) (5 + size import-group g) gs))))
+
+  -- both cases
+  either-way : (i : Tree (unmarked imports)) (w : Tree (unmarked rest)) → 0 < start-at (text i w) (4 + size imports i)
+      → from (text i w) 0 ≡ in-a-row (parts group imports-of-part imports 4 i)
+  either-way (inl x) w opens = no-imports x w opens
+  either-way (inr x) w opens = all-imports (x .1 .0) (x .1 .1 .0) w
