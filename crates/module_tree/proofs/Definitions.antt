@@ -137,6 +137,10 @@ module _ (brought first others : Marked) (quiet : T (absent start brought)) (bar
         (ap (map f) (hits-none (begins cs) end-at (landmark.last cs) (omega (arith, ends-last)))))
         ∙ sym (ap (λ l. l ++ parts definition make (body first others) first-at w) (no-parts definition make brought bare 4 (u .0)))
 
+  -- the first definition starts where the imports have ended
+  pub opens-there : 0 < start-at cs first-at
+  opens-there = first-row {X = ℕ} (λ d. 0) (λ k m d v. 0) (λ k m d v n. refl) .opens
+
   -- ---- what is said of each
 
   module _ (k : ℕ) (m : Marked) (d : ℕ) (v : Tree (unmarked m)) (n : Node cs k m d v) where
@@ -193,17 +197,17 @@ module _ (brought first others : Marked) (quiet : T (absent start brought)) (bar
 -- ---- the module of the grammar
 
 -- nothing starts among the imports, and nothing is defined there
-imports-quiet : T (absent start imports)
+pub imports-quiet : T (absent start imports)
 imports-quiet = tt
 
-imports-bare : T (without definition imports)
+pub imports-bare : T (without definition imports)
 imports-bare = tt
 
 module _ (t : Tree (unmarked module-tree)) where
   abbrev classes : List ℕ
   classes = yield (unmarked module-tree) t
 
-  whole : At classes module-tree 0 t
+  pub whole : At classes module-tree 0 t
   whole = record {
     classes = stands-all classes;
     starts = λ i h.

@@ -24,16 +24,19 @@ use Rattle.definition.specs.Landmark.{class-at, is-lower, is-defining, is-macro
 use Rattle.definition.specs.Fields.{find}
 use Rattle.scope.specs.Import.{imports-start, imports-end, can-be-imported, is-symbol, is-import, source}
 use Rattle.module_tree.specs.Marked.{Marked, nil, word, _then_, _either_, steps, mark, many, plain, listed, unmarked, leaves, marks, size, parts}
-use Rattle.module_tree.specs.Grammar.{import, imports, import-group, symbol, group}
+use Rattle.module_tree.specs.Grammar.{import, imports, import-group, symbol, group, identity, def, definitions, module-tree}
 use Rattle.module_tree.specs.Grammar as grammar
 use Rattle.module_tree.specs.Module.{leading, places, imports-of-part, in-a-row}
+use Rattle.module_tree.specs.OfTree.{imports-in}
+use Rattle.module_tree.proofs.Parts.{without, no-parts}
+use Rattle.module_tree.proofs.Definitions.{opens-there, imports-quiet, imports-bare, whole}
 use Rattle.module_tree.proofs.Flow.{has, within, within-has, flow, lands, from-left}
 use Rattle.module_tree.proofs.Machine.{after, outputs, mark-of}
 use Rattle.module_tree.proofs.Leading.{Along, Stands, along-first, along-left, along-right, along-drop, stands-all}
 use Rattle.module_tree.proofs.Place.{marks-long, hits-skip}
 use Rattle.module_tree.proofs.Starts.{start-at}
 use Rattle.module_tree.proofs.Field.{every-number}
-use Rattle.module_tree.proofs.Line.{reads, marks-are, ends-in}
+use Rattle.module_tree.proofs.Line.{reads, marks-are, ends-in, identity-passes, def-passes}
 use Rattle.module_tree.proofs.Watch.{watched-after, watched-outputs, avoids, never-there, hits-places, map-places}
 
 -- the symbols of a group, and the group
@@ -365,3 +368,17 @@ module _ (rest : Marked) where
       → from (text i w) 0 ≡ in-a-row (parts group imports-of-part imports 4 i)
   either-way (inl x) w opens = no-imports x w opens
   either-way (inr x) w opens = all-imports (x .1 .0) (x .1 .1 .0) w
+
+-- ---- the module of the grammar
+
+definitions-import-none : T (without group definitions)
+definitions-import-none = tt
+
+pub module-imports : (t : Tree (unmarked module-tree)) → imports-in (yield (unmarked module-tree) t) ≡ in-a-row (parts group imports-of-part module-tree 0 t)
+unfolding module-tree
+module-imports t =
+    let i = t .1 .1 .1 .1 .0 in
+    let w = t .1 .1 .1 .1 .1 in
+    let l = parts group imports-of-part imports 4 i in
+    either-way definitions i w (opens-there imports identity def imports-quiet imports-bare identity-passes def-passes (yield (unmarked module-tree) t) t (whole t) refl)
+    ∙ sym (ap in-a-row (ap (λ x. l ++ x) (no-parts group imports-of-part definitions definitions-import-none (4 + size imports i) w) ∙ append-nil l))
