@@ -13,3 +13,4 @@ pub mod Parts
 pub mod Definitions
 pub mod Watch
 pub mod Imports
+pub mod Needs
