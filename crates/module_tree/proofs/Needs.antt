@@ -59,12 +59,7 @@ out s c = need-number (shows-need s c)
 abbrev blank : List Bool
 blank = false ∷ false ∷ false ∷ false ∷ false ∷ false ∷ false ∷ false ∷ false ∷ false ∷ []
 
--- before the imports: behind BEGIN
-abbrev begun : List Bool
-unfolding lists-objects
-begun = after next out blank (Upper ∷ DEFINITIONS ∷ assign ∷ BEGIN ∷ [])
-
--- behind them
+-- what can be shown behind the imports
 abbrev brought : List (List Bool)
 brought = flow same-answers every-state (unchecked next out) used true imports 0 (blank ∷ [])
 
@@ -72,3 +67,110 @@ brought = flow same-answers every-state (unchecked next out) used true imports 0
 tested : T (passes next out same-answers every-state dead-state answers-self answers-equal true used 0 definitions brought (blank ∷ []))
 unfolding lists-objects is-macro is-defining
 tested = tt
+
+-- ---- what is shown at a token
+
+push : (f : ℕ → Bool) (b c : Bool) (x z : ℕ) → f terminals ≡ false → f (cond b x (cond c terminals z)) ≡ cond b (f x) (cond c false (f z))
+push f true c x z e = refl
+push f false true x z e = e
+push f false false x z e = refl
+
+module _ (cs : List ℕ) where
+  state : ℕ → List Bool
+  state i =
+      eqb (class-at cs (i - 1)) OF
+      ∷ eqb (class-at cs (i - 1)) SYNTAX
+      ∷ eqb (class-at cs (i - 2)) OBJECT-TYPE
+      ∷ eqb (class-at cs (i - 1)) OBJECT-TYPE
+      ∷ is-lower (class-at cs (i - 1))
+      ∷ eqb (class-at cs (i - 1)) left-brace
+      ∷ lists-objects (class-at cs (i - 1))
+      ∷ eqb (class-at cs (i - 1)) assign
+      ∷ lists-objects (enclosing cs i)
+      ∷ eqb (enclosing cs i) assign
+      ∷ []
+
+  no-list : lists-objects terminals ≡ false
+  unfolding lists-objects
+  no-list = refl
+
+  moves : (i : ℕ) → state (suc i) ≡ next (state i) (class-at cs i)
+  unfolding state enclosing
+  moves i =
+      let c = class-at cs i in
+      let one : suc i - 1 ≡ i = omega arith in
+      let two : suc i - 2 ≡ i - 1 = omega arith in
+      rw (one, two)
+      (ap₂ (λ x y. eqb c OF ∷ eqb c SYNTAX ∷ eqb (class-at cs (i - 1)) OBJECT-TYPE ∷ eqb c OBJECT-TYPE ∷ is-lower c ∷ eqb c left-brace ∷ lists-objects c ∷ eqb c assign ∷ x ∷ y ∷ [])
+      (push lists-objects (eqb c left-brace) (eqb c right-brace) (class-at cs (i - 1)) (enclosing cs i) no-list)
+      (push (λ x. eqb x assign) (eqb c left-brace) (eqb c right-brace) (class-at cs (i - 1)) (enclosing cs i) refl))
+
+  need-is : (i : ℕ) → need-number (need-at cs i) ≡ out (state i) (class-at cs i)
+  unfolding state need-at upper-need lower-need
+  need-is i = refl
+
+  -- the tokens where a name is needed, each with its need
+  abbrev needed : ℕ → Bool
+  needed i = is-needed (need-at cs i)
+
+  abbrev with-need : ℕ → ℕ × Need
+  with-need i = (i, need-at cs i)
+
+  abbrev decoded : ℕ × ℕ → ℕ × Need
+  decoded p = (p .0, need-of (p .1))
+
+  need-back : (n : Need) → need-of (need-number n) ≡ n
+  need-back NoName = refl
+  need-back Macro = refl
+  need-back TypeName = refl
+  need-back ObjectType = refl
+  need-back Head = refl
+  need-back Object = refl
+  need-back Sequence = refl
+
+  need-some : (n : Need) → is-needed n ≡ not (is-none (need-number n))
+  need-some NoName = refl
+  need-some Macro = refl
+  need-some TypeName = refl
+  need-some ObjectType = refl
+  need-some Head = refl
+  need-some Object = refl
+  need-some Sequence = refl
+
+  -- along a list of marks
+  needs-row : (vs : List ℕ) (d b : ℕ) → d + length vs ≡ b → ((j : ℕ) → j < length vs → need-number (need-at cs (d + j)) ≡ getD vs j 0)
+      → map with-need (hits needed d b) ≡ map decoded (numbered d vs)
+  needs-row [] d b e same = ap (map with-need) (hits-none needed d b (omega arith))
+  needs-row (v ∷ vs) d b e same =
+      go (is-none v) refl
+      (needs-row vs (suc d) b (omega arith) (λ j l. let on : suc d + j ≡ d + suc j = omega arith in ap (λ i. need-number (need-at cs i)) on ∙ same (suc j) (omega arith)))
+    where
+      here : need-number (need-at cs d) ≡ v
+      here = ap (λ i. need-number (need-at cs i)) (sym (add-zero d)) ∙ same 0 (omega arith)
+
+      is : needed d ≡ not (is-none v)
+      is = need-some (need-at cs d) ∙ ap (λ x. not (is-none x)) here
+
+      go : (c : Bool) → is-none v ≡ c → map with-need (hits needed (suc d) b) ≡ map decoded (numbered (suc d) vs)
+          → map with-need (hits needed d b) ≡ map decoded (cond c (numbered (suc d) vs) ((d, v) ∷ numbered (suc d) vs))
+      go true k ih = ap (map with-need) (hits-miss needed d b (omega arith) (is ∙ ap not k)) ∙ ih
+      go false k ih =
+          ap (map with-need) (hits-hit needed d b (omega arith) (is ∙ ap not k))
+          ∙ ap₂ (λ x y. x ∷ y) (ap (λ n. (d, n)) (sym (need-back (need-at cs d)) ∙ ap need-of here)) ih
+
+-- ---- the numbering of marks
+numbered-append : (d : ℕ) (xs ys : List ℕ) → numbered d (xs ++ ys) ≡ numbered d xs ++ numbered (d + length xs) ys
+numbered-append d [] ys = ap (λ i. numbered i ys) (sym (add-zero d))
+numbered-append d (x ∷ xs) ys = go (is-none x) (numbered-append (suc d) xs ys)
+  where
+    on : suc d + length xs ≡ d + suc (length xs)
+    on = omega arith
+
+    go : (c : Bool) → numbered (suc d) (xs ++ ys) ≡ numbered (suc d) xs ++ numbered (suc d + length xs) ys
+        → cond c (numbered (suc d) (xs ++ ys)) ((d, x) ∷ numbered (suc d) (xs ++ ys)) ≡ cond c (numbered (suc d) xs) ((d, x) ∷ numbered (suc d) xs) ++ numbered (d + suc (length xs)) ys
+    go true ih = ih ∙ ap (λ i. numbered (suc d) xs ++ numbered i ys) on
+    go false ih = ap (λ l. (d, x) ∷ l) (ih ∙ ap (λ i. numbered (suc d) xs ++ numbered i ys) on)
+
+numbered-none : (d : ℕ) (vs : List ℕ) → ((j : ℕ) → getD vs j 0 ≡ 0) → numbered d vs ≡ []
+numbered-none d [] none = refl
+numbered-none d (v ∷ vs) none = rw (none 0) (numbered-none (suc d) vs (λ j. none (suc j)))
