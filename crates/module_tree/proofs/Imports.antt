@@ -245,7 +245,7 @@ module _ (cs : List ℕ) (i : ℕ) where
 
 -- ---- the groups of a module, and what follows them
 module _ (rest : Marked) where
-  abbrev text : Tree (unmarked imports) → Tree (unmarked rest) → List ℕ
+  abbrev pub text : Tree (unmarked imports) → Tree (unmarked rest) → List ℕ
   text i w = upper-name ∷ DEFINITIONS ∷ assign ∷ BEGIN ∷ (yield (unmarked imports) i ++ yield (unmarked rest) w)
 
   -- without imports
@@ -253,20 +253,21 @@ module _ (rest : Marked) where
     abbrev short : List ℕ
     short = text (inl x) w
 
-    early : imports-end short ≤ imports-start
+    pub end-early : imports-end short ≡ min imports-start (length short)
     unfolding imports-end
-    early = go (eqb (class-at short 4) IMPORTS) refl
+    end-early = go (eqb (class-at short 4) IMPORTS) refl
       where
-        go : (b : Bool) → eqb (class-at short 4) IMPORTS ≡ b → cond b (find short semicolon imports-start (length short)) (min imports-start (length short)) ≤ imports-start
+        go : (b : Bool) → eqb (class-at short 4) IMPORTS ≡ b
+            → cond b (find short semicolon imports-start (length short)) (min imports-start (length short)) ≡ min imports-start (length short)
         go true e = absurd (omega (arith, no-start short 4 (eqb-true (class-at short 4) IMPORTS e)))
-        go false e = omega arith
+        go false e = refl
 
     none-at-all : (i : ℕ) → is-import short i ≡ false
     none-at-all i = go (decLt i imports-start)
       where
         go : Dec (i < imports-start) → is-import short i ≡ false
         go (yes l) = before-imports short i l
-        go (no l) = after-imports short i (omega (arith, early))
+        go (no l) = after-imports short i (omega (arith, end-early))
 
     no-imports : from short 0 ≡ []
     no-imports =
@@ -275,10 +276,10 @@ module _ (rest : Marked) where
 
   -- with imports
   module _ (g : Tree (unmarked import-group)) (gs : Tree (unmarked (many import-group))) (w : Tree (unmarked rest)) where
-    abbrev cs : List ℕ
+    abbrev pub cs : List ℕ
     cs = text (inr (tt, (g, (gs, tt)))) w
 
-    abbrev end : ℕ
+    abbrev pub end : ℕ
     end = 5 + size import-group g + size (many import-group) gs
 
     -- the groups, `;` and the rest stand where they should
@@ -311,7 +312,7 @@ module _ (rest : Marked) where
             (along-left (class-at cs) (5 + size import-group g) (yield (unmarked (many import-group)) gs) (semicolon ∷ yield (unmarked rest) w) more-stand j (omega arith))
             ∙ never-there semicolon (many import-group) groups-no-end gs j (omega arith)
 
-    end-there : class-at cs end ≡ semicolon
+    pub end-there : class-at cs end ≡ semicolon
     end-there =
         along-first (class-at cs) end semicolon (yield (unmarked rest) w)
         (along-right (class-at cs) (5 + size import-group g) (yield (unmarked (many import-group)) gs) (semicolon ∷ yield (unmarked rest) w) more-stand)

@@ -9,7 +9,7 @@ use Prim.Native.Nat.{ℕ, zero, suc, _+_, _-_, _≤_, _<_}
 use native.Mathlib.Nat.{add-zero}
 use native.Mathlib.Omega.{arith}
 use borrow.Author.Tests.{eqb-true}
-use lib.Dec.{T, eqb}
+use lib.Dec.{T, eqb, eqb-refl, eqb→eq}
 use lib.ListN.{length, getD, length-append}
 use Rattle.grammar.specs.Rule.{Tree, yield}
 use Rattle.index.specs.First.{hits}
@@ -25,8 +25,13 @@ use Rattle.module_tree.specs.Grammar.{used, imports, definitions, module
 use Rattle.module_tree.specs.Module.{is-none, numbered}
 use Rattle.module_tree.specs.OfTree.{is-needed, needs-in}
 use Rattle.module_tree.proofs.Answers.{same-answers, answers-self, answers-equal, answer, every-state, dead-state}
-use Rattle.module_tree.proofs.Flow.{has, flow, lands, from-left}
-use Rattle.module_tree.proofs.Machine.{after, outputs, unchecked, unchecked-after, passes, reads-left, classed}
+use Rattle.module_tree.proofs.Flow.{has, within, within-has, flow, lands, from-left}
+use Rattle.module_tree.proofs.Machine.{after, outputs, mark-of, unchecked, unchecked-after, passes, reads-left, classed}
+use Rattle.module_tree.proofs.Field.{every-number}
+use Rattle.module_tree.proofs.Line.{absent, unmarked-part}
+use Rattle.module_tree.proofs.Watch.{watched-after, watched-outputs}
+use Rattle.module_tree.proofs.Imports.{text}
+use Rattle.module_tree.proofs.Place.{leaves-long, marks-long}
 use Rattle.module_tree.proofs.Leading.{Along, Stands, along-left, along-right, along-drop, stands-all}
 
 -- one token more
@@ -174,3 +179,85 @@ numbered-append d (x ∷ xs) ys = go (is-none x) (numbered-append (suc d) xs ys)
 numbered-none : (d : ℕ) (vs : List ℕ) → ((j : ℕ) → getD vs j 0 ≡ 0) → numbered d vs ≡ []
 numbered-none d [] none = refl
 numbered-none d (v ∷ vs) none = rw (none 0) (numbered-none (suc d) vs (λ j. none (suc j)))
+
+-- ---- the imports, and what follows them
+imports-unused : T (absent used imports)
+imports-unused = tt
+
+-- the first token of a part has no mark: a definition's own name is no use
+abbrev first-bare : ℕ → ℕ → ℕ → ℕ
+first-bare s c v = cond (eqb s 0) (cond (is-none v) 1 2) s
+
+definitions-bare : T (within eqb every-number (flow eqb every-number first-bare used true definitions 0 (0 ∷ [])) (1 ∷ []))
+definitions-bare = tt
+
+first-of : (w : Tree (unmarked definitions)) → (0 < size definitions w) × (getD (marks used definitions w) 0 0 ≡ 0)
+first-of w =
+    let ps = leaves used 0 definitions w in
+    let h =
+    go ps
+    (within-has eqb every-number eqb-refl eqb→eq (from-left first-bare 0 ps) (flow eqb every-number first-bare used true definitions 0 (0 ∷ [])) (1 ∷ []) definitions-bare
+    (lands eqb every-number eqb-refl eqb→eq first-bare used true definitions 0 (0 ∷ []) w 0 tt)) in
+    (omega (arith, h .0, leaves-long used 0 definitions w), h .1)
+  where
+    stays-two : (ps : List (ℕ × ℕ)) → from-left first-bare 2 ps ≡ 2
+    stays-two [] = refl
+    stays-two (p ∷ ps) = stays-two ps
+
+    go : (ps : List (ℕ × ℕ)) → T (has eqb every-number (from-left first-bare 0 ps) (1 ∷ [])) → (0 < length ps) × (getD (map mark-of ps) 0 0 ≡ 0)
+    go [] h = absurd h
+    go (p ∷ ps) h = at (is-none (p .1)) refl h
+      where
+        at : (b : Bool) → is-none (p .1) ≡ b → T (has eqb every-number (from-left first-bare (cond b 1 2) ps) (1 ∷ [])) → (0 < suc (length ps)) × (p .1 ≡ 0)
+        at true e k = (omega arith, eqb-true (p .1) 0 e)
+        at false e k = absurd (subst (λ s. T (has eqb every-number s (1 ∷ []))) (stays-two ps) k)
+
+module _ (i : Tree (unmarked imports)) (w : Tree (unmarked definitions)) where
+  abbrev cs : List ℕ
+  cs = text definitions i w
+
+  abbrev from : ℕ
+  from = 4 + size imports i
+
+  text-long : length cs ≡ from + size definitions w
+  text-long = let a = length-append (yield (unmarked imports) i) (yield (unmarked definitions) w) in omega (arith, a)
+
+  behind-heading : Stands cs 4 (yield (unmarked imports) i ++ yield (unmarked definitions) w)
+  behind-heading = along-drop (class-at cs) 0 4 cs (stands-all cs)
+
+  definitions-stand : Stands cs from (yield (unmarked definitions) w)
+  definitions-stand = along-right (class-at cs) 4 (yield (unmarked imports) i) (yield (unmarked definitions) w) behind-heading
+
+  blank-there : state cs 4 ≡ blank
+  unfolding state enclosing lists-objects
+  blank-there = refl
+
+  -- what is shown behind the imports
+  shown-there : T (has same-answers every-state (state cs from) brought)
+  shown-there =
+      subst (λ s. T (has same-answers every-state s brought))
+      (unchecked-after next out blank (leaves used 0 imports i) ∙ ap (after next out blank) (classed used imports 0 i)
+      ∙ ap (λ s. after next out s (yield (unmarked imports) i)) (sym blank-there)
+      ∙ watched-after next out (class-at cs) (state cs) (moves cs) (yield (unmarked imports) i) 4
+      (along-left (class-at cs) 4 (yield (unmarked imports) i) (yield (unmarked definitions) w) behind-heading))
+      (lands same-answers every-state answers-self answers-equal (unchecked next out) used true imports 0 (blank ∷ []) i blank tt)
+
+  need-marked : (j : ℕ) → j < size definitions w → need-number (need-at cs (from + j)) ≡ getD (marks used definitions w) j 0
+  need-marked j h =
+      need-is cs (from + j)
+      ∙ sym (watched-outputs next out (class-at cs) (state cs) (moves cs) (yield (unmarked definitions) w) from definitions-stand j h)
+      ∙ ap (λ l. getD l j 0)
+      (reads-left next out same-answers every-state dead-state answers-self answers-equal used 0 definitions brought (blank ∷ []) w (state cs from) shown-there tested .0)
+
+  needs-from : map (with-need cs) (hits (needed cs) from (length cs)) ≡ map (decoded cs) (numbered from (marks used definitions w))
+  needs-from =
+      let n = marks-long used definitions w in
+      needs-row cs (marks used definitions w) from (length cs) (omega (arith, text-long, n)) (λ j h. need-marked j (omega (arith, n)))
+
+  -- the tree's uses are those of its definitions
+  uses-from : numbered 4 (map mark-of (leaves used 0 imports i ++ leaves used 0 definitions w)) ≡ numbered from (marks used definitions w)
+  uses-from =
+      ap (numbered 4) (map-append mark-of (leaves used 0 imports i) (leaves used 0 definitions w))
+      ∙ numbered-append 4 (marks used imports i) (marks used definitions w)
+      ∙ ap (λ l. l ++ numbered (4 + length (marks used imports i)) (marks used definitions w)) (numbered-none 4 (marks used imports i) (unmarked-part used imports imports-unused i))
+      ∙ ap (λ n. numbered (4 + n) (marks used definitions w)) (marks-long used imports i)
