@@ -20,17 +20,19 @@ use Rattle.name_kind.specs.declared.need.Need.{Need}
 use Rattle.name_kind.specs.declared.need.Need.the-variants.{NoName, Macro, TypeName, ObjectType, Head, Object, Sequence}
 use Rattle.name_kind.specs.Need.{enclosing, upper-need, lists-objects, lower-need, need-at}
 use Rattle.scope.specs.Import.{imports-end}
-use Rattle.module_tree.specs.Marked.{Marked, unmarked, leaves, marks, size}
-use Rattle.module_tree.specs.Grammar.{used, imports, definitions, module-tree, need-number, need-of}
+use Rattle.module_tree.specs.Marked.{Marked, many, unmarked, leaves, marks, size}
+use Rattle.module_tree.specs.Grammar.{used, imports, import-group, identity, def, definitions, module-tree, need-number, need-of}
 use Rattle.module_tree.specs.Module.{is-none, numbered}
 use Rattle.module_tree.specs.OfTree.{is-needed, needs-in}
 use Rattle.module_tree.proofs.Answers.{same-answers, answers-self, answers-equal, answer, every-state, dead-state}
 use Rattle.module_tree.proofs.Flow.{has, within, within-has, flow, lands, from-left}
 use Rattle.module_tree.proofs.Machine.{after, outputs, mark-of, unchecked, unchecked-after, passes, reads-left, classed}
 use Rattle.module_tree.proofs.Field.{every-number}
-use Rattle.module_tree.proofs.Line.{absent, unmarked-part}
+use Rattle.module_tree.proofs.Line.{absent, unmarked-part, identity-passes, def-passes}
 use Rattle.module_tree.proofs.Watch.{watched-after, watched-outputs}
-use Rattle.module_tree.proofs.Imports.{text}
+use Rattle.module_tree.proofs.Imports.{text, end-early, end, end-is, end-there}
+use Rattle.module_tree.proofs.Starts.{start-at}
+use Rattle.module_tree.proofs.Definitions.{opens-there, imports-quiet, imports-bare, whole}
 use Rattle.module_tree.proofs.Place.{leaves-long, marks-long}
 use Rattle.module_tree.proofs.Leading.{Along, Stands, along-left, along-right, along-drop, stands-all}
 
@@ -261,3 +263,42 @@ module _ (i : Tree (unmarked imports)) (w : Tree (unmarked definitions)) where
       ∙ numbered-append 4 (marks used imports i) (marks used definitions w)
       ∙ ap (λ l. l ++ numbered (4 + length (marks used imports i)) (marks used definitions w)) (numbered-none 4 (marks used imports i) (unmarked-part used imports imports-unused i))
       ∙ ap (λ n. numbered (4 + n) (marks used definitions w)) (marks-long used imports i)
+
+-- at `;` no name is needed
+no-need : (l : List ℕ) (i : ℕ) → class-at l i ≡ semicolon → need-at l i ≡ NoName
+unfolding need-at is-macro is-defining
+no-need l i e = rw e
+
+-- the imports end at `;`, or in a module that has none at a definition's own name: neither is a use
+gap : (i : Tree (unmarked imports)) (w : Tree (unmarked definitions)) → 0 < start-at (cs i w) (from i w)
+    → hits (needed (cs i w)) (imports-end (cs i w)) (length (cs i w)) ≡ hits (needed (cs i w)) (from i w) (length (cs i w))
+gap (inl x) w opens =
+    let l = cs (inl x) w in
+    let first = first-of w in
+    let end : imports-end l ≡ 5 = omega (arith, end-early definitions x w opens, text-long (inl x) w, first .0) in
+    let bare : needed l 4 ≡ false =
+    need-some l (need-at l 4) ∙ ap (λ n. not (is-none n)) (need-marked (inl x) w 0 (first .0) ∙ first .1) in
+    ap (λ n. hits (needed l) n (length l)) end
+    ∙ sym (hits-miss (needed l) 4 (length l) (omega (arith, text-long (inl x) w, first .0)) bare)
+gap (inr x) w opens =
+    let g = x .1 .0 in
+    let gs = x .1 .1 .0 in
+    let l = cs (inr x) w in
+    let e = end definitions g gs w in
+    let a = length-append (yield (unmarked import-group) g) (yield (unmarked (many import-group)) gs ++ semicolon ∷ []) in
+    let b = length-append (yield (unmarked (many import-group)) gs) (semicolon ∷ []) in
+    let on : suc e ≡ from (inr x) w = omega (arith, a, b) in
+    ap (λ n. hits (needed l) n (length l)) (end-is definitions g gs w)
+    ∙ hits-miss (needed l) e (length l) (omega (arith, text-long (inr x) w, on, first-of w .0)) (ap is-needed (no-need l e (end-there definitions g gs w)))
+    ∙ ap (λ n. hits (needed l) n (length l)) on
+
+-- ---- the module of the grammar
+pub module-needs : (t : Tree (unmarked module-tree))
+    → needs-in (yield (unmarked module-tree) t) ≡ map (λ (p : ℕ × ℕ). (p .0, need-of (p .1))) (numbered 0 (marks used module-tree t))
+unfolding module-tree
+module-needs t =
+    let i = t .1 .1 .1 .1 .0 in
+    let w = t .1 .1 .1 .1 .1 in
+    ap (map (with-need (cs i w)))
+    (gap i w (opens-there imports identity def imports-quiet imports-bare identity-passes def-passes (yield (unmarked module-tree) t) t (whole t) refl))
+    ∙ needs-from i w ∙ ap (map (decoded (cs i w))) (sym (uses-from i w))
