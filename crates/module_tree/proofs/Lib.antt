@@ -14,3 +14,4 @@ pub mod Definitions
 pub mod Watch
 pub mod Imports
 pub mod Needs
+pub mod OfTree

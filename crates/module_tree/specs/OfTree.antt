@@ -7,6 +7,8 @@ use Prim.Native.Nat.{ℕ, _<_}
 use lib.ListN.{length}
 use Rattle.grammar.specs.Rule.{Tree}
 use Rattle.grammar.specs.Grammar.{smi-module}
+use Rattle.grammar.specs.Derivation.{Derivation, tokens-of, tree-of}
+use Rattle.token.specs.Token.{class-of-token}
 use Rattle.index.specs.First.{hits}
 use Rattle.definition.specs.Landmark.{has-oid, definition-end}
 use Rattle.definition.specs.Members.{oid-numbers}
@@ -54,3 +56,7 @@ pub record OfTree (cs : List ℕ) (t : Tree smi-module) : Type 0 where
   pub imports : imports-in cs ≡ imports-of-tree t
   -- the uses: a token has a need where the grammar has a name of that sort, and nowhere else
   pub needs : needs-in cs ≡ uses-of-tree t
+
+-- the same of a derivation of tokens, its classes and its tree
+abbrev pub OfDerivation : Derivation class-of-token smi-module → Type 0
+OfDerivation d = OfTree (map class-of-token (tokens-of class-of-token smi-module d)) (tree-of class-of-token smi-module d)
