@@ -31,7 +31,8 @@ use Rattle.module_tree.specs.Module.{fields-of-part, definition-of-part,
 use Rattle.module_tree.specs.OfTree.{EachNumbered}
 use Rattle.module_tree.proofs.Leading.{stands-all}
 use Rattle.module_tree.proofs.Starts.{start-at, starts-marked}
-use Rattle.module_tree.proofs.Line.{absent, unmarked-part, fields-are, numbers-are, has-number, lines-pass, identity-passes, def-passes}
+use Rattle.module_tree.proofs.Counted.{absent, unmarked-part}
+use Rattle.module_tree.proofs.Line.{fields-are, numbers-are, has-number, lines-pass, identity-passes, def-passes}
 use Rattle.module_tree.proofs.Parts.{without, no-parts}
 use Rattle.module_tree.proofs.Place.{At, at-left, at-right, marks-long, none-starts, hits-skip}
 use Rattle.module_tree.proofs.Nodes.{Node, Row, lines-row, many-row}

@@ -18,7 +18,7 @@ use Rattle.definition.specs.Landmark.{class-at}
 use Rattle.definition.specs.declared.Span.{Span}
 use Rattle.definition.specs.Fields.{find, span, nowhere, word-after}
 use Rattle.module_tree.specs.Module.{leading, is-none, first-marked, first-mark, some-marked, marked-span, places}
-use Rattle.module_tree.proofs.Flow.{has}
+use Rattle.module_tree.proofs.Counted.{dead-number, among, stays}
 use Rattle.module_tree.proofs.Machine.{after, outputs}
 use Rattle.module_tree.proofs.Leading.{Stands, along-drop, first-leading}
 
@@ -26,13 +26,6 @@ use Rattle.module_tree.proofs.Leading.{Stands, along-drop, first-leadin
 pub outputs-long : {S : Type 0} (next : S → ℕ → S) (out : S → ℕ → ℕ) (s : S) (xs : List ℕ) → length (outputs next out s xs) ≡ length xs
 outputs-long next out s [] = refl
 outputs-long next out s (x ∷ xs) = ap suc (outputs-long next out (next s x) xs)
-
--- the state that stands for all, and the dead one
-abbrev pub every-number : ℕ
-every-number = 99
-
-abbrev pub dead-number : ℕ
-dead-number = 5
 
 -- the states in which a field is right at its definition's end: not met, not ended, ended
 abbrev pub complete : List ℕ
@@ -63,7 +56,7 @@ module _ (class : ℕ) (two : Bool) (bad stop : ℕ → Bool) (value : ℕ → �
   other c = not (eqb c class)
 
   abbrev Complete : ℕ → Type 0
-  Complete s = T (has eqb every-number s complete)
+  Complete s = T (among s complete)
 
   dead-ends : (xs : List ℕ) → ends dead-number xs ≡ dead-number
   dead-ends [] = refl
@@ -153,7 +146,7 @@ span-after class two stop cs d e =
     (nowhere e)
 
 module _ (class : ℕ) (two : Bool) (stop : ℕ → Bool) (value : ℕ → ℕ) (nonzero : (c : ℕ) → is-none (value c) ≡ false) where
-  module _ (cs xs : List ℕ) (d : ℕ) (st : Stands cs d xs) (h : T (has eqb every-number (ends class two stop stop value 0 xs) complete)) where
+  module _ (cs xs : List ℕ) (d : ℕ) (st : Stands cs d xs) (h : T (among (ends class two stop stop value 0 xs) complete)) where
     ls : List ℕ
     ls = told class two stop stop value 0 xs
 
@@ -206,7 +199,7 @@ module _ (class base : ℕ) (cs xs : List ℕ) (d : ℕ) (st : Stands cs d xs) w
   words : List ℕ
   words = told class false never-bad at-once (word-value base) 0 xs
 
-  pub word-told : T (has eqb every-number (ends class false never-bad at-once (word-value base) 0 xs) complete)
+  pub word-told : T (among (ends class false never-bad at-once (word-value base) 0 xs) complete)
       → word-after cs class base d (d + length xs) ≡ first-mark (told class false never-bad at-once (word-value base) 0 xs)
   unfolding word-after words
   word-told h = go (sought class false never-bad at-once (word-value base) (word-nonzero base) xs h)
@@ -230,9 +223,6 @@ module _ (class base : ℕ) (cs xs : List ℕ) (d : ℕ) (st : Stands cs d xs) w
           ∙ sym (ap (λ l. getD l 0 0) dr) ∙ getD-drop k words 0 0 ∙ ap (λ i. getD words i 0) (add-zero k ∙ sym m)
 
 -- whether the word of this class is there at all: the machine has one state
-abbrev pub stays : ℕ → ℕ → ℕ
-stays s c = s
-
 module _ (class : ℕ) where
   abbrev pub is-there : ℕ → ℕ → ℕ
   is-there s c = cond (eqb c class) 1 0

@@ -103,6 +103,10 @@ module _ {S : Type 0} (same : S → S → Bool) (every : S) where
     flow left (steps a b) v l = in-turn left (closed (flow left a v)) (flow left b v) l
     flow left (mark f number a) v l = flow left a (cond (eqb f family) number v) l
 
+    -- from the states l the machine ends in those allowed
+    abbrev pub reaches : Bool → Marked → ℕ → List S → List S → Bool
+    reaches left m v l allowed = within (flow left m v l) allowed
+
   module _ (reflexive : (s : S) → T (same s s)) (sound : (s t : S) → T (same s t) → s ≡ t) where
     every-has : (s : S) → T (has s (every ∷ []))
     every-has s = or-left (same every s || same every every) false (or-right (same every s) (same every every) (reflexive every))
@@ -145,7 +149,7 @@ module _ {S : Type 0} (same : S → S → Bool) (every : S) where
     join-right s [] l h = h
     join-right s (x ∷ k) l h = insert-rest x s (join k l) (join-right s k l h)
 
-    pub within-has : (s : S) (k l : List S) → T (within k l) → T (has s k) → T (has s l)
+    within-has : (s : S) (k l : List S) → T (within k l) → T (has s k) → T (has s l)
     within-has s [] l w h = absurd h
     within-has s (x ∷ k) l w h =
         or-cases (same x s || same x every) (has s k) h (λ p. entry-has x s l p (and-left (has x l) (within k l) w))
@@ -236,7 +240,7 @@ module _ {S : Type 0} (same : S → S → Bool) (every : S) where
       lands-steps true a b f g v l t s h = left-steps a b f g v l t s (closed-start (flow move family true a v) l s h)
       lands-steps false a b f g v l t s h = right-steps a b f g v l t s h
 
-      pub lands : (left : Bool) (m : Marked) → Lands left m
+      lands : (left : Bool) (m : Marked) → Lands left m
       lands left nothing = λ v l t s h. absurd t
       lands left nil = lands-none left
       lands left (word c) = lands-word left c
@@ -244,3 +248,9 @@ module _ {S : Type 0} (same : S → S → Bool) (every : S) where
       lands left (a either b) = lands-either left a b (lands left a) (lands left b)
       lands left (steps a b) = lands-steps left a b (lands left a) (lands left b)
       lands left (mark f number a) = let inner = lands left a in λ v l t s h. inner (cond (eqb f family) number v) l t s h
+
+      -- so where the test says that it ends in those allowed, it does
+      pub arrives : (left : Bool) (m : Marked) (v : ℕ) (l allowed : List S) → T (reaches move family left m v l allowed)
+          → (t : Tree (unmarked m)) (s : S) → T (has s l) → T (has (run move left s (leaves family v m t)) allowed)
+      arrives left m v l allowed p t s h =
+          within-has (run move left s (leaves family v m t)) (flow move family left m v l) allowed p (lands left m v l t s h)

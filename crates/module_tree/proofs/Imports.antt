@@ -30,13 +30,13 @@ use Rattle.module_tree.specs.Module.{leading, places, imports-of-part, i
 use Rattle.module_tree.specs.OfTree.{imports-in}
 use Rattle.module_tree.proofs.Parts.{without, no-parts}
 use Rattle.module_tree.proofs.Definitions.{opens-there, imports-quiet, imports-bare, whole}
-use Rattle.module_tree.proofs.Flow.{has, within, within-has, flow, lands, from-left}
+use Rattle.module_tree.proofs.Flow.{from-left}
 use Rattle.module_tree.proofs.Machine.{after, outputs, mark-of}
 use Rattle.module_tree.proofs.Leading.{Along, Stands, along-first, along-left, along-right, along-drop, stands-all}
 use Rattle.module_tree.proofs.Place.{marks-long, hits-skip}
 use Rattle.module_tree.proofs.Starts.{start-at}
-use Rattle.module_tree.proofs.Field.{every-number}
-use Rattle.module_tree.proofs.Line.{reads, marks-are, ends-in, identity-passes, def-passes}
+use Rattle.module_tree.proofs.Counted.{among, ends-among, ended-among, reads, marks-are, ends-in}
+use Rattle.module_tree.proofs.Line.{identity-passes, def-passes}
 use Rattle.module_tree.proofs.Watch.{watched-after, watched-outputs, avoids, never-there, hits-places, map-places}
 
 -- the symbols of a group, and the group
@@ -70,7 +70,7 @@ groups-no-end = tt
 abbrev no-source : ℕ → ℕ → ℕ → ℕ
 no-source s c v = cond (eqb v grammar.source) 1 s
 
-symbols-no-source : T (within eqb every-number (flow eqb every-number no-source import true symbols 0 (0 ∷ [])) (0 ∷ []))
+symbols-no-source : T (ends-among no-source import symbols (0 ∷ []))
 symbols-no-source = tt
 
 no-source-stays : (ps : List (ℕ × ℕ)) → from-left no-source 1 ps ≡ 1
@@ -84,14 +84,14 @@ no-source-stays (p ∷ ps) = ap (λ s. from-left no-source s ps) (go (eqb (p .1)
 abbrev no-mark : ℕ → Bool
 no-mark v = not (eqb v grammar.source)
 
-none-lead : (ps : List (ℕ × ℕ)) → T (has eqb every-number (from-left no-source 0 ps) (0 ∷ [])) → leading no-mark (map mark-of ps) ≡ length ps
+none-lead : (ps : List (ℕ × ℕ)) → T (among (from-left no-source 0 ps) (0 ∷ [])) → leading no-mark (map mark-of ps) ≡ length ps
 none-lead [] h = refl
 none-lead (p ∷ ps) h = go (eqb (p .1) grammar.source) h (none-lead ps)
   where
-    go : (b : Bool) → T (has eqb every-number (from-left no-source (cond b 1 0) ps) (0 ∷ []))
-        → (T (has eqb every-number (from-left no-source 0 ps) (0 ∷ [])) → leading no-mark (map mark-of ps) ≡ length ps)
+    go : (b : Bool) → T (among (from-left no-source (cond b 1 0) ps) (0 ∷ []))
+        → (T (among (from-left no-source 0 ps) (0 ∷ [])) → leading no-mark (map mark-of ps) ≡ length ps)
         → cond (not b) (suc (leading no-mark (map mark-of ps))) 0 ≡ suc (length ps)
-    go true k ih = absurd (subst (λ s. T (has eqb every-number s (0 ∷ []))) (no-source-stays ps) k)
+    go true k ih = absurd (subst (λ s. T (among s (0 ∷ []))) (no-source-stays ps) k)
     go false k ih = ap suc (ih k)
 
 leading-append : (test : ℕ → Bool) (xs ys : List ℕ) → leading test xs ≡ length xs → leading test (xs ++ ys) ≡ length xs + leading test ys
@@ -103,7 +103,7 @@ leading-append test (x ∷ xs) ys e = go (test x) e (leading-append test xs ys)
     go true k ih = let more = ih (omega arith) in omega arith
     go false k ih = absurd (omega arith)
 
-zero-of : (s : ℕ) → T (has eqb every-number s (0 ∷ [])) → s ≡ 0
+zero-of : (s : ℕ) → T (among s (0 ∷ [])) → s ≡ 0
 zero-of s h = sym (eqb→eq 0 s (go (eqb 0 s) h))
   where
     go : (b : Bool) → T ((b || false) || false) → T b
@@ -162,11 +162,7 @@ module _ (cs : List ℕ) where
 
     source-at : d + leading no-mark (marks import inside g) ≡ d + long + 1
     source-at =
-        let none =
-        none-lead (leaves import 0 symbols (g .0))
-        (within-has eqb every-number eqb-refl eqb→eq (from-left no-source 0 (leaves import 0 symbols (g .0)))
-        (flow eqb every-number no-source import true symbols 0 (0 ∷ [])) (0 ∷ []) symbols-no-source
-        (lands eqb every-number eqb-refl eqb→eq no-source import true symbols 0 (0 ∷ []) (g .0) 0 tt)) in
+        let none = none-lead (leaves import 0 symbols (g .0)) (ended-among no-source import symbols (0 ∷ []) symbols-no-source (g .0)) in
         let n = marks-long import symbols (g .0) in
         let lead = leading-append no-mark (marks import symbols (g .0)) (0 ∷ grammar.source ∷ []) (none ∙ sym (length-map (leaves import 0 symbols (g .0)) mark-of)) in
         omega (arith, ap (leading no-mark) marks-split, lead, n)

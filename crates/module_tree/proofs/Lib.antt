@@ -4,6 +4,7 @@ pub mod Machine
 pub mod Answers
 pub mod Starts
 pub mod Leading
+pub mod Counted
 pub mod Field
 pub mod Numbers
 pub mod Line

@@ -22,22 +22,12 @@ use Rattle.definition.specs.declared.Fields.{Fields}
 use Rattle.module_tree.specs.Marked.{Marked, nothing, nil, word, _then_, _either_, steps, mark, unmarked, leaves, marks, size}
 use Rattle.module_tree.specs.Grammar.{definition, start, the-end, status, access, syntax, index, augments, default, objects, columns, oid, own-number, identity, def}
 use Rattle.module_tree.specs.Module.{leading, is-none, first-marked, first-mark, some-marked, marked-span, places, fields-of-part, numbers-of-part}
-use Rattle.module_tree.proofs.Flow.{has, within, within-has, flow, lands, from-left}
-use Rattle.module_tree.proofs.Machine.{after, outputs, passes, reads-left}
+use Rattle.module_tree.proofs.Flow.{from-left}
+use Rattle.module_tree.proofs.Machine.{after, outputs}
+use Rattle.module_tree.proofs.Counted.{among, ends-among, ended-among, reads, marks-are, ends-in, stays, no-output, absent, unmarked-part}
 use Rattle.module_tree.proofs.Leading.{Stands}
-use Rattle.module_tree.proofs.Field.{every-number, dead-number, complete, next, out, told, ends, span-after, span-told, word-value, never-bad, at-once, word-told, stays, is-there, there-told, outputs-long, first-branch, second-branch}
+use Rattle.module_tree.proofs.Field.{complete, next, out, told, ends, span-after, span-told, word-value, never-bad, at-once, word-told, is-there, there-told, outputs-long, first-branch, second-branch}
 use Rattle.module_tree.proofs.Numbers.{oid-value, oid-nonzero, closing, numbers-found}
-
--- a machine over numbers, from state 0
-abbrev pub reads : (next out : ℕ → ℕ → ℕ) (family : ℕ) → List ℕ → Marked → Bool
-reads next out family allowed m = passes next out eqb every-number dead-number eqb-refl eqb→eq true family 0 m (0 ∷ []) allowed
-
-module _ (next out : ℕ → ℕ → ℕ) (family : ℕ) (allowed : List ℕ) (m : Marked) (p : T (reads next out family allowed m)) (t : Tree (unmarked m)) where
-  pub marks-are : outputs next out 0 (yield (unmarked m) t) ≡ marks family m t
-  marks-are = reads-left next out eqb every-number dead-number eqb-refl eqb→eq family 0 m (0 ∷ []) allowed t 0 tt p .0
-
-  pub ends-in : T (has eqb every-number (after next out 0 (yield (unmarked m) t)) allowed)
-  ends-in = reads-left next out eqb every-number dead-number eqb-refl eqb→eq family 0 m (0 ∷ []) allowed t 0 tt p .1
 
 -- ---- the tests of the fields
 
@@ -50,21 +40,6 @@ words class base family m =
 
 abbrev pub there : (class family : ℕ) → Marked → Bool
 there class family m = reads stays (is-there class) family (0 ∷ []) m
-
--- nothing is marked
-abbrev pub no-output : ℕ → ℕ → ℕ
-no-output s c = 0
-
-abbrev pub absent : (family : ℕ) → Marked → Bool
-absent family m = reads stays no-output family (0 ∷ []) m
-
-pub unmarked-part : (family : ℕ) (m : Marked) → T (absent family m) → (t : Tree (unmarked m)) (i : ℕ) → getD (marks family m t) i 0 ≡ 0
-unmarked-part family m p t i = ap (λ l. getD l i 0) (sym (marks-are stays no-output family (0 ∷ []) m p t)) ∙ go (yield (unmarked m) t) i
-  where
-    go : (xs : List ℕ) (i : ℕ) → getD (outputs stays no-output 0 xs) i 0 ≡ 0
-    go [] i = refl
-    go (x ∷ xs) zero = refl
-    go (x ∷ xs) (suc i) = go xs i
 
 -- the first token has the mark k, and no other has one
 abbrev first-state : ℕ → ℕ → ℕ
@@ -127,7 +102,7 @@ abbrev meets : ℕ → ℕ → ℕ → ℕ
 meets s c v = cond (eqb v own-number) 1 s
 
 abbrev numbered : Marked → Bool
-numbered m = within eqb every-number (flow eqb every-number meets oid true m 0 (0 ∷ [])) (1 ∷ [])
+numbered m = ends-among meets oid m (1 ∷ [])
 
 abbrev tests : ℕ → Marked → List Bool
 tests k m =
@@ -241,7 +216,7 @@ module _ (k : ℕ) (m : Marked) (p : T (line-passes k m)) (t : Tree (unmarked m)
       behind-first xs zero h = absurd (omega arith)
       behind-first xs (suc i) h = none-later xs i
 
-      go : (xs : List ℕ) → T (has eqb every-number (after first-state (first-output k) 0 xs) (1 ∷ []))
+      go : (xs : List ℕ) → T (among (after first-state (first-output k) 0 xs) (1 ∷ []))
           → (0 < length xs) × (getD (outputs first-state (first-output k) 0 xs) 0 0 ≡ k) × ((i : ℕ) → 0 < i → getD (outputs first-state (first-output k) 0 xs) i 0 ≡ 0)
       go [] h = absurd h
       go (x ∷ xs) h = (omega arith, refl, behind-first xs)
@@ -254,19 +229,17 @@ module _ (k : ℕ) (m : Marked) (p : T (line-passes k m)) (t : Tree (unmarked m)
   -- an OID has a number
   pub has-number : has-oid k ≡ true → 0 < length (numbers-of-part k m d t)
   has-number e =
-      go d (leaves oid 0 m t)
-      (within-has eqb every-number eqb-refl eqb→eq (from-left meets 0 (leaves oid 0 m t)) (flow eqb every-number meets oid true m 0 (0 ∷ [])) (1 ∷ []) q
-      (lands eqb every-number eqb-refl eqb→eq meets oid true m 0 (0 ∷ []) t 0 tt))
+      go d (leaves oid 0 m t) (ended-among meets oid m (1 ∷ []) q t)
     where
       q : T (numbered m)
       q = rw e at (pass-at (tests k m) 11 p)
 
-      go : (n : ℕ) (ps : List (ℕ × ℕ)) → T (has eqb every-number (from-left meets 0 ps) (1 ∷ [])) → 0 < length (places own-number n (map (λ (x : ℕ × ℕ). x .1) ps))
+      go : (n : ℕ) (ps : List (ℕ × ℕ)) → T (among (from-left meets 0 ps) (1 ∷ [])) → 0 < length (places own-number n (map (λ (x : ℕ × ℕ). x .1) ps))
       go n [] h = absurd h
       go n (x ∷ ps) h = at (eqb (x .1) own-number) h (go (suc n) ps)
         where
-          at : (b : Bool) → T (has eqb every-number (from-left meets (cond b 1 0) ps) (1 ∷ []))
-              → (T (has eqb every-number (from-left meets 0 ps) (1 ∷ [])) → 0 < length (places own-number (suc n) (map (λ (x : ℕ × ℕ). x .1) ps)))
+          at : (b : Bool) → T (among (from-left meets (cond b 1 0) ps) (1 ∷ []))
+              → (T (among (from-left meets 0 ps) (1 ∷ [])) → 0 < length (places own-number (suc n) (map (λ (x : ℕ × ℕ). x .1) ps)))
               → 0 < length (cond b (n ∷ places own-number (suc n) (map (λ (x : ℕ × ℕ). x .1) ps)) (places own-number (suc n) (map (λ (x : ℕ × ℕ). x .1) ps)))
           at true k′ ih = omega arith
           at false k′ ih = ih k′

@@ -2,7 +2,7 @@
 -- are the outputs along its classes.
 -- Assumes nothing.
 use mathlib.Core.Path.{_≡_, refl, sym, ap, ap₂, _∙_, subst}
-use mathlib.Core.Bool.{Bool, true, false, cond, not, _&&_, _||_}
+use mathlib.Core.Bool.{Bool, true, false, cond, not, _&&_}
 use mathlib.Core.List.{List, [], _∷_, _++_, map, map-append}
 use mathlib.Core.Logic.{inl, inr}
 use Prim.Native.Nat.{ℕ}
@@ -10,7 +10,7 @@ use lib.Dec.{T, eqb, eqb→eq, T-not}
 use Rattle.grammar.specs.Rule.{Steps, last, step, Tree, yield}
 use Rattle.index.proofs.Tested.{and-left, and-right}
 use Rattle.module_tree.specs.Marked.{Marked, nothing, nil, word, _then_, _either_, steps, mark, unmarked, leaves}
-use Rattle.module_tree.proofs.Flow.{has, within, within-has, from-left, from-right, flow, lands}
+use Rattle.module_tree.proofs.Flow.{has, from-left, from-right, run, reaches, arrives}
 
 abbrev pub class-of : ℕ × ℕ → ℕ
 class-of p = p .0
@@ -128,39 +128,37 @@ module _ {S : Type 0} (next : S → ℕ → S) (out : S → ℕ → ℕ) where
         (ap₂ (λ x y. x ∷ y) (ap (λ x. out x (p .0)) (sym (rest .1)) ∙ one .is) (rest .0), one .to ∙ ap (λ x. next x (p .0)) (rest .1))
 
     -- the test: from the states l the machine ends in those allowed, of which dead is none
-    abbrev arrives : Bool → (family v : ℕ) → Marked → List S → List S → Bool
-    arrives left family v m l allowed = within same every (flow same every checked family left m v l) allowed
-
     abbrev pub passes : Bool → (family v : ℕ) → Marked → List S → List S → Bool
-    passes left family v m l allowed = arrives left family v m l allowed && not (has same every dead allowed)
+    passes left family v m l allowed = reaches same every checked family left m v l allowed && not (has same every dead allowed)
 
     module _ (family v : ℕ) (m : Marked) (l allowed : List S) (t : Tree (unmarked m)) (s : S) (from : T (has same every s l)) where
-      alive : (left : Bool) (f : S) → T (passes left family v m l allowed) → T (has same every f allowed) → Alive f
-      alive left f p h = go (same f dead) refl
+      abbrev ps : List (ℕ × ℕ)
+      ps = leaves family v m t
+
+      ended : (left : Bool) → T (passes left family v m l allowed) → T (has same every (run checked left s ps) allowed)
+      ended left p =
+          arrives same every reflexive sound checked family left m v l allowed
+          (and-left (reaches same every checked family left m v l allowed) (not (has same every dead allowed)) p) t s from
+
+      alive : (left : Bool) → T (passes left family v m l allowed) → Alive (run checked left s ps)
+      alive left p = go (same (run checked left s ps) dead) refl
         where
-          go : (b : Bool) → same f dead ≡ b → T (not b)
+          go : (b : Bool) → same (run checked left s ps) dead ≡ b → T (not b)
           go true e =
-              absurd (T-not (has same every dead allowed) (and-right (arrives left family v m l allowed) (not (has same every dead allowed)) p)
-              (subst (λ x. T (has same every x allowed)) (sound f dead (rw e tt)) h))
+              absurd (T-not (has same every dead allowed)
+              (and-right (reaches same every checked family left m v l allowed) (not (has same every dead allowed)) p)
+              (subst (λ x. T (has same every x allowed)) (sound (run checked left s ps) dead (rw e tt)) (ended left p)))
           go false e = tt
 
       -- the marks are the outputs, and the last state is one of those allowed
       pub reads-left : T (passes true family v m l allowed)
-          → (outputs s (yield (unmarked m) t) ≡ map mark-of (leaves family v m t)) × T (has same every (after s (yield (unmarked m) t)) allowed)
+          → (outputs s (yield (unmarked m) t) ≡ map mark-of (leaves family v m t))
+          × T (has same every (after s (yield (unmarked m) t)) allowed)
       reads-left p =
-          let ps = leaves family v m t in
-          let end = within-has same every reflexive sound (from-left checked s ps) (flow same every checked family true m v l) allowed
-          (and-left (arrives true family v m l allowed) (not (has same every dead allowed)) p)
-          (lands same every reflexive sound checked family true m v l t s from) in
-          let read = left-checked s ps (alive true (from-left checked s ps) p end) in
+          let read = left-checked s ps (alive true p) in
           let cs = classed family m v t in
-          (ap (outputs s) (sym cs) ∙ read .0, subst (λ x. T (has same every x allowed)) (read .1 ∙ ap (after s) cs) end)
+          (ap (outputs s) (sym cs) ∙ read .0, subst (λ x. T (has same every x allowed)) (read .1 ∙ ap (after s) cs) (ended true p))
 
       pub reads-right : T (passes false family v m l allowed)
           → outputs-before s (yield (unmarked m) t) ≡ map mark-of (leaves family v m t)
-      reads-right p =
-          let ps = leaves family v m t in
-          let end = within-has same every reflexive sound (from-right checked s ps) (flow same every checked family false m v l) allowed
-          (and-left (arrives false family v m l allowed) (not (has same every dead allowed)) p)
-          (lands same every reflexive sound checked family false m v l t s from) in
-          ap (outputs-before s) (sym (classed family m v t)) ∙ right-checked s ps (alive false (from-right checked s ps) p end) .0
+      reads-right p = ap (outputs-before s) (sym (classed family m v t)) ∙ right-checked s ps (alive false p) .0

@@ -25,10 +25,10 @@ use Rattle.module_tree.specs.Grammar.{used, imports, import-group, ident
 use Rattle.module_tree.specs.Module.{is-none, numbered}
 use Rattle.module_tree.specs.OfTree.{is-needed, needs-in}
 use Rattle.module_tree.proofs.Answers.{same-answers, answers-self, answers-equal, answer, every-state, dead-state}
-use Rattle.module_tree.proofs.Flow.{has, within, within-has, flow, lands, from-left}
+use Rattle.module_tree.proofs.Flow.{has, reaches, arrives, from-left}
 use Rattle.module_tree.proofs.Machine.{after, outputs, mark-of, unchecked, unchecked-after, passes, reads-left, classed}
-use Rattle.module_tree.proofs.Field.{every-number}
-use Rattle.module_tree.proofs.Line.{absent, unmarked-part, identity-passes, def-passes}
+use Rattle.module_tree.proofs.Counted.{among, ends-among, ended-among, absent, unmarked-part}
+use Rattle.module_tree.proofs.Line.{identity-passes, def-passes}
 use Rattle.module_tree.proofs.Watch.{watched-after, watched-outputs}
 use Rattle.module_tree.proofs.Imports.{text, end-early, end, end-is, end-there}
 use Rattle.module_tree.proofs.Starts.{start-at}
@@ -66,12 +66,13 @@ out s c = need-number (shows-need s c)
 abbrev blank : List Bool
 blank = false ∷ false ∷ false ∷ false ∷ false ∷ false ∷ false ∷ false ∷ false ∷ false ∷ []
 
--- what can be shown behind the imports
-abbrev brought : List (List Bool)
-brought = flow same-answers every-state (unchecked next out) used true imports 0 (blank ∷ [])
+-- behind the imports nothing is shown, and so it is behind END
+imports-blank : T (reaches same-answers every-state (unchecked next out) used true imports 0 (blank ∷ []) (blank ∷ []))
+unfolding lists-objects
+imports-blank = tt
 
 -- the test of the whole grammar
-tested : T (passes next out same-answers every-state dead-state answers-self answers-equal true used 0 definitions brought (blank ∷ []))
+tested : T (passes next out same-answers every-state dead-state answers-self answers-equal true used 0 definitions (blank ∷ []) (blank ∷ []))
 unfolding lists-objects is-macro is-defining
 tested = tt
 
@@ -190,29 +191,26 @@ imports-unused = tt
 abbrev first-bare : ℕ → ℕ → ℕ → ℕ
 first-bare s c v = cond (eqb s 0) (cond (is-none v) 1 2) s
 
-definitions-bare : T (within eqb every-number (flow eqb every-number first-bare used true definitions 0 (0 ∷ [])) (1 ∷ []))
+definitions-bare : T (ends-among first-bare used definitions (1 ∷ []))
 definitions-bare = tt
 
 first-of : (w : Tree (unmarked definitions)) → (0 < size definitions w) × (getD (marks used definitions w) 0 0 ≡ 0)
 first-of w =
     let ps = leaves used 0 definitions w in
-    let h =
-    go ps
-    (within-has eqb every-number eqb-refl eqb→eq (from-left first-bare 0 ps) (flow eqb every-number first-bare used true definitions 0 (0 ∷ [])) (1 ∷ []) definitions-bare
-    (lands eqb every-number eqb-refl eqb→eq first-bare used true definitions 0 (0 ∷ []) w 0 tt)) in
+    let h = go ps (ended-among first-bare used definitions (1 ∷ []) definitions-bare w) in
     (omega (arith, h .0, leaves-long used 0 definitions w), h .1)
   where
     stays-two : (ps : List (ℕ × ℕ)) → from-left first-bare 2 ps ≡ 2
     stays-two [] = refl
     stays-two (p ∷ ps) = stays-two ps
 
-    go : (ps : List (ℕ × ℕ)) → T (has eqb every-number (from-left first-bare 0 ps) (1 ∷ [])) → (0 < length ps) × (getD (map mark-of ps) 0 0 ≡ 0)
+    go : (ps : List (ℕ × ℕ)) → T (among (from-left first-bare 0 ps) (1 ∷ [])) → (0 < length ps) × (getD (map mark-of ps) 0 0 ≡ 0)
     go [] h = absurd h
     go (p ∷ ps) h = at (is-none (p .1)) refl h
       where
-        at : (b : Bool) → is-none (p .1) ≡ b → T (has eqb every-number (from-left first-bare (cond b 1 2) ps) (1 ∷ [])) → (0 < suc (length ps)) × (p .1 ≡ 0)
+        at : (b : Bool) → is-none (p .1) ≡ b → T (among (from-left first-bare (cond b 1 2) ps) (1 ∷ [])) → (0 < suc (length ps)) × (p .1 ≡ 0)
         at true e k = (omega arith, eqb-true (p .1) 0 e)
-        at false e k = absurd (subst (λ s. T (has eqb every-number s (1 ∷ []))) (stays-two ps) k)
+        at false e k = absurd (subst (λ s. T (among s (1 ∷ []))) (stays-two ps) k)
 
 module _ (i : Tree (unmarked imports)) (w : Tree (unmarked definitions)) where
   abbrev cs : List ℕ
@@ -235,21 +233,21 @@ module _ (i : Tree (unmarked imports)) (w : Tree (unmarked definitions)) where
   blank-there = refl
 
   -- what is shown behind the imports
-  shown-there : T (has same-answers every-state (state cs from) brought)
+  shown-there : T (has same-answers every-state (state cs from) (blank ∷ []))
   shown-there =
-      subst (λ s. T (has same-answers every-state s brought))
+      subst (λ s. T (has same-answers every-state s (blank ∷ [])))
       (unchecked-after next out blank (leaves used 0 imports i) ∙ ap (after next out blank) (classed used imports 0 i)
       ∙ ap (λ s. after next out s (yield (unmarked imports) i)) (sym blank-there)
       ∙ watched-after next out (class-at cs) (state cs) (moves cs) (yield (unmarked imports) i) 4
       (along-left (class-at cs) 4 (yield (unmarked imports) i) (yield (unmarked definitions) w) behind-heading))
-      (lands same-answers every-state answers-self answers-equal (unchecked next out) used true imports 0 (blank ∷ []) i blank tt)
+      (arrives same-answers every-state answers-self answers-equal (unchecked next out) used true imports 0 (blank ∷ []) (blank ∷ []) imports-blank i blank tt)
 
   need-marked : (j : ℕ) → j < size definitions w → need-number (need-at cs (from + j)) ≡ getD (marks used definitions w) j 0
   need-marked j h =
       need-is cs (from + j)
       ∙ sym (watched-outputs next out (class-at cs) (state cs) (moves cs) (yield (unmarked definitions) w) from definitions-stand j h)
       ∙ ap (λ l. getD l j 0)
-      (reads-left next out same-answers every-state dead-state answers-self answers-equal used 0 definitions brought (blank ∷ []) w (state cs from) shown-there tested .0)
+      (reads-left next out same-answers every-state dead-state answers-self answers-equal used 0 definitions (blank ∷ []) (blank ∷ []) w (state cs from) shown-there tested .0)
 
   needs-from : map (with-need cs) (hits (needed cs) from (length cs)) ≡ map (decoded cs) (numbered from (marks used definitions w))
   needs-from =

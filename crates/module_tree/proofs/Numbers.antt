@@ -19,9 +19,9 @@ use Rattle.definition.specs.Fields.{span, nowhere}
 use Rattle.definition.specs.Members.{oid-numbers}
 use Rattle.module_tree.specs.Module.{leading, is-none, first-marked, some-marked, marked-span, places}
 use Rattle.module_tree.specs.Grammar.{own-number}
-use Rattle.module_tree.proofs.Flow.{has}
+use Rattle.module_tree.proofs.Counted.{among}
 use Rattle.module_tree.proofs.Leading.{Stands, along-first, along-rest, along-drop}
-use Rattle.module_tree.proofs.Field.{every-number, complete, told, ends, Sought, none, found, sought, first-branch, second-branch, run-from, outputs-long, next, out}
+use Rattle.module_tree.proofs.Field.{complete, told, ends, Sought, none, found, sought, first-branch, second-branch, run-from, outputs-long, next, out}
 
 -- what the machine puts out inside an OID
 abbrev pub oid-value : ℕ → ℕ
@@ -89,7 +89,7 @@ module _ (cs : List ℕ) where
   same-inside [] e = refl
   same-inside (x ∷ xs) e = rw e
 
-  pub numbers-found : (xs : List ℕ) (d : ℕ) → Stands cs d xs → T (has eqb every-number (ends assign true closing closing oid-value 0 xs) complete)
+  pub numbers-found : (xs : List ℕ) (d : ℕ) → Stands cs d xs → T (among (ends assign true closing closing oid-value 0 xs) complete)
       → oid-numbers cs (marked-span d (numbers-told 0 xs)) ≡ places own-number d (numbers-told 0 xs)
   unfolding oid-numbers
   numbers-found xs d st h = go (sought assign true closing closing oid-value oid-nonzero xs h)

@@ -17,8 +17,9 @@ use Rattle.module_tree.specs.Marked.{Marked, unmarked, marks, size}
 use Rattle.module_tree.specs.Module.{places}
 use Rattle.module_tree.proofs.Machine.{after, outputs}
 use Rattle.module_tree.proofs.Leading.{Along, along-first, along-rest}
-use Rattle.module_tree.proofs.Field.{stays, is-there}
-use Rattle.module_tree.proofs.Line.{reads, there, absent, marks-are, unmarked-part}
+use Rattle.module_tree.proofs.Field.{is-there}
+use Rattle.module_tree.proofs.Line.{there}
+use Rattle.module_tree.proofs.Counted.{marks-are, stays, absent, unmarked-part}
 
 module _ {S : Type 0} (next : S → ℕ → S) (out : S → ℕ → ℕ) (f : ℕ → ℕ) (state : ℕ → S) (moves : (i : ℕ) → state (suc i) ≡ next (state i) (f i)) where
   stepped : (x : ℕ) (xs : List ℕ) (i : ℕ) → Along f i (x ∷ xs) → next (state i) x ≡ state (suc i)
