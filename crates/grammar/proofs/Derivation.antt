@@ -11,7 +11,7 @@ use lib.Dec.{T, T-prop, eqb, eqb→eq, eqb-refl}
 use lib.ListN.{take, length-map}
 use Rattle.grammar.specs.Answer.{Verdict, refused, Derives, Begins, Answers}
 use Rattle.grammar.specs.Derivation.{Derivation, tokens-of, tree-of, DerivesTokens, BeginsTokens, AnswersTokens, Inhabited, EachTerminal}
-use Rattle.grammar.specs.Rule.{Rule, never, empty, token, _⨾_, _or_, repeated, Steps, last, step, Tree, yield}
+use Rattle.grammar.specs.Rule.{Rule, never, empty, token, _⨾_, _or_, repeated, last, step, Tree, yield}
 use Rattle.grammar.specs.Automaton.{run}
 use Rattle.grammar.specs.Grammar.{smi-module}
 use Rattle.grammar.specs.Table.{module-automaton}

@@ -1,14 +1,14 @@
 -- The definitions that the landmarks show are those of the tree.
 -- Assumes nothing.
-use mathlib.Core.Path.{_≡_, refl, sym, ap, ap₂, _∙_, subst}
-use mathlib.Core.Bool.{Bool, true, false, cond, not, _||_}
+use mathlib.Core.Path.{_≡_, refl, sym, ap, _∙_, subst}
+use mathlib.Core.Bool.{Bool, true, false, not, _||_}
 use mathlib.Core.List.{List, [], _∷_, _++_, map, map-map}
-use Prim.Native.Nat.{ℕ, zero, suc, _+_, _-_, _≤_, _<_}
+use Prim.Native.Nat.{ℕ, zero, suc, _+_, _-_, _<_}
 use native.Mathlib.Decide.{decLt}
 use native.Mathlib.Nat.{add-zero}
 use native.Mathlib.Omega.{arith}
 use borrow.Author.Tests.{ltb-true, lt-ltb}
-use lib.Dec.{T, eqb, ltb}
+use lib.Dec.{T, ltb}
 use lib.ListN.{length, getD, length-append}
 use Rattle.grammar.specs.Rule.{Tree, yield}
 use Rattle.index.specs.First.{hits}
@@ -16,7 +16,7 @@ use Rattle.index.proofs.Hits.{hits-none}
 use Rattle.index.proofs.Step.{entry-made}
 use Rattle.grammar.specs.Grammar.{Upper}
 use Rattle.terminal.specs.Terminal.{assign, BEGIN, DEFINITIONS, END}
-use Rattle.definition.specs.Landmark.{class-at, begins, kind-at, has-oid, definition-end}
+use Rattle.definition.specs.Landmark.{begins, kind-at, has-oid, definition-end}
 use Rattle.definition.specs.Landmark as landmark
 use Rattle.definition.specs.Fields.{fields-of}
 use Rattle.definition.specs.Members.{oid-numbers}

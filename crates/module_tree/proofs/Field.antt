@@ -1,23 +1,22 @@
 -- A field of a definition: the machine that looks for the field's word and then puts out a number at each of the field's tokens. The
 -- landmarks' search for the field, and the run of tokens that have an output, are the same.
 -- Assumes nothing.
-use mathlib.Core.Path.{_≡_, refl, sym, ap, ap₂, _∙_, subst}
-use mathlib.Core.Bool.{Bool, true, false, cond, not, _&&_, _||_}
-use mathlib.Core.List.{List, [], _∷_, _++_}
-use Prim.Native.Nat.{ℕ, zero, suc, _+_, _-_, _≤_, _<_}
+use mathlib.Core.Path.{_≡_, refl, sym, ap, _∙_, subst}
+use mathlib.Core.Bool.{Bool, true, false, cond, not}
+use mathlib.Core.List.{List, [], _∷_}
+use Prim.Native.Nat.{ℕ, suc, _+_, _-_, _≤_, _<_}
 use native.Mathlib.Nat.{add-zero}
 use native.Mathlib.Omega.{arith}
-use borrow.Author.Tests.{lt-ltb, le-ltb, ltb-true, ltb-false, eq-eqb, ne-eqb}
-use lib.Dec.{T, eqb, ltb, eqb-refl, eqb→eq}
+use borrow.Author.Tests.{lt-ltb, le-ltb, ltb-true, ltb-false, ne-eqb}
+use lib.Dec.{T, eqb, ltb}
 use lib.ListN.{length, getD, drop, length-drop, List·getD-eq-default}
 use lib.Seq.{getD-drop, drop-cons}
-use Rattle.index.specs.First.{first, hits}
-use Rattle.index.proofs.Search.{true-false, answers}
-use Rattle.index.proofs.Hits.{hits-hit, hits-miss, hits-none}
+use Rattle.index.specs.First.{first}
+use Rattle.index.proofs.Search.{answers}
 use Rattle.definition.specs.Landmark.{class-at}
 use Rattle.definition.specs.declared.Span.{Span}
 use Rattle.definition.specs.Fields.{find, span, nowhere, word-after}
-use Rattle.module_tree.specs.Module.{leading, is-none, first-marked, first-mark, some-marked, marked-span, places}
+use Rattle.module_tree.specs.Module.{leading, is-none, first-marked, first-mark, some-marked, marked-span}
 use Rattle.module_tree.proofs.Counted.{dead-number, among, stays}
 use Rattle.module_tree.proofs.Machine.{after, outputs}
 use Rattle.module_tree.proofs.Leading.{Stands, along-drop, first-leading}

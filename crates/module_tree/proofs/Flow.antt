@@ -1,13 +1,13 @@
 -- A machine reads the tokens of a tree, each with its class and its mark, from the left or from the right. The states that it can be in
 -- behind a rule are computed from those before it, by recursion over the rule: whatever the tree, the machine ends in one of them.
 -- Assumes nothing.
-use mathlib.Core.Path.{_≡_, refl, sym, ap, subst}
+use mathlib.Core.Path.{_≡_, refl, ap, subst}
 use mathlib.Core.Bool.{Bool, true, false, cond, _&&_, _||_}
 use mathlib.Core.List.{List, [], _∷_, _++_}
 use mathlib.Core.Logic.{inl, inr}
 use Prim.Native.Nat.{ℕ, zero, suc}
 use lib.Dec.{T, eqb}
-use Rattle.grammar.specs.Rule.{Steps, last, step, Tree, in-order}
+use Rattle.grammar.specs.Rule.{last, step, Tree}
 use Rattle.index.proofs.Tested.{and-left, and-right}
 use Rattle.module_tree.specs.Marked.{Marked, nothing, nil, word, _then_, _either_, steps, mark, unmarked, leaves}
 

@@ -8,22 +8,22 @@ use Prim.Native.Nat.{ℕ, zero, suc, _+_, _-_, _≤_, _<_, min}
 use native.Mathlib.Decide.{decLt}
 use native.Mathlib.Nat.{add-zero}
 use native.Mathlib.Omega.{arith}
-use borrow.Author.Tests.{eq-eqb, ne-eqb, le-leb, lt-leb, lt-ltb, le-ltb, eqb-true}
-use lib.Dec.{T, eqb, leb, ltb, eqb-refl, eqb→eq}
+use borrow.Author.Tests.{eq-eqb, le-leb, lt-leb, lt-ltb, le-ltb, eqb-true}
+use lib.Dec.{T, eqb, leb, eqb→eq}
 use lib.ListN.{length, getD, length-append, length-map}
 use lib.Seq.{getD-append-add}
 use Rattle.grammar.specs.Rule.{Tree, yield, last, step}
 use Rattle.grammar.specs.Grammar.{lower, Upper, macro-word}
 use Rattle.grammar.specs.Rule.{_or_}
-use Rattle.index.specs.First.{first, hits}
+use Rattle.index.specs.First.{hits}
 use Rattle.index.proofs.Search.{first-is}
 use Rattle.index.proofs.Hits.{hits-none}
 use Rattle.terminal.specs.Terminal.{assign, semicolon, BEGIN, DEFINITIONS, FROM, IMPORTS}
 use Rattle.terminal.specs.Terminal.{Upper as upper-name}
-use Rattle.definition.specs.Landmark.{class-at, is-lower, is-defining, is-macro, before-object-identifier, begins, kind-at}
+use Rattle.definition.specs.Landmark.{class-at, is-defining, is-macro, before-object-identifier, begins, kind-at}
 use Rattle.definition.specs.Fields.{find}
 use Rattle.scope.specs.Import.{imports-start, imports-end, can-be-imported, is-symbol, is-import, source}
-use Rattle.module_tree.specs.Marked.{Marked, nil, word, _then_, _either_, steps, mark, many, plain, listed, unmarked, leaves, marks, size, parts}
+use Rattle.module_tree.specs.Marked.{Marked, word, _then_, mark, many, plain, listed, unmarked, leaves, marks, size, parts}
 use Rattle.module_tree.specs.Grammar.{import, imports, import-group, symbol, group, identity, def, definitions, module-tree}
 use Rattle.module_tree.specs.Grammar as grammar
 use Rattle.module_tree.specs.Module.{leading, places, imports-of-part, in-a-row}
@@ -32,7 +32,7 @@ use Rattle.module_tree.proofs.Parts.{without, no-parts}
 use Rattle.module_tree.proofs.Definitions.{opens-there, imports-quiet, imports-bare, whole}
 use Rattle.module_tree.proofs.Flow.{from-left}
 use Rattle.module_tree.proofs.Machine.{after, outputs, mark-of}
-use Rattle.module_tree.proofs.Leading.{Along, Stands, along-first, along-left, along-right, along-drop, stands-all}
+use Rattle.module_tree.proofs.Leading.{Stands, along-first, along-left, along-right, along-drop, stands-all}
 use Rattle.module_tree.proofs.Place.{marks-long, hits-skip}
 use Rattle.module_tree.proofs.Starts.{start-at}
 use Rattle.module_tree.proofs.Counted.{among, ends-among, ended-among, reads, marks-are, ends-in}

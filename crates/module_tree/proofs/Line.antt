@@ -1,32 +1,29 @@
 -- The lines of definitions: a test that is computed once for a line of the grammar says that the fields of each definition of that line
 -- stand where its tree has them.
 -- Assumes nothing.
-use mathlib.Core.Path.{_≡_, refl, sym, ap, ap₂, _∙_, subst}
+use mathlib.Core.Path.{_≡_, refl, sym, ap, _∙_}
 use mathlib.Core.Bool.{Bool, true, false, cond, not, _&&_, _||_}
-use mathlib.Core.List.{List, [], _∷_, _++_, map}
-use Prim.Native.Nat.{ℕ, zero, suc, _+_, _≤_, _<_}
+use mathlib.Core.List.{List, [], _∷_, map}
+use Prim.Native.Nat.{ℕ, zero, suc, _+_, _<_}
 use native.Mathlib.Omega.{arith}
 use borrow.Author.Tests.{le-ltb}
-use lib.Dec.{T, eqb, ltb, eqb-refl, eqb→eq, ltb→lt}
+use lib.Dec.{T, eqb, ltb, ltb→lt}
 use lib.ListN.{length, getD}
 use Rattle.grammar.specs.Rule.{Tree, yield}
-use Rattle.index.proofs.Search.{answers}
 use Rattle.index.proofs.Hits.{hits-none}
 use Rattle.index.proofs.Tested.{and-left, and-right}
-use Rattle.terminal.specs.Terminal.{number, right-brace, assign, current, not-accessible, AUGMENTS, DEFVAL, INDEX, MAX-ACCESS, OBJECTS, SEQUENCE, STATUS, SYNTAX, UNITS}
+use Rattle.terminal.specs.Terminal.{number, assign, current, not-accessible, AUGMENTS, DEFVAL, INDEX, MAX-ACCESS, OBJECTS, SEQUENCE, STATUS, SYNTAX, UNITS}
 use Rattle.definition.specs.Landmark.{class-at, kind-at, has-oid, sequence-type}
-use Rattle.definition.specs.Fields.{find, span, nowhere, braced-after, word-after, syntax-span, columns-span, oid-span, fields-of}
+use Rattle.definition.specs.Fields.{find, nowhere, braced-after, word-after, syntax-span, columns-span, oid-span, fields-of}
 use Rattle.definition.specs.Members.{oid-numbers}
-use Rattle.definition.specs.declared.Span.{Span}
-use Rattle.definition.specs.declared.Fields.{Fields}
 use Rattle.module_tree.specs.Marked.{Marked, nothing, nil, word, _then_, _either_, steps, mark, unmarked, leaves, marks, size}
 use Rattle.module_tree.specs.Grammar.{definition, start, the-end, status, access, syntax, index, augments, default, objects, columns, oid, own-number, identity, def}
-use Rattle.module_tree.specs.Module.{leading, is-none, first-marked, first-mark, some-marked, marked-span, places, fields-of-part, numbers-of-part}
+use Rattle.module_tree.specs.Module.{is-none, first-marked, first-mark, some-marked, marked-span, places, fields-of-part, numbers-of-part}
 use Rattle.module_tree.proofs.Flow.{from-left}
 use Rattle.module_tree.proofs.Machine.{after, outputs}
-use Rattle.module_tree.proofs.Counted.{among, ends-among, ended-among, reads, marks-are, ends-in, stays, no-output, absent, unmarked-part}
+use Rattle.module_tree.proofs.Counted.{among, ends-among, ended-among, reads, marks-are, ends-in, stays, no-output, absent}
 use Rattle.module_tree.proofs.Leading.{Stands}
-use Rattle.module_tree.proofs.Field.{complete, next, out, told, ends, span-after, span-told, word-value, never-bad, at-once, word-told, is-there, there-told, outputs-long, first-branch, second-branch}
+use Rattle.module_tree.proofs.Field.{complete, next, out, span-after, span-told, word-value, never-bad, at-once, word-told, is-there, there-told, outputs-long, second-branch}
 use Rattle.module_tree.proofs.Numbers.{oid-value, oid-nonzero, closing, numbers-found}
 
 -- ---- the tests of the fields

@@ -7,7 +7,7 @@ use mathlib.Core.List.{List, [], _∷_, _++_, map, map-append}
 use mathlib.Core.Logic.{inl, inr}
 use Prim.Native.Nat.{ℕ}
 use lib.Dec.{T, eqb, eqb→eq, T-not}
-use Rattle.grammar.specs.Rule.{Steps, last, step, Tree, yield}
+use Rattle.grammar.specs.Rule.{last, step, Tree, yield}
 use Rattle.index.proofs.Tested.{and-left, and-right}
 use Rattle.module_tree.specs.Marked.{Marked, nothing, nil, word, _then_, _either_, steps, mark, unmarked, leaves}
 use Rattle.module_tree.proofs.Flow.{has, from-left, from-right, run, reaches, arrives}

@@ -2,31 +2,31 @@
 -- with the token's class they say what it is needed as.
 -- Assumes nothing.
 use mathlib.Core.Path.{_≡_, refl, sym, ap, ap₂, _∙_, subst}
-use mathlib.Core.Bool.{Bool, true, false, cond, not, _&&_, _||_}
+use mathlib.Core.Bool.{Bool, true, false, cond, not, _&&_}
 use mathlib.Core.List.{List, [], _∷_, _++_, map, map-append}
 use mathlib.Core.Logic.{inl, inr}
-use Prim.Native.Nat.{ℕ, zero, suc, _+_, _-_, _≤_, _<_}
+use Prim.Native.Nat.{ℕ, suc, _+_, _-_, _<_}
 use native.Mathlib.Nat.{add-zero}
 use native.Mathlib.Omega.{arith}
 use borrow.Author.Tests.{eqb-true}
-use lib.Dec.{T, eqb, eqb-refl, eqb→eq}
+use lib.Dec.{T, eqb}
 use lib.ListN.{length, getD, length-append}
 use Rattle.grammar.specs.Rule.{Tree, yield}
 use Rattle.index.specs.First.{hits}
 use Rattle.index.proofs.Hits.{hits-hit, hits-miss, hits-none}
-use Rattle.terminal.specs.Terminal.{terminals, Upper, left-brace, right-brace, assign, semicolon, AUGMENTS, INDEX, OBJECT-TYPE, OBJECTS, OF, SEQUENCE, SYNTAX, BEGIN, DEFINITIONS}
+use Rattle.terminal.specs.Terminal.{terminals, Upper, left-brace, right-brace, assign, semicolon, OBJECT-TYPE, OF, SYNTAX}
 use Rattle.definition.specs.Landmark.{class-at, is-lower, is-defining, is-macro}
 use Rattle.name_kind.specs.declared.need.Need.{Need}
 use Rattle.name_kind.specs.declared.need.Need.the-variants.{NoName, Macro, TypeName, ObjectType, Head, Object, Sequence}
 use Rattle.name_kind.specs.Need.{enclosing, upper-need, lists-objects, lower-need, need-at}
 use Rattle.scope.specs.Import.{imports-end}
-use Rattle.module_tree.specs.Marked.{Marked, many, unmarked, leaves, marks, size}
+use Rattle.module_tree.specs.Marked.{many, unmarked, leaves, marks, size}
 use Rattle.module_tree.specs.Grammar.{used, imports, import-group, identity, def, definitions, module-tree, need-number, need-of}
 use Rattle.module_tree.specs.Module.{is-none, numbered}
 use Rattle.module_tree.specs.OfTree.{is-needed, needs-in}
 use Rattle.module_tree.proofs.Answers.{same-answers, answers-self, answers-equal, answer, every-state, dead-state}
 use Rattle.module_tree.proofs.Flow.{has, reaches, arrives, from-left}
-use Rattle.module_tree.proofs.Machine.{after, outputs, mark-of, unchecked, unchecked-after, passes, reads-left, classed}
+use Rattle.module_tree.proofs.Machine.{after, mark-of, unchecked, unchecked-after, passes, reads-left, classed}
 use Rattle.module_tree.proofs.Counted.{among, ends-among, ended-among, absent, unmarked-part}
 use Rattle.module_tree.proofs.Line.{identity-passes, def-passes}
 use Rattle.module_tree.proofs.Watch.{watched-after, watched-outputs}
@@ -34,7 +34,7 @@ use Rattle.module_tree.proofs.Imports.{text, end-early, end, end-is, en
 use Rattle.module_tree.proofs.Starts.{start-at}
 use Rattle.module_tree.proofs.Definitions.{opens-there, imports-quiet, imports-bare, whole}
 use Rattle.module_tree.proofs.Place.{leaves-long, marks-long}
-use Rattle.module_tree.proofs.Leading.{Along, Stands, along-left, along-right, along-drop, stands-all}
+use Rattle.module_tree.proofs.Leading.{Stands, along-left, along-right, along-drop, stands-all}
 
 -- one token more
 abbrev next : List Bool → ℕ → List Bool

@@ -1,22 +1,22 @@
 -- The definitions in a row: what is made of each token where a definition starts is what is made of each definition of the tree.
 -- Assumes nothing.
-use mathlib.Core.Path.{_≡_, refl, sym, ap, _∙_, subst}
-use mathlib.Core.Bool.{Bool, true, false, cond, _&&_}
-use mathlib.Core.List.{List, [], _∷_, _++_, map, append-assoc, append-nil}
+use mathlib.Core.Path.{_≡_, sym, ap, _∙_, subst}
+use mathlib.Core.Bool.{true}
+use mathlib.Core.List.{List, _∷_, _++_, map, append-assoc}
 use mathlib.Core.Logic.{inl, inr}
-use Prim.Native.Nat.{ℕ, zero, suc, _+_, _-_, _≤_, _<_}
+use Prim.Native.Nat.{ℕ, suc, _+_, _-_, _≤_, _<_}
 use native.Mathlib.Nat.{add-zero}
 use native.Mathlib.Omega.{arith}
-use lib.Dec.{T, eqb, eqb→eq, ltb}
-use lib.ListN.{length, getD, length-append}
+use lib.Dec.{T, eqb, eqb→eq}
+use lib.ListN.{length-append}
 use Rattle.grammar.specs.Rule.{Tree, yield, last, step}
 use Rattle.index.specs.First.{hits}
 use Rattle.index.proofs.Tested.{and-left, and-right}
 use Rattle.index.proofs.Hits.{hits-hit}
 use Rattle.definition.specs.Landmark as landmark
-use Rattle.definition.specs.Landmark.{begins, closes, definition-end, kind-at}
-use Rattle.module_tree.specs.Marked.{Marked, nothing, nil, word, _then_, _either_, steps, mark, many, unmarked, marks, size, parts}
-use Rattle.module_tree.specs.Grammar.{definition, start, the-end}
+use Rattle.definition.specs.Landmark.{begins, definition-end, kind-at}
+use Rattle.module_tree.specs.Marked.{Marked, nothing, nil, word, _then_, _either_, steps, mark, many, unmarked, size, parts}
+use Rattle.module_tree.specs.Grammar.{definition, start}
 use Rattle.module_tree.proofs.Leading.{Stands}
 use Rattle.module_tree.proofs.Starts.{start-at}
 use Rattle.module_tree.proofs.Line.{line-passes, lines-pass, Named, named-is, its-kind}

@@ -3,11 +3,11 @@
 use mathlib.Core.Path.{_≡_, refl, sym, ap, _∙_}
 use mathlib.Core.Bool.{Bool, true, false, cond, not}
 use mathlib.Core.List.{List, [], _∷_}
-use Prim.Native.Nat.{ℕ, zero, suc, _+_, _≤_, _<_}
+use Prim.Native.Nat.{ℕ, suc, _+_}
 use native.Mathlib.Nat.{add-zero}
 use native.Mathlib.Omega.{arith}
 use borrow.Author.Tests.{eqb-true, lt-ltb, le-ltb}
-use lib.Dec.{T, eqb, ltb}
+use lib.Dec.{T, eqb}
 use lib.ListN.{length, getD, drop, length-drop}
 use lib.Seq.{getD-drop, drop-length}
 use Rattle.index.specs.First.{hits}
@@ -15,7 +15,7 @@ use Rattle.index.proofs.Hits.{hits-hit, hits-miss, hits-none}
 use Rattle.terminal.specs.Terminal.{number, right-brace, assign}
 use Rattle.definition.specs.Landmark.{class-at}
 use Rattle.definition.specs.declared.Span.{Span}
-use Rattle.definition.specs.Fields.{span, nowhere}
+use Rattle.definition.specs.Fields.{span}
 use Rattle.definition.specs.Members.{oid-numbers}
 use Rattle.module_tree.specs.Module.{leading, is-none, first-marked, some-marked, marked-span, places}
 use Rattle.module_tree.specs.Grammar.{own-number}

@@ -1,7 +1,7 @@
 -- The landmarks of a derived token sequence show what its tree says.
 -- Assumes nothing.
 use mathlib.Core.Path.{subst}
-use mathlib.Core.List.{List, map}
+use mathlib.Core.List.{List}
 use Prim.Native.Nat.{ℕ}
 use Rattle.grammar.specs.Rule.{Tree, yield}
 use Rattle.grammar.specs.Grammar.{smi-module}

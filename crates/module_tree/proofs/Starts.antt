@@ -1,16 +1,15 @@
 -- Where definitions start, by the landmarks: read from the right, what stands behind a token is shown by ten answers; with the token's
 -- class they say whether a definition of which kind starts there, or END stands there. In a tree these are the marks of its tokens.
 -- Assumes nothing.
-use mathlib.Core.Path.{_≡_, refl, sym, ap, ap₂, _∙_}
-use mathlib.Core.Bool.{Bool, true, false, cond, _&&_, _||_}
-use mathlib.Core.List.{List, [], _∷_, map}
-use Prim.Native.Nat.{ℕ, zero, suc, _+_, _<_}
+use mathlib.Core.Path.{_≡_, refl, sym, ap, _∙_}
+use mathlib.Core.Bool.{Bool, false, cond, _&&_, _||_}
+use mathlib.Core.List.{List, [], _∷_}
+use Prim.Native.Nat.{ℕ, zero, suc, _<_}
 use native.Mathlib.Nat.{suc-add}
 use native.Mathlib.Omega.{arith}
 use lib.Dec.{T, eqb}
 use lib.ListN.{length, getD}
 use Rattle.grammar.specs.Rule.{Tree, yield}
-use Rattle.grammar.specs.Grammar.{smi-module}
 use Rattle.terminal.specs.Terminal.{Upper, assign, DEFINITIONS, END, IDENTIFIER, MODULE-IDENTITY, NOTIFICATION-TYPE, OBJECT, OBJECT-IDENTITY, OBJECT-TYPE, TEXTUAL-CONVENTION}
 use Rattle.definition.specs.Landmark.{class-at, is-lower, is-defining, before-object-identifier, begins, kind-at, identity, plain, object-identity, object, convention, sequence-type, notification}
 use Rattle.module_tree.specs.Marked.{unmarked, marks}

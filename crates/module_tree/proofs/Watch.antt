@@ -7,13 +7,13 @@ use Prim.Native.Nat.{ℕ, zero, suc, _+_, _≤_, _<_}
 use native.Mathlib.Nat.{add-zero}
 use native.Mathlib.Omega.{arith}
 use borrow.Author.Tests.{eqb-true}
-use lib.Dec.{T, eqb, eqb-refl, eqb→eq}
+use lib.Dec.{T, eqb}
 use lib.ListN.{length, getD}
 use Rattle.grammar.specs.Rule.{Tree, yield}
 use Rattle.index.specs.First.{hits}
 use Rattle.index.proofs.Tested.{and-left, and-right}
 use Rattle.index.proofs.Hits.{hits-hit, hits-miss}
-use Rattle.module_tree.specs.Marked.{Marked, unmarked, marks, size}
+use Rattle.module_tree.specs.Marked.{Marked, unmarked, size}
 use Rattle.module_tree.specs.Module.{places}
 use Rattle.module_tree.proofs.Machine.{after, outputs}
 use Rattle.module_tree.proofs.Leading.{Along, along-first, along-rest}

@@ -1,7 +1,7 @@
 -- The grammar of document 01 with its parts marked: where definitions, their fields and their OIDs' numbers stand, where imports
 -- stand, and where a name is used as what. Without the marks it is the grammar, line by line.
 -- Assumes nothing.
-use mathlib.Core.List.{List, [], _∷_}
+use mathlib.Core.List.{[], _∷_}
 use Prim.Native.Nat.{ℕ}
 use lib.ListN.{getD}
 use Rattle.grammar.specs.Rule.{Rule, token, _⨾_, _or_, optional, any}
@@ -10,7 +10,7 @@ use Rattle.terminal.specs.Terminal.{number, left-paren, right-paren, comma, sem
 use Rattle.definition.specs.Landmark as kind
 use Rattle.name_kind.specs.declared.need.Need.{Need}
 use Rattle.name_kind.specs.declared.need.Need.the-variants.{NoName, Macro, TypeName, ObjectType, Head, Object, Sequence}
-use Rattle.module_tree.specs.Marked.{Marked, nil, word, _then_, _either_, steps, mark, plain, optionally, many, listed, in-braces}
+use Rattle.module_tree.specs.Marked.{Marked, word, _then_, _either_, steps, mark, plain, optionally, many, listed, in-braces}
 
 -- The families of marks.
 
