@@ -16,3 +16,4 @@ pub mod Watch
 pub mod Imports
 pub mod Needs
 pub mod OfTree
+pub mod Examples
