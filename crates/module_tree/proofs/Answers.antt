@@ -38,7 +38,8 @@ answers-equal [] [] h = refl
 answers-equal [] (y ∷ ys) h = absurd h
 answers-equal (x ∷ xs) [] h = absurd h
 answers-equal (x ∷ xs) (y ∷ ys) h =
-    ap₂ (λ a b. a ∷ b) (alike-equal x y (and-left (alike x y) (same-answers xs ys) h)) (answers-equal xs ys (and-right (alike x y) (same-answers xs ys) h))
+    ap₂ (λ a b. a ∷ b) (alike-equal x y (and-left (alike x y) (same-answers xs ys) h))
+    (answers-equal xs ys (and-right (alike x y) (same-answers xs ys) h))
 
 -- the answer at this place
 abbrev pub answer : List Bool → ℕ → Bool

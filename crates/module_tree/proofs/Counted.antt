@@ -34,7 +34,8 @@ ended-among move family m allowed p t = arrives eqb every-number eqb-refl eqb→
 abbrev pub reads : (next out : ℕ → ℕ → ℕ) (family : ℕ) → List ℕ → Marked → Bool
 reads next out family allowed m = passes next out eqb every-number dead-number eqb-refl eqb→eq true family 0 m (0 ∷ []) allowed
 
-module _ (next out : ℕ → ℕ → ℕ) (family : ℕ) (allowed : List ℕ) (m : Marked) (p : T (reads next out family allowed m)) (t : Tree (unmarked m)) where
+module _ (next out : ℕ → ℕ → ℕ) (family : ℕ) (allowed : List ℕ) (m : Marked) (p : T (reads next out family allowed m))
+    (t : Tree (unmarked m)) where
   pub marks-are : outputs next out 0 (yield (unmarked m) t) ≡ marks family m t
   marks-are = reads-left next out eqb every-number dead-number eqb-refl eqb→eq family 0 m (0 ∷ []) allowed t 0 tt p .0
 

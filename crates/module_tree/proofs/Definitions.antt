@@ -103,7 +103,8 @@ module _ (brought first others : Marked) (quiet : T (absent start brought)) (bar
       go : Dec (i < 4) → start-at cs i ≡ 0
       go (yes l) =
           let on : 0 + i ≡ i = omega arith in
-          ap (start-at cs) (sym on) ∙ at .starts i (omega (arith, marks-long start (heading-then (brought then body first others)) t, long, ends-last))
+          ap (start-at cs) (sym on)
+          ∙ at .starts i (omega (arith, marks-long start (heading-then (brought then body first others)) t, long, ends-last))
           ∙ four-none (marks start (brought then body first others) u) i l
       go (no l) =
           let on : 4 + (i - 4) ≡ i = omega arith in
@@ -130,7 +131,8 @@ module _ (brought first others : Marked) (quiet : T (absent start brought)) (bar
     pub all-definitions : map f (landmark.definitions cs) ≡ parts definition make (heading-then (brought then body first others)) 0 t
     unfolding landmark.definitions
     all-definitions =
-        ap (map f) (hits-skip (begins cs) first-at 0 (landmark.last cs) (omega (arith, ends-last)) (λ i l h. none-starts cs i (none-before i (omega arith)) .0))
+        ap (map f) (hits-skip (begins cs) first-at 0 (landmark.last cs) (omega (arith, ends-last))
+        (λ i l h. none-starts cs i (none-before i (omega arith)) .0))
         ∙ ap from (let on : 0 + first-at ≡ first-at = omega arith in on)
         ∙ first-row .row
         ∙ ap (λ l. parts definition make first first-at (w .0) ++ l)
@@ -155,7 +157,8 @@ module _ (brought first others : Marked) (quiet : T (absent start brought)) (bar
     is-numbered : not (has-oid (kind-at cs d)) || ltb 0 (length (oid-numbers cs (fields-of cs d (definition-end cs d) .oid))) ≡ true
     is-numbered = go (has-oid k) refl
       where
-        go : (b : Bool) → has-oid k ≡ b → not (has-oid (kind-at cs d)) || ltb 0 (length (oid-numbers cs (fields-of cs d (definition-end cs d) .oid))) ≡ true
+        go : (b : Bool) → has-oid k ≡ b
+            → not (has-oid (kind-at cs d)) || ltb 0 (length (oid-numbers cs (fields-of cs d (definition-end cs d) .oid))) ≡ true
         go true e =
             rw (n .kind, e)
             (lt-ltb 0 (length (oid-numbers cs (fields-of cs d (definition-end cs d) .oid)))
@@ -185,11 +188,14 @@ module _ (brought first others : Marked) (quiet : T (absent start brought)) (bar
       let d = getD l k 0 in
       let inside : k < length l = omega (arith, outline-counted cs) in
       let is : entry (outline cs) k ≡ outlined-at cs d = outline-entry cs k inside in
-      let test : ℕ → Bool = λ i. not (has-oid (kind-at cs i)) || ltb 0 (length (oid-numbers cs (fields-of cs i (definition-end cs i) .oid))) in
+      let test : ℕ → Bool = λ i. not (has-oid (kind-at cs i)) || ltb 0
+      (length (oid-numbers cs (fields-of cs i (definition-end cs i) .oid))) in
       let always : ℕ → Bool = λ i. true in
       let alike : map test l ≡ map always l =
-      all-definitions test (λ j m i v. true) (λ j m i v n. is-numbered j m i v n) ∙ sym (all-definitions always (λ j m i v. true) (λ j m i v n. refl)) in
-      let passed : test d ≡ true = sym (entry-made test l k 0 true inside) ∙ ap (λ x. getD x k true) alike ∙ entry-made always l k 0 true inside in
+      all-definitions test (λ j m i v. true) (λ j m i v n. is-numbered j m i v n)
+      ∙ sym (all-definitions always (λ j m i v. true) (λ j m i v n. refl)) in
+      let passed : test d ≡ true = sym (entry-made test l k 0 true inside) ∙ ap (λ x. getD x k true) alike
+      ∙ entry-made always l k 0 true inside in
       let kind-is : has-oid (kind-at cs d) ≡ true = ap (λ (x : Definition). has-oid (x .kind)) (sym is) ∙ oid-kind in
       let some : 0 < length (oid-numbers cs (fields-of cs d (definition-end cs d) .oid)) =
       ltb-true 0 (length (oid-numbers cs (fields-of cs d (definition-end cs d) .oid))) (rw kind-is at passed) in

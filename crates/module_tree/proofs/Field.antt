@@ -104,13 +104,15 @@ module _ (class : ℕ) (two : Bool) (bad stop : ℕ → Bool) (value : ℕ → �
         at-word : eqb x class ≡ true → Complete (ends (cond two 1 2) xs) → Sought (x ∷ xs)
         at-word e k =
             let it = entered two xs k in
-            found (suc (cond two 1 0)) (rw e (behind-more two)) (omega (arith, it .room)) (rw e (ap suc (it .from))) (rw e (it .rest)) (it .good)
+            found (suc (cond two 1 0)) (rw e (behind-more two)) (omega (arith, it .room)) (rw e (ap suc (it .from))) (rw e (it .rest))
+            (it .good)
 
         passed : eqb x class ≡ false → Sought xs → Sought (x ∷ xs)
         passed e (none a b) = none (rw e (ap suc a)) (rw e (ap suc b))
         passed e (found k a r m d g) = found (suc k) (rw e (omega arith)) (omega arith) (rw e (ap suc m)) (rw e d) g
 
-        go : (b : Bool) → eqb x class ≡ b → Complete (ends (cond b (cond two 1 2) 0) xs) → (Complete (ends 0 xs) → Sought xs) → Sought (x ∷ xs)
+        go : (b : Bool) → eqb x class ≡ b → Complete (ends (cond b (cond two 1 2) 0) xs) → (Complete (ends 0 xs) → Sought xs)
+            → Sought (x ∷ xs)
         go true e k ih = at-word e k
         go false e k ih = passed e (ih k)
 
@@ -141,7 +143,8 @@ second-branch x y b e = rw e
 -- the span behind the word of this class, up to a stop
 abbrev pub span-after : (class : ℕ) (two : Bool) (stop : ℕ → Bool) (cs : List ℕ) (d e : ℕ) → Span
 span-after class two stop cs d e =
-    cond (ltb (find cs class d e) e) (span (find cs class d e + cond two 2 1) (first (λ (i : ℕ). stop (class-at cs i)) (find cs class d e + cond two 2 1) e))
+    cond (ltb (find cs class d e) e)
+    (span (find cs class d e + cond two 2 1) (first (λ (i : ℕ). stop (class-at cs i)) (find cs class d e + cond two 2 1) e))
     (nowhere e)
 
 module _ (class : ℕ) (two : Bool) (stop : ℕ → Bool) (value : ℕ → ℕ) (nonzero : (c : ℕ) → is-none (value c) ≡ false) where
@@ -156,10 +159,12 @@ module _ (class : ℕ) (two : Bool) (stop : ℕ → Bool) (value : ℕ → ℕ) 
     word-at : find cs class d (d + length xs) ≡ d + leading (λ (c : ℕ). not (eqb c class)) xs
     word-at = first-leading (λ (c : ℕ). eqb c class) cs xs d st
 
-    stop-at : (k : ℕ) → k < length xs → first (λ (i : ℕ). stop (class-at cs i)) (d + k) (d + length xs) ≡ d + k + leading (λ (c : ℕ). not (stop c)) (drop k xs)
+    stop-at : (k : ℕ) → k < length xs
+        → first (λ (i : ℕ). stop (class-at cs i)) (d + k) (d + length xs) ≡ d + k + leading (λ (c : ℕ). not (stop c)) (drop k xs)
     stop-at k r =
         let end : d + length xs ≡ d + k + length (drop k xs) = omega (arith, length-drop k xs) in
-        ap (first (λ (i : ℕ). stop (class-at cs i)) (d + k)) end ∙ first-leading stop cs (drop k xs) (d + k) (along-drop (class-at cs) d k xs st)
+        ap (first (λ (i : ℕ). stop (class-at cs i)) (d + k)) end
+        ∙ first-leading stop cs (drop k xs) (d + k) (along-drop (class-at cs) d k xs st)
 
     -- the span of the field
     pub span-told : span-after class two stop cs d (d + length xs) ≡ marked-span d (told class two stop stop value 0 xs)
@@ -168,14 +173,16 @@ module _ (class : ℕ) (two : Bool) (stop : ℕ → Bool) (value : ℕ → ℕ) 
       where
         go : Sought class two stop stop value xs → span-after class two stop cs d (d + length xs) ≡ marked-span d ls
         go (none a m) =
-            second-branch _ _ (ltb (find cs class d (d + length xs)) (d + length xs)) (le-ltb (find cs class d (d + length xs)) (d + length xs) (omega (arith, word-at)))
+            second-branch _ _ (ltb (find cs class d (d + length xs)) (d + length xs))
+            (le-ltb (find cs class d (d + length xs)) (d + length xs) (omega (arith, word-at)))
             ∙ ap (λ n. nowhere (d + n)) (sym ls-long)
             ∙ sym (second-branch _ _ (ltb (first-marked ls) (length ls)) (le-ltb (first-marked ls) (length ls) (omega (arith, ls-long))))
         go (found k a r m dr g) =
             let from : find cs class d (d + length xs) + cond two 2 1 ≡ d + k = omega (arith, word-at) in
             let first-good : stop (getD (drop k xs) 0 0) ≡ false = ap stop (getD-drop k xs 0 0 ∙ ap (λ i. getD xs i 0) (add-zero k)) ∙ g in
             let runs = run-from class two stop stop value nonzero (drop k xs) (omega (arith, length-drop k xs)) first-good first-good in
-            first-branch _ _ (ltb (find cs class d (d + length xs)) (d + length xs)) (lt-ltb (find cs class d (d + length xs)) (d + length xs) (omega (arith, word-at)))
+            first-branch _ _ (ltb (find cs class d (d + length xs)) (d + length xs))
+            (lt-ltb (find cs class d (d + length xs)) (d + length xs) (omega (arith, word-at)))
             ∙ ap (λ f. span f (first (λ (i : ℕ). stop (class-at cs i)) f (d + length xs))) from
             ∙ ap (span (d + k)) (stop-at k r ∙ ap (λ n. d + k + n) (sym runs ∙ ap (leading (λ (v : ℕ). not (is-none v))) (sym dr)))
             ∙ ap (λ f. span (d + f) (d + f + leading (λ (v : ℕ). not (is-none v)) (drop f ls))) (sym m)
@@ -212,11 +219,13 @@ module _ (class base : ℕ) (cs xs : List ℕ) (d : ℕ) (st : Stands cs d xs) w
       go : Sought class false never-bad at-once (word-value base) xs
           → cond (ltb (find cs class d (d + length xs)) (d + length xs)) (class-at cs (find cs class d (d + length xs) + 1) - base + 1) 0 ≡ first-mark words
       go (none a m) =
-          second-branch _ _ (ltb (find cs class d (d + length xs)) (d + length xs)) (le-ltb (find cs class d (d + length xs)) (d + length xs) (omega (arith, at)))
+          second-branch _ _ (ltb (find cs class d (d + length xs)) (d + length xs))
+          (le-ltb (find cs class d (d + length xs)) (d + length xs) (omega (arith, at)))
           ∙ sym (List·getD-eq-default words 0 {n = first-marked words} (omega (arith, long)))
       go (found k a r m dr g) =
           let behind-it : find cs class d (d + length xs) + 1 ≡ d + k = omega (arith, at) in
-          first-branch _ _ (ltb (find cs class d (d + length xs)) (d + length xs)) (lt-ltb (find cs class d (d + length xs)) (d + length xs) (omega (arith, at)))
+          first-branch _ _ (ltb (find cs class d (d + length xs)) (d + length xs))
+          (lt-ltb (find cs class d (d + length xs)) (d + length xs) (omega (arith, at)))
           ∙ ap (λ i. class-at cs i - base + 1) behind-it ∙ ap (word-value base) (st k r)
           ∙ sym (ap (λ l. getD (told class false never-bad at-once (word-value base) 2 l) 0 0) (drop-cons xs k 0 r))
           ∙ sym (ap (λ l. getD l 0 0) dr) ∙ getD-drop k words 0 0 ∙ ap (λ i. getD words i 0) (add-zero k ∙ sym m)
@@ -243,5 +252,7 @@ module _ (class : ℕ) where
       let long = outputs-long stays is-there 0 xs in
       let lead = there-leading 0 xs in
       answers (ltb (first-marked ls) (length ls))
-      (λ e. lt-ltb (find cs class d (d + length xs)) (d + length xs) (let l : first-marked ls < length ls = ltb-true (first-marked ls) (length ls) e in omega (arith, at, long, lead)) ∙ sym e)
-      (λ e. le-ltb (find cs class d (d + length xs)) (d + length xs) (let l : length ls ≤ first-marked ls = ltb-false (first-marked ls) (length ls) e in omega (arith, at, long, lead)) ∙ sym e)
+      (λ e. lt-ltb (find cs class d (d + length xs)) (d + length xs)
+      (let l : first-marked ls < length ls = ltb-true (first-marked ls) (length ls) e in omega (arith, at, long, lead)) ∙ sym e)
+      (λ e. le-ltb (find cs class d (d + length xs)) (d + length xs)
+      (let l : length ls ≤ first-marked ls = ltb-false (first-marked ls) (length ls) e in omega (arith, at, long, lead)) ∙ sym e)

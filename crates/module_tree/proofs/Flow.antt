@@ -116,7 +116,8 @@ module _ {S : Type 0} (same : S → S → Bool) (every : S) where
     has-every s [] h = h
     has-every s (x ∷ l) h =
         or-cases (same x every || same x every) (has every l) h
-        (λ p. or-left (same x s || same x every) (has s l) (or-right (same x s) (same x every) (or-cases (same x every) (same x every) p (λ q. q) (λ q. q))))
+        (λ p. or-left (same x s || same x every) (has s l)
+        (or-right (same x s) (same x every) (or-cases (same x every) (same x every) p (λ q. q) (λ q. q))))
         (λ p. or-right (same x s || same x every) (has s l) (has-every s l p))
 
     -- what one entry is, and what it leads to
@@ -188,11 +189,13 @@ module _ {S : Type 0} (same : S → S → Bool) (every : S) where
           go true e p = has-every (move s c v) (insert every (image move family c v l)) (insert-first every (image move family c v l))
           go false e p =
               let q : x ≡ s = sound x s (or-cases (same x s) (same x every) p (λ r. r) (λ r. absurd (rw e at r))) in
-              subst (λ y. T (has (move y c v) (insert (move x c v) (image move family c v l)))) q (insert-first (move x c v) (image move family c v l))
+              subst (λ y. T (has (move y c v) (insert (move x c v) (image move family c v l)))) q
+              (insert-first (move x c v) (image move family c v l))
 
       -- from a state of the list the machine ends in one of those computed
       abbrev Lands : Bool → Marked → Type 0
-      Lands left m = (v : ℕ) (l : List S) (t : Tree (unmarked m)) (s : S) → T (has s l) → T (has (run move left s (leaves family v m t)) (flow move family left m v l))
+      Lands left m = (v : ℕ) (l : List S) (t : Tree (unmarked m)) (s : S) → T (has s l) → T
+          (has (run move left s (leaves family v m t)) (flow move family left m v l))
 
       lands-none : (left : Bool) → Lands left nil
       lands-none true v l t s h = h
@@ -218,12 +221,14 @@ module _ {S : Type 0} (same : S → S → Bool) (every : S) where
 
       -- the steps keep to the closed list
       left-steps : (a b : Marked) → Lands true a → Lands true b → (v : ℕ) (l : List S) (t : Tree (unmarked (steps a b))) (s : S)
-          → T (has s (closed (flow move family true a v) l)) → T (has (from-left move s (leaves family v (steps a b) t)) (flow move family true b v (closed (flow move family true a v) l)))
+          → T (has s (closed (flow move family true a v) l))
+          → T (has (from-left move s (leaves family v (steps a b) t)) (flow move family true b v (closed (flow move family true a v) l)))
       left-steps a b f g v l (last t) s h = g v (closed (flow move family true a v) l) t s h
       left-steps a b f g v l (step t more) s h =
           rw (left-append move s (leaves family v a t) (leaves family v (steps a b) more))
           (left-steps a b f g v l more (from-left move s (leaves family v a t))
-          (closed-step (flow move family true a v) l (from-left move s (leaves family v a t)) (f v (closed (flow move family true a v) l) t s h)))
+          (closed-step (flow move family true a v) l (from-left move s (leaves family v a t))
+          (f v (closed (flow move family true a v) l) t s h)))
 
       right-steps : (a b : Marked) → Lands false a → Lands false b → (v : ℕ) (l : List S) (t : Tree (unmarked (steps a b))) (s : S)
           → T (has s l) → T (has (from-right move s (leaves family v (steps a b) t)) (closed (flow move family false a v) (flow move family false b v l)))

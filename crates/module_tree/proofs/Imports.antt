@@ -98,7 +98,8 @@ leading-append : (test : ℕ → Bool) (xs ys : List ℕ) → leading test xs �
 leading-append test [] ys e = omega arith
 leading-append test (x ∷ xs) ys e = go (test x) e (leading-append test xs ys)
   where
-    go : (b : Bool) → cond b (suc (leading test xs)) 0 ≡ suc (length xs) → (leading test xs ≡ length xs → leading test (xs ++ ys) ≡ length xs + leading test ys)
+    go : (b : Bool) → cond b (suc (leading test xs)) 0 ≡ suc (length xs)
+        → (leading test xs ≡ length xs → leading test (xs ++ ys) ≡ length xs + leading test ys)
         → cond b (suc (leading test (xs ++ ys))) 0 ≡ suc (length xs) + leading test ys
     go true k ih = let more = ih (omega arith) in omega arith
     go false k ih = absurd (omega arith)
@@ -134,7 +135,8 @@ module _ (cs : List ℕ) where
   abbrev from : ℕ → List (ℕ × ℕ)
   from d = map sourced (hits (is-import cs) d (length cs))
 
-  module _ (d : ℕ) (g : Tree (unmarked inside)) (st : Stands cs d (yield (unmarked inside) g)) (fresh : state d ≡ 0) (room : d + size inside g ≤ length cs) where
+  module _ (d : ℕ) (g : Tree (unmarked inside)) (st : Stands cs d (yield (unmarked inside) g)) (fresh : state d ≡ 0)
+      (room : d + size inside g ≤ length cs) where
     xs : List ℕ
     xs = yield (unmarked inside) g
 
@@ -155,7 +157,8 @@ module _ (cs : List ℕ) where
     long = size symbols (g .0)
 
     sizes : size inside g ≡ long + 2
-    sizes = length-append (yield (unmarked symbols) (g .0)) (yield (unmarked (word FROM then mark import grammar.source (plain Upper))) (g .1))
+    sizes = length-append (yield (unmarked symbols) (g .0))
+        (yield (unmarked (word FROM then mark import grammar.source (plain Upper))) (g .1))
 
     marks-split : marks import inside g ≡ marks import symbols (g .0) ++ 0 ∷ grammar.source ∷ []
     marks-split = map-append mark-of (leaves import 0 symbols (g .0)) _
@@ -164,25 +167,31 @@ module _ (cs : List ℕ) where
     source-at =
         let none = none-lead (leaves import 0 symbols (g .0)) (ended-among no-source import symbols (0 ∷ []) symbols-no-source (g .0)) in
         let n = marks-long import symbols (g .0) in
-        let lead = leading-append no-mark (marks import symbols (g .0)) (0 ∷ grammar.source ∷ []) (none ∙ sym (length-map (leaves import 0 symbols (g .0)) mark-of)) in
+        let lead = leading-append no-mark (marks import symbols (g .0)) (0 ∷ grammar.source ∷ [])
+        (none ∙ sym (length-map (leaves import 0 symbols (g .0)) mark-of)) in
         omega (arith, ap (leading no-mark) marks-split, lead, n)
 
     from-there : class-at cs (d + long) ≡ FROM
     from-there =
         along-first (class-at cs) (d + long) FROM (upper-name ∷ [])
-        (along-right (class-at cs) d (yield (unmarked symbols) (g .0)) (yield (unmarked (word FROM then mark import grammar.source (plain Upper))) (g .1)) st)
+        (along-right (class-at cs) d (yield (unmarked symbols) (g .0))
+        (yield (unmarked (word FROM then mark import grammar.source (plain Upper))) (g .1)) st)
 
     none-before : (j : ℕ) → j < long → eqb (class-at cs (d + j)) FROM ≡ false
     none-before j h =
-        ap (λ c. eqb c FROM) (along-left (class-at cs) d (yield (unmarked symbols) (g .0)) (yield (unmarked (word FROM then mark import grammar.source (plain Upper))) (g .1)) st j h)
+        ap (λ c. eqb c FROM)
+        (along-left (class-at cs) d (yield (unmarked symbols) (g .0))
+        (yield (unmarked (word FROM then mark import grammar.source (plain Upper))) (g .1)) st j h)
         ∙ never-there FROM symbols symbols-no-from (g .0) j h
 
     source-is : (j : ℕ) → j < long → source cs (d + j) ≡ d + leading no-mark (marks import inside g)
     unfolding source
     source-is j h =
         let at : find cs FROM (d + j) (length cs) ≡ d + long =
-        first-is (λ (i : ℕ). eqb (class-at cs i) FROM) (d + j) (length cs) (d + long) (omega arith) (omega (arith, sizes)) (eq-eqb (class-at cs (d + long)) FROM from-there)
-        (λ i l m. let on : d + (i - d) ≡ i = omega arith in subst (λ x. eqb (class-at cs x) FROM ≡ false) on (none-before (i - d) (omega arith))) in
+        first-is (λ (i : ℕ). eqb (class-at cs i) FROM) (d + j) (length cs) (d + long) (omega arith) (omega (arith, sizes))
+        (eq-eqb (class-at cs (d + long)) FROM from-there)
+        (λ i l m. let on : d + (i - d) ≡ i = omega arith in subst (λ x. eqb (class-at cs x) FROM ≡ false) on
+        (none-before (i - d) (omega arith))) in
         omega (arith, at, source-at)
 
     -- a token with the mark of a symbol is one of the symbols
@@ -213,7 +222,8 @@ module _ (cs : List ℕ) where
         (λ j h. within j (omega (arith, n)) ∙ symbol-out (d + j) ∙ ap (λ v. eqb v symbol) (marked-at j (omega (arith, n)))))
         ∙ map-append sourced (places symbol d vs) (hits (is-import cs) (d + length vs) (length cs))
         ∙ ap₂ (λ x y. x ++ y)
-        (map-places sourced (λ i. (i, d + leading no-mark vs)) symbol vs d (λ j h e. ap (λ s. (d + j, s)) (source-is j (symbol-inside j (omega (arith, n)) e))))
+        (map-places sourced (λ i. (i, d + leading no-mark vs)) symbol vs d
+        (λ j h e. ap (λ s. (d + j, s)) (source-is j (symbol-inside j (omega (arith, n)) e))))
         (ap (λ i. from (d + i)) n)
 
 -- ---- where imports can stand
@@ -282,7 +292,8 @@ module _ (rest : Marked) where
     groups-stand : Stands cs 5 (yield (unmarked import-group) g ++ ((yield (unmarked (many import-group)) gs ++ semicolon ∷ []) ++ yield (unmarked rest) w))
     groups-stand =
         subst (λ l. Stands cs 5 l)
-        (append-assoc (yield (unmarked import-group) g) (yield (unmarked (many import-group)) gs ++ semicolon ∷ []) (yield (unmarked rest) w))
+        (append-assoc (yield (unmarked import-group) g) (yield (unmarked (many import-group)) gs ++ semicolon ∷ [])
+        (yield (unmarked rest) w))
         (along-drop (class-at cs) 0 5 cs (stands-all cs))
 
     more-stand : Stands cs (5 + size import-group g) (yield (unmarked (many import-group)) gs ++ (semicolon ∷ yield (unmarked rest) w))
@@ -305,17 +316,20 @@ module _ (rest : Marked) where
             let on : 5 + size import-group g + j ≡ i = omega arith in
             ap (λ j. eqb (class-at cs j) semicolon) (sym on)
             ∙ ap (λ c. eqb c semicolon)
-            (along-left (class-at cs) (5 + size import-group g) (yield (unmarked (many import-group)) gs) (semicolon ∷ yield (unmarked rest) w) more-stand j (omega arith))
+            (along-left (class-at cs) (5 + size import-group g) (yield (unmarked (many import-group)) gs)
+            (semicolon ∷ yield (unmarked rest) w) more-stand j (omega arith))
             ∙ never-there semicolon (many import-group) groups-no-end gs j (omega arith)
 
     pub end-there : class-at cs end ≡ semicolon
     end-there =
         along-first (class-at cs) end semicolon (yield (unmarked rest) w)
-        (along-right (class-at cs) (5 + size import-group g) (yield (unmarked (many import-group)) gs) (semicolon ∷ yield (unmarked rest) w) more-stand)
+        (along-right (class-at cs) (5 + size import-group g) (yield (unmarked (many import-group)) gs)
+        (semicolon ∷ yield (unmarked rest) w) more-stand)
 
     text-long : length cs ≡ end + 1 + size rest w
     text-long =
-        let a = length-append (yield (unmarked import-group) g ++ (yield (unmarked (many import-group)) gs ++ semicolon ∷ [])) (yield (unmarked rest) w) in
+        let a = length-append (yield (unmarked import-group) g ++ (yield (unmarked (many import-group)) gs ++ semicolon ∷ []))
+        (yield (unmarked rest) w) in
         let b = length-append (yield (unmarked import-group) g) (yield (unmarked (many import-group)) gs ++ semicolon ∷ []) in
         let c = length-append (yield (unmarked (many import-group)) gs) (semicolon ∷ []) in
         omega (arith, a, b, c)
@@ -323,11 +337,14 @@ module _ (rest : Marked) where
     pub end-is : imports-end cs ≡ end
     unfolding imports-end
     end-is =
-        first-is (λ (i : ℕ). eqb (class-at cs i) semicolon) 5 (length cs) end (omega arith) (omega (arith, text-long)) (eq-eqb (class-at cs end) semicolon end-there) no-end
+        first-is (λ (i : ℕ). eqb (class-at cs i) semicolon) 5 (length cs) end (omega arith) (omega (arith, text-long))
+        (eq-eqb (class-at cs end) semicolon end-there) no-end
 
     -- the groups behind the first
-    rows : (d : ℕ) (more : Tree (unmarked (many import-group))) → Stands cs d (yield (unmarked (many import-group)) more) → state cs d ≡ 0 → 5 ≤ d
-        → d + size (many import-group) more ≡ end → from cs d ≡ in-a-row (parts group imports-of-part (many import-group) d more) ++ from cs end
+    rows : (d : ℕ) (more : Tree (unmarked (many import-group))) → Stands cs d (yield (unmarked (many import-group)) more) → state cs d ≡ 0
+        → 5 ≤ d
+        → d + size (many import-group) more ≡ end
+        → from cs d ≡ in-a-row (parts group imports-of-part (many import-group) d more) ++ from cs end
     rows d (last t) st fresh l e = ap (from cs) (sym (add-zero d) ∙ e)
     rows d (step s more) st fresh l e =
         let both = length-append (yield (unmarked import-group) s) (yield (unmarked (many import-group)) more) in
@@ -336,14 +353,17 @@ module _ (rest : Marked) where
         let room : d + size import-group s ≤ length cs = omega (arith, text-long, both) in
         group-row cs d s here fresh room (λ j h. inside-imports cs (d + j) (omega arith) (omega (arith, end-is, both)))
         ∙ ap (λ x. imports-of-part 1 inside d s ++ x)
-        (rows (d + size import-group s) more (along-right (class-at cs) d (yield (unmarked import-group) s) (yield (unmarked (many import-group)) more) st)
+        (rows (d + size import-group s) more
+        (along-right (class-at cs) d (yield (unmarked import-group) s) (yield (unmarked (many import-group)) more) st)
         (fresh-after cs d s here fresh room) (omega arith) (omega (arith, both)))
-        ∙ sym (append-assoc (imports-of-part 1 inside d s) (in-a-row (parts group imports-of-part (many import-group) (d + size import-group s) more)) (from cs end))
+        ∙ sym (append-assoc (imports-of-part 1 inside d s)
+        (in-a-row (parts group imports-of-part (many import-group) (d + size import-group s) more)) (from cs end))
 
     none-behind : from cs end ≡ []
     none-behind =
         ap (map (sourced cs))
-        (hits-skip (is-import cs) (length cs - end) end (length cs) (omega (arith, text-long)) (λ i l h. after-imports cs i (omega (arith, end-is)))
+        (hits-skip (is-import cs) (length cs - end) end (length cs) (omega (arith, text-long))
+        (λ i l h. after-imports cs i (omega (arith, end-is)))
         ∙ hits-none (is-import cs) (end + (length cs - end)) (length cs) (omega (arith, text-long)))
 
     all-imports : from cs 0 ≡ in-a-row (parts group imports-of-part imports 4 (inr (tt, (g, (gs, tt)))))
@@ -356,9 +376,11 @@ module _ (rest : Marked) where
         ∙ group-row cs 5 g here refl room (λ j h. inside-imports cs (5 + j) (omega arith) (omega (arith, end-is)))
         ∙ ap (λ x. imports-of-part 1 inside 5 g ++ x)
         (rows (5 + size import-group g) gs
-        (along-left (class-at cs) (5 + size import-group g) (yield (unmarked (many import-group)) gs) (semicolon ∷ yield (unmarked rest) w) more-stand)
+        (along-left (class-at cs) (5 + size import-group g) (yield (unmarked (many import-group)) gs)
+        (semicolon ∷ yield (unmarked rest) w) more-stand)
         (fresh-after cs 5 g here refl room) (omega arith) refl
-        ∙ ap (λ x. l ++ x) none-behind ∙ append-nil l ∙ sym (ap in-a-row (append-nil (parts group imports-of-part (many import-group) (5 + size import-group g) gs))))
+        ∙ ap (λ x. l ++ x) none-behind ∙ append-nil l
+        ∙ sym (ap in-a-row (append-nil (parts group imports-of-part (many import-group) (5 + size import-group g) gs))))
 
   -- both cases
   either-way : (i : Tree (unmarked imports)) (w : Tree (unmarked rest)) → 0 < start-at (text i w) (4 + size imports i)
@@ -371,11 +393,15 @@ module _ (rest : Marked) where
 definitions-import-none : T (without group definitions)
 definitions-import-none = tt
 
-pub module-imports : (t : Tree (unmarked module-tree)) → imports-in (yield (unmarked module-tree) t) ≡ in-a-row (parts group imports-of-part module-tree 0 t)
+pub module-imports : (t : Tree (unmarked module-tree))
+    → imports-in (yield (unmarked module-tree) t) ≡ in-a-row (parts group imports-of-part module-tree 0 t)
 unfolding module-tree
 module-imports t =
     let i = t .1 .1 .1 .1 .0 in
     let w = t .1 .1 .1 .1 .1 in
     let l = parts group imports-of-part imports 4 i in
-    either-way definitions i w (opens-there imports identity def imports-quiet imports-bare identity-passes def-passes (yield (unmarked module-tree) t) t (whole t) refl)
-    ∙ sym (ap in-a-row (ap (λ x. l ++ x) (no-parts group imports-of-part definitions definitions-import-none (4 + size imports i) w) ∙ append-nil l))
+    either-way definitions i w
+    (opens-there imports identity def imports-quiet imports-bare identity-passes def-passes (yield (unmarked module-tree) t) t
+    (whole t) refl)
+    ∙ sym (ap in-a-row (ap (λ x. l ++ x) (no-parts group imports-of-part definitions definitions-import-none (4 + size imports i) w)
+    ∙ append-nil l))

@@ -53,7 +53,8 @@ first-leading test cs (x ∷ xs) d st = go (test x) refl (first-leading test cs 
     here : test (class-at cs d) ≡ test x
     here = ap test (along-first (class-at cs) d x xs st)
 
-    go : (b : Bool) → test x ≡ b → first (λ (i : ℕ). test (class-at cs i)) (suc d) (suc d + length xs) ≡ suc d + leading (λ (c : ℕ). not (test c)) xs
+    go : (b : Bool) → test x ≡ b
+        → first (λ (i : ℕ). test (class-at cs i)) (suc d) (suc d + length xs) ≡ suc d + leading (λ (c : ℕ). not (test c)) xs
         → first (λ (i : ℕ). test (class-at cs i)) d (d + suc (length xs)) ≡ d + cond (not b) (suc (leading (λ (c : ℕ). not (test c)) xs)) 0
     go true e ih = first-hit (λ (i : ℕ). test (class-at cs i)) d (d + suc (length xs)) (omega arith) (here ∙ e) ∙ omega arith
     go false e ih =

@@ -63,13 +63,16 @@ module _ (m : Marked) (t : Tree (unmarked m)) (cs : List ℕ) (d : ℕ) (st : St
       (ends-in (next class two stop stop value) (out class two stop stop value) family complete m p t)
       ∙ ap (marked-span d) (marks-are (next class two stop stop value) (out class two stop stop value) family complete m p t)
 
-  word-law : (class base family : ℕ) → T (words class base family m) → word-after cs class base d (d + size m t) ≡ first-mark (marks family m t)
+  word-law : (class base family : ℕ) → T (words class base family m)
+      → word-after cs class base d (d + size m t) ≡ first-mark (marks family m t)
   word-law class base family p =
       let n = next class false never-bad at-once (word-value base) in
       let o = out class false never-bad at-once (word-value base) in
-      word-told class base cs (yield (unmarked m) t) d st (ends-in n o family complete m p t) ∙ ap first-mark (marks-are n o family complete m p t)
+      word-told class base cs (yield (unmarked m) t) d st (ends-in n o family complete m p t)
+      ∙ ap first-mark (marks-are n o family complete m p t)
 
-  there-law : (class family : ℕ) → T (there class family m) → ltb (find cs class d (d + size m t)) (d + size m t) ≡ some-marked (marks family m t)
+  there-law : (class family : ℕ) → T (there class family m)
+      → ltb (find cs class d (d + size m t)) (d + size m t) ≡ some-marked (marks family m t)
   there-law class family p =
       there-told class cs (yield (unmarked m) t) d st ∙ ap some-marked (marks-are stays (is-there class) family (0 ∷ []) m p t)
 
@@ -129,7 +132,8 @@ pass-at [] i h = tt
 pass-at (b ∷ bs) zero h = and-left b (all-pass bs) h
 pass-at (b ∷ bs) (suc i) h = pass-at bs i (and-right b (all-pass bs) h)
 
-module _ (k : ℕ) (m : Marked) (p : T (line-passes k m)) (t : Tree (unmarked m)) (cs : List ℕ) (d : ℕ) (st : Stands cs d (yield (unmarked m) t)) where
+module _ (k : ℕ) (m : Marked) (p : T (line-passes k m)) (t : Tree (unmarked m)) (cs : List ℕ) (d : ℕ)
+    (st : Stands cs d (yield (unmarked m) t)) where
   -- a field that definitions of some kinds have
   if-law : (b : Bool) (class : ℕ) (value : ℕ → ℕ) (nonzero : (c : ℕ) → is-none (value c) ≡ false) (family : ℕ)
       → T (if-of b (spans class true closing value family m) family m)
@@ -172,7 +176,8 @@ module _ (k : ℕ) (m : Marked) (p : T (line-passes k m)) (t : Tree (unmarked m)
       none-marked e [] = refl
       none-marked e (x ∷ xs) = none-marked (suc e) xs
 
-      go : (b : Bool) → T (if-of b (spans assign true closing oid-value oid m) oid m) → oid-numbers cs (marked-span d (marks oid m t)) ≡ places own-number d (marks oid m t)
+      go : (b : Bool) → T (if-of b (spans assign true closing oid-value oid m) oid m)
+          → oid-numbers cs (marked-span d (marks oid m t)) ≡ places own-number d (marks oid m t)
       go true q =
           let n = next assign true closing closing oid-value in
           let o = out assign true closing closing oid-value in
@@ -231,7 +236,8 @@ module _ (k : ℕ) (m : Marked) (p : T (line-passes k m)) (t : Tree (unmarked m)
       q : T (numbered m)
       q = rw e at (pass-at (tests k m) 11 p)
 
-      go : (n : ℕ) (ps : List (ℕ × ℕ)) → T (among (from-left meets 0 ps) (1 ∷ [])) → 0 < length (places own-number n (map (λ (x : ℕ × ℕ). x .1) ps))
+      go : (n : ℕ) (ps : List (ℕ × ℕ)) → T (among (from-left meets 0 ps) (1 ∷ []))
+          → 0 < length (places own-number n (map (λ (x : ℕ × ℕ). x .1) ps))
       go n [] h = absurd h
       go n (x ∷ ps) h = at (eqb (x .1) own-number) h (go (suc n) ps)
         where

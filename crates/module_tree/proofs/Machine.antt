@@ -30,7 +30,8 @@ module _ (family : ℕ) where
   classed-steps : (a b : Marked) → Classed a → Classed b → Classed (steps a b)
   classed-steps a b f g v (last t) = g v t
   classed-steps a b f g v (step t more) =
-      map-append class-of (leaves family v a t) (leaves family v (steps a b) more) ∙ ap₂ (λ x y. x ++ y) (f v t) (classed-steps a b f g v more)
+      map-append class-of (leaves family v a t) (leaves family v (steps a b) more)
+      ∙ ap₂ (λ x y. x ++ y) (f v t) (classed-steps a b f g v more)
 
   pub classed : (m : Marked) → Classed m
   classed nothing = λ v t. absurd t

@@ -109,7 +109,8 @@ module _ (cs : List ℕ) where
       let one : suc i - 1 ≡ i = omega arith in
       let two : suc i - 2 ≡ i - 1 = omega arith in
       rw (one, two)
-      (ap₂ (λ x y. eqb c OF ∷ eqb c SYNTAX ∷ eqb (class-at cs (i - 1)) OBJECT-TYPE ∷ eqb c OBJECT-TYPE ∷ is-lower c ∷ eqb c left-brace ∷ lists-objects c ∷ eqb c assign ∷ x ∷ y ∷ [])
+      (ap₂ (λ x y. eqb c OF ∷ eqb c SYNTAX ∷ eqb
+      (class-at cs (i - 1)) OBJECT-TYPE ∷ eqb c OBJECT-TYPE ∷ is-lower c ∷ eqb c left-brace ∷ lists-objects c ∷ eqb c assign ∷ x ∷ y ∷ [])
       (push lists-objects (eqb c left-brace) (eqb c right-brace) (class-at cs (i - 1)) (enclosing cs i) no-list)
       (push (λ x. eqb x assign) (eqb c left-brace) (eqb c right-brace) (class-at cs (i - 1)) (enclosing cs i) refl))
 
@@ -151,7 +152,8 @@ module _ (cs : List ℕ) where
   needs-row [] d b e same = ap (map with-need) (hits-none needed d b (omega arith))
   needs-row (v ∷ vs) d b e same =
       go (is-none v) refl
-      (needs-row vs (suc d) b (omega arith) (λ j l. let on : suc d + j ≡ d + suc j = omega arith in ap (λ i. need-number (need-at cs i)) on ∙ same (suc j) (omega arith)))
+      (needs-row vs (suc d) b (omega arith)
+      (λ j l. let on : suc d + j ≡ d + suc j = omega arith in ap (λ i. need-number (need-at cs i)) on ∙ same (suc j) (omega arith)))
     where
       here : need-number (need-at cs d) ≡ v
       here = ap (λ i. need-number (need-at cs i)) (sym (add-zero d)) ∙ same 0 (omega arith)
@@ -208,7 +210,8 @@ first-of w =
     go [] h = absurd h
     go (p ∷ ps) h = at (is-none (p .1)) refl h
       where
-        at : (b : Bool) → is-none (p .1) ≡ b → T (among (from-left first-bare (cond b 1 2) ps) (1 ∷ [])) → (0 < suc (length ps)) × (p .1 ≡ 0)
+        at : (b : Bool) → is-none (p .1) ≡ b → T (among (from-left first-bare (cond b 1 2) ps) (1 ∷ []))
+            → (0 < suc (length ps)) × (p .1 ≡ 0)
         at true e k = (omega arith, eqb-true (p .1) 0 e)
         at false e k = absurd (subst (λ s. T (among s (1 ∷ []))) (stays-two ps) k)
 
@@ -240,14 +243,16 @@ module _ (i : Tree (unmarked imports)) (w : Tree (unmarked definitions)) where
       ∙ ap (λ s. after next out s (yield (unmarked imports) i)) (sym blank-there)
       ∙ watched-after next out (class-at cs) (state cs) (moves cs) (yield (unmarked imports) i) 4
       (along-left (class-at cs) 4 (yield (unmarked imports) i) (yield (unmarked definitions) w) behind-heading))
-      (arrives same-answers every-state answers-self answers-equal (unchecked next out) used true imports 0 (blank ∷ []) (blank ∷ []) imports-blank i blank tt)
+      (arrives same-answers every-state answers-self answers-equal (unchecked next out) used true imports 0 (blank ∷ [])
+      (blank ∷ []) imports-blank i blank tt)
 
   need-marked : (j : ℕ) → j < size definitions w → need-number (need-at cs (from + j)) ≡ getD (marks used definitions w) j 0
   need-marked j h =
       need-is cs (from + j)
       ∙ sym (watched-outputs next out (class-at cs) (state cs) (moves cs) (yield (unmarked definitions) w) from definitions-stand j h)
       ∙ ap (λ l. getD l j 0)
-      (reads-left next out same-answers every-state dead-state answers-self answers-equal used 0 definitions (blank ∷ []) (blank ∷ []) w (state cs from) shown-there tested .0)
+      (reads-left next out same-answers every-state dead-state answers-self answers-equal used 0 definitions (blank ∷ []) (blank ∷ []) w
+      (state cs from) shown-there tested .0)
 
   needs-from : map (with-need cs) (hits (needed cs) from (length cs)) ≡ map (decoded cs) (numbered from (marks used definitions w))
   needs-from =
@@ -259,7 +264,8 @@ module _ (i : Tree (unmarked imports)) (w : Tree (unmarked definitions)) where
   uses-from =
       ap (numbered 4) (map-append mark-of (leaves used 0 imports i) (leaves used 0 definitions w))
       ∙ numbered-append 4 (marks used imports i) (marks used definitions w)
-      ∙ ap (λ l. l ++ numbered (4 + length (marks used imports i)) (marks used definitions w)) (numbered-none 4 (marks used imports i) (unmarked-part used imports imports-unused i))
+      ∙ ap (λ l. l ++ numbered (4 + length (marks used imports i)) (marks used definitions w))
+      (numbered-none 4 (marks used imports i) (unmarked-part used imports imports-unused i))
       ∙ ap (λ n. numbered (4 + n) (marks used definitions w)) (marks-long used imports i)
 
 -- at `;` no name is needed
@@ -287,7 +293,8 @@ gap (inr x) w opens =
     let b = length-append (yield (unmarked (many import-group)) gs) (semicolon ∷ []) in
     let on : suc e ≡ from (inr x) w = omega (arith, a, b) in
     ap (λ n. hits (needed l) n (length l)) (end-is definitions g gs w)
-    ∙ hits-miss (needed l) e (length l) (omega (arith, text-long (inr x) w, on, first-of w .0)) (ap is-needed (no-need l e (end-there definitions g gs w)))
+    ∙ hits-miss (needed l) e (length l) (omega (arith, text-long (inr x) w, on, first-of w .0))
+    (ap is-needed (no-need l e (end-there definitions g gs w)))
     ∙ ap (λ n. hits (needed l) n (length l)) on
 
 -- ---- the module of the grammar
@@ -298,5 +305,6 @@ module-needs t =
     let i = t .1 .1 .1 .1 .0 in
     let w = t .1 .1 .1 .1 .1 in
     ap (map (with-need (cs i w)))
-    (gap i w (opens-there imports identity def imports-quiet imports-bare identity-passes def-passes (yield (unmarked module-tree) t) t (whole t) refl))
+    (gap i w (opens-there imports identity def imports-quiet imports-bare identity-passes def-passes (yield (unmarked module-tree) t) t
+    (whole t) refl))
     ∙ needs-from i w ∙ ap (map (decoded (cs i w))) (sym (uses-from i w))

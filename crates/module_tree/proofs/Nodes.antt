@@ -70,7 +70,8 @@ module _ (cs : List ℕ) where
           let on : suc d + (size m t - 1) ≡ d + size m t = omega arith in
           hits-hit (begins cs) d (landmark.last cs) (omega arith) (node .begun)
           ∙ ap (λ l. d ∷ l)
-          (hits-skip (begins cs) (size m t - 1) (suc d) (landmark.last cs) (omega arith) (λ i l h. none-starts cs i (none-later i (omega arith) (omega arith)) .0)
+          (hits-skip (begins cs) (size m t - 1) (suc d) (landmark.last cs) (omega arith)
+          (λ i l h. none-starts cs i (none-later i (omega arith) (omega arith)) .0)
           ∙ ap (λ i. hits (begins cs) i (landmark.last cs)) on)
 
   -- What is made of a token is what is made of the definition of the tree that starts there.
@@ -90,7 +91,8 @@ module _ (cs : List ℕ) where
     line-row : (k : ℕ) (m : Marked) → T (line-passes k m) → Rows (mark definition k m)
     line-row k m p d t at inside closed = record {
       opens = some-start k m p d t place;
-      row = ap (map f) (next-hits k m p d t place inside closed) ∙ ap (λ x. x ∷ from (d + size m t)) (agree k m d t (node k m p d t place inside closed));
+      row = ap (map f) (next-hits k m p d t place inside closed)
+          ∙ ap (λ x. x ∷ from (d + size m t)) (agree k m d t (node k m p d t place inside closed));
     }
       where
         place : At cs m d t
@@ -132,6 +134,8 @@ module _ (cs : List ℕ) where
         record {
           opens = one .opens;
           row =
-              one .row ∙ ap (λ l. parts definition make m d s ++ l) (rest .row ∙ ap (λ i. parts definition make (many m) (d + size m s) more ++ from i) (sym on))
-              ∙ sym (append-assoc (parts definition make m d s) (parts definition make (many m) (d + size m s) more) (from (d + size (many m) (step s more))));
+              one .row ∙ ap (λ l. parts definition make m d s ++ l)
+              (rest .row ∙ ap (λ i. parts definition make (many m) (d + size m s) more ++ from i) (sym on))
+              ∙ sym (append-assoc (parts definition make m d s) (parts definition make (many m) (d + size m s) more)
+              (from (d + size (many m) (step s more))));
         }

@@ -70,7 +70,8 @@ module _ (cs : List ℕ) where
       rest : ℕ
       rest = leading (λ (c : ℕ). not (closing c)) xs
 
-      go : (b : Bool) → closing x ≡ b → (n : Bool) → eqb x number ≡ n → hits is-number (suc q) (suc q + rest) ≡ places own-number (suc q) (numbers-told 3 xs)
+      go : (b : Bool) → closing x ≡ b → (n : Bool) → eqb x number ≡ n
+          → hits is-number (suc q) (suc q + rest) ≡ places own-number (suc q) (numbers-told 3 xs)
           → hits is-number q (q + leading (λ (c : ℕ). not (closing c)) (x ∷ xs)) ≡ places own-number q (numbers-told 3 (x ∷ xs))
       go true e n f ih = rw e (hits-none is-number q (q + 0) (omega arith) ∙ sym (none-behind (suc q) xs))
       go false e true f ih =
@@ -109,8 +110,10 @@ module _ (cs : List ℕ) where
           ∙ hits-none is-number (d + length ls) (d + length ls) (omega arith)
           ∙ sym (places-skip d ls ∙ ap (places own-number (d + first-marked ls)) (ap (λ n. drop n ls) (m ∙ sym long) ∙ drop-length ls))
       go (found k a r m dr g) =
-          let first-good : closing (getD (drop k xs) 0 0) ≡ false = ap closing (getD-drop k xs 0 0 ∙ ap (λ i. getD xs i 0) (add-zero k)) ∙ g in
-          let runs = run-from assign true closing closing oid-value oid-nonzero (drop k xs) (omega (arith, length-drop k xs)) first-good first-good in
+          let first-good : closing (getD (drop k xs) 0 0) ≡ false = ap closing (getD-drop k xs 0 0 ∙ ap (λ i. getD xs i 0) (add-zero k))
+          ∙ g in
+          let runs = run-from assign true closing closing oid-value oid-nonzero (drop k xs)
+          (omega (arith, length-drop k xs)) first-good first-good in
           ap between (first-branch _ _ (some-marked ls) (lt-ltb (first-marked ls) (length ls) (omega (arith, long)))
           ∙ ap (λ f. span (d + f) (d + f + leading (λ (v : ℕ). not (is-none v)) (drop f ls))) m)
           ∙ ap (λ n. hits is-number (d + k) (d + k + n)) (ap (leading (λ (v : ℕ). not (is-none v))) dr ∙ runs)

@@ -44,9 +44,12 @@ module _ {X : Type 0} (family : ℕ) (make : ℕ → (m : Marked) → ℕ → Tr
       let g = no-parts b (and-right (without family a) (without family b) p) in
       λ d t. ap₂ (λ x y. x ++ y) (f d (t .0)) (g (d + size a (t .0)) (t .1))
   no-parts (a either b) p =
-      either-empty a b (no-parts a (and-left (without family a) (without family b) p)) (no-parts b (and-right (without family a) (without family b) p))
+      either-empty a b (no-parts a (and-left (without family a) (without family b) p))
+      (no-parts b (and-right (without family a) (without family b) p))
   no-parts (steps a b) p =
-      steps-empty a b (no-parts a (and-left (without family a) (without family b) p)) (no-parts b (and-right (without family a) (without family b) p))
+      steps-empty a b (no-parts a (and-left (without family a) (without family b) p))
+      (no-parts b (and-right (without family a) (without family b) p))
   no-parts (mark f number a) p =
       let g = no-parts a (and-right (not (eqb f family)) (without family a) p) in
-      λ d t. mark-empty (eqb f family) (and-left (not (eqb f family)) (without family a) p) (make number a d t ∷ []) (parts family make a d t) (g d t)
+      λ d t. mark-empty (eqb f family) (and-left (not (eqb f family)) (without family a) p) (make number a d t ∷ [])
+      (parts family make a d t) (g d t)

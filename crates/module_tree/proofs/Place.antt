@@ -54,7 +54,8 @@ module _ (cs : List ℕ) (a b : Marked) (d : ℕ) where
   at-right t p = record {
     classes = along-right (class-at cs) d (yield (unmarked a) (t .0)) (yield (unmarked b) (t .1)) (p .classes);
     starts =
-        marks-right (start-at cs) d (leaves start 0 a (t .0)) (leaves start 0 b (t .1)) (p .starts) (size a (t .0)) (leaves-long start 0 a (t .0));
+        marks-right (start-at cs) d (leaves start 0 a (t .0)) (leaves start 0 b (t .1)) (p .starts) (size a (t .0))
+        (leaves-long start 0 a (t .0));
   }
 
   -- a step of a repeated part, and the rest
@@ -69,7 +70,8 @@ module _ (cs : List ℕ) (a b : Marked) (d : ℕ) where
     at-more = record {
       classes = along-right (class-at cs) d (yield (unmarked a) s) (yield (unmarked (steps a b)) more) (p .classes);
       starts =
-          marks-right (start-at cs) d (leaves start 0 a s) (leaves start 0 (steps a b) more) (p .starts) (size a s) (leaves-long start 0 a s);
+          marks-right (start-at cs) d (leaves start 0 a s) (leaves start 0 (steps a b) more) (p .starts) (size a s)
+          (leaves-long start 0 a s);
     }
 
 -- ---- what starts at a token
@@ -103,7 +105,8 @@ module _ (cs : List ℕ) (i : ℕ) where
   unfolding closes
   some-closes = go (begins cs i) refl (eqb (class-at cs i) END) refl
     where
-      go : (b : Bool) → begins cs i ≡ b → (e : Bool) → eqb (class-at cs i) END ≡ e → 0 < cond b (kind-at cs i) (cond e the-end 0) → closes cs i ≡ true
+      go : (b : Bool) → begins cs i ≡ b → (e : Bool) → eqb (class-at cs i) END ≡ e → 0 < cond b (kind-at cs i) (cond e the-end 0)
+          → closes cs i ≡ true
       go b p true q z = rw q
       go true p false q z = rw (q, p)
       go false p false q z = absurd (omega arith)
@@ -111,7 +114,8 @@ module _ (cs : List ℕ) (i : ℕ) where
   pub kind-starts : (k : ℕ) → start-at cs i ≡ k → 0 < k → k < the-end → (begins cs i ≡ true) × (kind-at cs i ≡ k)
   kind-starts k is some few = go (begins cs i) refl (eqb (class-at cs i) END) is
     where
-      go : (b : Bool) → begins cs i ≡ b → (e : Bool) → cond b (kind-at cs i) (cond e the-end 0) ≡ k → (begins cs i ≡ true) × (kind-at cs i ≡ k)
+      go : (b : Bool) → begins cs i ≡ b → (e : Bool) → cond b (kind-at cs i) (cond e the-end 0) ≡ k
+          → (begins cs i ≡ true) × (kind-at cs i ≡ k)
       go true p e z = (p, z)
       go false p true z = absurd (omega arith)
       go false p false z = absurd (omega arith)
@@ -129,7 +133,8 @@ ends-there cs d e l m none there = go (decLt e (last cs))
         rw same (first-end (closes cs) (d + 1) (last cs) (omega arith) (λ i p q. none i (omega arith) (omega arith)))
 
 -- tokens at which the test fails are passed
-pub hits-skip : (test : ℕ → Bool) (n a b : ℕ) → a + n ≤ b → ((i : ℕ) → a ≤ i → i < a + n → test i ≡ false) → hits test a b ≡ hits test (a + n) b
+pub hits-skip : (test : ℕ → Bool) (n a b : ℕ) → a + n ≤ b → ((i : ℕ) → a ≤ i → i < a + n → test i ≡ false)
+    → hits test a b ≡ hits test (a + n) b
 hits-skip test zero a b l none = ap (λ i. hits test i b) (omega arith)
 hits-skip test (suc n) a b l none =
     let on : suc a + n ≡ a + suc n = omega arith in

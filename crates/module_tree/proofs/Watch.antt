@@ -21,7 +21,8 @@ use Rattle.module_tree.proofs.Field.{is-there}
 use Rattle.module_tree.proofs.Line.{there}
 use Rattle.module_tree.proofs.Counted.{marks-are, stays, absent, unmarked-part}
 
-module _ {S : Type 0} (next : S → ℕ → S) (out : S → ℕ → ℕ) (f : ℕ → ℕ) (state : ℕ → S) (moves : (i : ℕ) → state (suc i) ≡ next (state i) (f i)) where
+module _ {S : Type 0} (next : S → ℕ → S) (out : S → ℕ → ℕ) (f : ℕ → ℕ) (state : ℕ → S)
+    (moves : (i : ℕ) → state (suc i) ≡ next (state i) (f i)) where
   stepped : (x : ℕ) (xs : List ℕ) (i : ℕ) → Along f i (x ∷ xs) → next (state i) x ≡ state (suc i)
   stepped x xs i along = ap (next (state i)) (sym (along-first f i x xs along)) ∙ sym (moves i)
 
@@ -45,12 +46,14 @@ module _ {S : Type 0} (next : S → ℕ → S) (out : S → ℕ → ℕ) (f : �
 abbrev pub avoids : (class : ℕ) → Marked → Bool
 avoids class m = there class 0 m && absent 0 m
 
-there-at : (class : ℕ) (xs : List ℕ) (j : ℕ) → j < length xs → getD (outputs stays (is-there class) 0 xs) j 0 ≡ cond (eqb (getD xs j 0) class) 1 0
+there-at : (class : ℕ) (xs : List ℕ) (j : ℕ) → j < length xs
+    → getD (outputs stays (is-there class) 0 xs) j 0 ≡ cond (eqb (getD xs j 0) class) 1 0
 there-at class [] j h = absurd (omega arith)
 there-at class (x ∷ xs) zero h = refl
 there-at class (x ∷ xs) (suc j) h = there-at class xs j (omega arith)
 
-pub never-there : (class : ℕ) (m : Marked) → T (avoids class m) → (t : Tree (unmarked m)) (j : ℕ) → j < size m t → eqb (getD (yield (unmarked m) t) j 0) class ≡ false
+pub never-there : (class : ℕ) (m : Marked) → T (avoids class m) → (t : Tree (unmarked m)) (j : ℕ) → j < size m t
+    → eqb (getD (yield (unmarked m) t) j 0) class ≡ false
 never-there class m p t j h =
     go (eqb (getD (yield (unmarked m) t) j 0) class)
     (sym (there-at class (yield (unmarked m) t) j h)
@@ -62,12 +65,14 @@ never-there class m p t j h =
     go false e = refl
 
 -- ---- the tokens where a test holds are those with a mark
-pub hits-places : (test : ℕ → Bool) (v b : ℕ) (vs : List ℕ) (d : ℕ) → d + length vs ≤ b → ((j : ℕ) → j < length vs → test (d + j) ≡ eqb (getD vs j 0) v)
+pub hits-places : (test : ℕ → Bool) (v b : ℕ) (vs : List ℕ) (d : ℕ) → d + length vs ≤ b
+    → ((j : ℕ) → j < length vs → test (d + j) ≡ eqb (getD vs j 0) v)
     → hits test d b ≡ places v d vs ++ hits test (d + length vs) b
 hits-places test v b [] d h same = ap (λ i. hits test i b) (sym (add-zero d))
 hits-places test v b (w ∷ ws) d h same =
     go (eqb w v) refl
-    (hits-places test v b ws (suc d) (omega arith) (λ j l. let on : suc d + j ≡ d + suc j = omega arith in ap test on ∙ same (suc j) (omega arith)))
+    (hits-places test v b ws (suc d) (omega arith)
+    (λ j l. let on : suc d + j ≡ d + suc j = omega arith in ap test on ∙ same (suc j) (omega arith)))
   where
     here : test d ≡ eqb w v
     here = ap test (sym (add-zero d)) ∙ same 0 (omega arith)
@@ -82,12 +87,14 @@ hits-places test v b (w ∷ ws) d h same =
     go false e ih = hits-miss test d b (omega arith) (here ∙ e) ∙ ih ∙ ap (λ i. places v (suc d) ws ++ hits test i b) on
 
 -- what is made of each of them depends on nothing but them
-pub map-places : {X : Type 0} (f g : ℕ → X) (v : ℕ) (vs : List ℕ) (d : ℕ) → ((j : ℕ) → j < length vs → getD vs j 0 ≡ v → f (d + j) ≡ g (d + j))
+pub map-places : {X : Type 0} (f g : ℕ → X) (v : ℕ) (vs : List ℕ) (d : ℕ)
+    → ((j : ℕ) → j < length vs → getD vs j 0 ≡ v → f (d + j) ≡ g (d + j))
     → map f (places v d vs) ≡ map g (places v d vs)
 map-places f g v [] d same = refl
 map-places f g v (w ∷ ws) d same =
     go (eqb w v) refl
-    (map-places f g v ws (suc d) (λ j l e. let on : suc d + j ≡ d + suc j = omega arith in subst (λ i. f i ≡ g i) (sym on) (same (suc j) (omega arith) e)))
+    (map-places f g v ws (suc d)
+    (λ j l e. let on : suc d + j ≡ d + suc j = omega arith in subst (λ i. f i ≡ g i) (sym on) (same (suc j) (omega arith) e)))
   where
     go : (c : Bool) → eqb w v ≡ c → map f (places v (suc d) ws) ≡ map g (places v (suc d) ws)
         → map f (cond c (d ∷ places v (suc d) ws) (places v (suc d) ws)) ≡ map g (cond c (d ∷ places v (suc d) ws) (places v (suc d) ws))

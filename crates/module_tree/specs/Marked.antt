@@ -80,7 +80,8 @@ in-place long f g d (last t) = g d t
 in-place long f g d (step s more) = f d s ++ in-place long f g (d + long s) more
 
 -- what is made of each part with a mark of this family, in text order, from the mark's number, the part, its first token and its tree
-abbrev pub parts : {X : Type 0} (family : ℕ) (make : ℕ → (m : Marked) → ℕ → Tree (unmarked m) → X) (m : Marked) → ℕ → Tree (unmarked m) → List X
+abbrev pub parts : {X : Type 0} (family : ℕ) (make : ℕ → (m : Marked) → ℕ → Tree (unmarked m) → X) (m : Marked) → ℕ → Tree (unmarked m)
+    → List X
 parts family make nothing d t = absurd t
 parts family make nil d t = []
 parts family make (word c) d t = []

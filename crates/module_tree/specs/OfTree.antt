@@ -42,7 +42,8 @@ needs-in cs = map (λ (i : ℕ). (i, need-at cs i)) (hits (λ (i : ℕ). is-need
 -- each definition of a kind with an OID has a number of its own there: a part stands behind every head
 abbrev pub EachNumbered : List ℕ → Type 0
 EachNumbered cs =
-    (k : ℕ) → k < length (outline cs) → has-oid (entry (outline cs) k .kind) ≡ true → 0 < length (oid-numbers cs (entry (outline cs) k .oid))
+    (k : ℕ) → k < length (outline cs) → has-oid (entry (outline cs) k .kind) ≡ true
+    → 0 < length (oid-numbers cs (entry (outline cs) k .oid))
 
 pub record OfTree (cs : List ℕ) (t : Tree smi-module) : Type 0 where
   -- the definitions, each with its name, its kind and its fields
