@@ -7,7 +7,7 @@ use Prim.Native.Nat.{ℕ, _+_, _-_}
 use lib.Dec.{leb, eqb}
 use lib.ListN.{length, getD}
 use Rattle.index.specs.First.{first, hits}
-use Rattle.terminal.specs.Terminal.{lower, Upper, current, read-create, assign, MODULE-IDENTITY, NOTIFICATION-TYPE, OBJECT, IDENTIFIER, OBJECT-IDENTITY, OBJECT-TYPE, TEXTUAL-CONVENTION}
+use Rattle.terminal.specs.Terminal.{lower, Upper, current, read-create, assign, MODULE-IDENTITY, NOTIFICATION-TYPE, OBJECT, IDENTIFIER, OBJECT-IDENTITY, OBJECT-TYPE, TEXTUAL-CONVENTION, END}
 
 -- the class of token i
 abbrev pub class-at : List ℕ → ℕ → ℕ
@@ -38,7 +38,7 @@ begins cs i =
     (is-lower (class-at cs i) && (is-defining (class-at cs (i + 1)) || before-object-identifier cs i))
     || (eqb (class-at cs i) Upper && eqb (class-at cs (i + 1)) assign)
 
--- the module's last token, END
+-- the last token: no definition starts there
 abbrev pub last : List ℕ → ℕ
 last cs = length cs - 1
 
@@ -46,9 +46,13 @@ last cs = length cs - 1
 unfoldable pub definitions : List ℕ → List ℕ
 definitions cs = hits (begins cs) 0 (last cs)
 
--- a definition ends where the next one starts, or at the module's last token, END
+-- a definition that started before token i ends there: the token is END, or the next definition starts
+unfoldable pub closes : List ℕ → ℕ → Bool
+closes cs i = eqb (class-at cs i) END || begins cs i
+
+-- a definition ends at END or where the next one starts, whichever comes first; at the last token where neither comes
 unfoldable pub definition-end : List ℕ → ℕ → ℕ
-definition-end cs d = first (begins cs) (d + 1) (last cs)
+definition-end cs d = first (closes cs) (d + 1) (last cs)
 
 -- The kinds of definitions, from "Records".
 

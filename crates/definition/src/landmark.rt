@@ -2,7 +2,7 @@
 ghost use mathlib.Core.Path.{_≡_};
 ghost use Prim.Native.Nat.{_≤_, _<_};
 ghost use lib.ListN.{length, take};
-ghost use Rattle.definition.specs.Landmark.{class-at, is-lower, is-defining, is-macro, before-object-identifier, begins};
+ghost use Rattle.definition.specs.Landmark.{class-at, is-lower, is-defining, is-macro, before-object-identifier, begins, closes};
 ghost use Rattle.definition.specs.Landmark.{definition-end, kind-at, macro-word, has-oid};
 use crate::kind;
 
@@ -62,7 +62,16 @@ pub fn begins(classes: &[u8], n: usize, i: usize) -> bool
     class == terminal::UPPER && next == terminal::ASSIGN
 }
 
-// Where the definition whose name is token d ends: where the next one starts, or at the last token, END.
+// Whether a definition that started before token i ends there.
+fn closes(classes: &[u8], n: usize, i: usize) -> bool
+    requires enough { ⌜ n ≤ length (now classes) ⌝ }
+    requires early { ⌜ i ≤ 65536 ⌝ }
+    ensures { λ r. ⌜ r ≡ closes (take n (now (classes .entry))) i ⌝ }
+{
+    class_at(classes, n, i) == terminal::END || begins(classes, n, i)
+}
+
+// Where the definition whose name is token d ends: at END or where the next one starts, and at the last token where neither comes.
 pub fn definition_end(classes: &[u8], n: usize, d: usize) -> usize
     requires enough { ⌜ n ≤ length (now classes) ⌝ }
     requires few { ⌜ n ≤ 65536 ⌝ }
@@ -71,7 +80,7 @@ pub fn definition_end(classes: &[u8], n: usize, d: usize) -> usize
 {
     let mut i = d + 1;
     while i < n - 1 {
-        if begins(classes, n, i) {
+        if closes(classes, n, i) {
             return i;
         }
         i += 1;

@@ -10,8 +10,8 @@ use Prim.Native.Nat.{ℕ, zero, suc, _+_}
 use lib.Dec.{T, T-prop, eqb, eqb→eq, eqb-refl}
 use lib.ListN.{take, length-map}
 use Rattle.grammar.specs.Answer.{Verdict, refused, Derives, Begins, Answers}
-use Rattle.grammar.specs.Derivation.{Derivation, tokens-of, DerivesTokens, BeginsTokens, AnswersTokens, Inhabited, EachTerminal}
-use Rattle.grammar.specs.Rule.{Rule, never, empty, token, _⨾_, _or_, repeated, Steps, last, step, Tree, yield}
+use Rattle.grammar.specs.Derivation.{Derivation, tokens-of, tree-of, DerivesTokens, BeginsTokens, AnswersTokens, Inhabited, EachTerminal}
+use Rattle.grammar.specs.Rule.{Rule, never, empty, token, _⨾_, _or_, repeated, last, step, Tree, yield}
 use Rattle.grammar.specs.Automaton.{run}
 use Rattle.grammar.specs.Grammar.{smi-module}
 use Rattle.grammar.specs.Table.{module-automaton}
@@ -22,28 +22,13 @@ use Rattle.grammar.proofs.Passes.{below, All-below, all-after, yields-b
 use Rattle.grammar.proofs.Right.{Unique}
 use Rattle.grammar.proofs.Theorem.{grammar-theorem, no-tokens}
 
--- the tree of a repeated part, from the trees of its steps and of its last part
-abbrev each-step : {S L S′ L′ : Type 0} → (S → S′) → (L → L′) → Steps S L → Steps S′ L′
-each-step f g (last d) = last (g d)
-each-step f g (step d more) = step (f d) (each-step f g more)
-
 module _ {A : Type 0} (class : A → ℕ) where
   abbrev classes : List A → List ℕ
   classes ts = map class ts
 
-  -- the tree of a derivation: its choices and repeats, without its tokens
-  abbrev pub tree-of : (r : Rule) → Derivation class r → Tree r
-  tree-of never d = d
-  tree-of empty d = tt
-  tree-of (token c) d = tt
-  tree-of (r ⨾ s) d = (tree-of r (d .0), tree-of s (d .1))
-  tree-of (r or s) (inl d) = inl (tree-of r d)
-  tree-of (r or s) (inr d) = inr (tree-of s d)
-  tree-of (repeated r s) d = each-step (tree-of r) (tree-of s) d
-
   -- the tree yields the classes of the derivation's tokens
   abbrev Classed : Rule → Type 0
-  Classed r = (d : Derivation class r) → yield r (tree-of r d) ≡ classes (tokens-of class r d)
+  Classed r = (d : Derivation class r) → yield r (tree-of class r d) ≡ classes (tokens-of class r d)
 
   -- one part after the other
   classed-both : {l m : List ℕ} (xs ys : List A) → l ≡ classes xs → m ≡ classes ys → l ++ m ≡ classes (xs ++ ys)
@@ -92,7 +77,7 @@ module _ {A : Type 0} (class : A → ℕ) where
   -- the derivation of ts that has the tree t
   pub record Filled (r : Rule) (t : Tree r) (ts : List A) : Type 0 where
     pub derivation : Derivation class r
-    pub its-tree : tree-of r derivation ≡ t
+    pub its-tree : tree-of class r derivation ≡ t
     pub its-tokens : tokens-of class r derivation ≡ ts
 
   -- each tree that yields the classes of some tokens is that of a derivation of these tokens
@@ -160,7 +145,7 @@ module _ {A : Type 0} (class : A → ℕ) where
   -- Two derivations with the same tree, each with tokens after it, are equal where the tokens are; and so are those after.
   abbrev Determined : Rule → Type 0
   Determined r =
-      (d e : Derivation class r) → tree-of r d ≡ tree-of r e
+      (d e : Derivation class r) → tree-of class r d ≡ tree-of class r e
       → (xs ys : List A) → tokens-of class r d ++ xs ≡ tokens-of class r e ++ ys → (d ≡ e) × (xs ≡ ys)
 
   -- equal tokens at a leaf: that their class is the rule's is a test, and has one proof
@@ -192,12 +177,12 @@ module _ {A : Type 0} (class : A → ℕ) where
 
   determined-either : (r s : Rule) → Determined r → Determined s → Determined (r or s)
   determined-either r s f g (inl d) (inl e) p xs ys q =
-      let x = f d e (inl-injective (tree-of r d) (tree-of r e) p) xs ys q in
+      let x = f d e (inl-injective (tree-of class r d) (tree-of class r e) p) xs ys q in
       (ap inl (x .0), x .1)
   determined-either r s f g (inl d) (inr e) p xs ys q = absurd (inl-ne-inr p)
   determined-either r s f g (inr d) (inl e) p xs ys q = absurd (inl-ne-inr (sym p))
   determined-either r s f g (inr d) (inr e) p xs ys q =
-      let x = g d e (inr-injective (tree-of s d) (tree-of s e) p) xs ys q in
+      let x = g d e (inr-injective (tree-of class s d) (tree-of class s e) p) xs ys q in
       (ap inr (x .0), x .1)
 
   determined : (r : Rule) → Determined r
@@ -216,27 +201,27 @@ module _ {A : Type 0} (class : A → ℕ) where
   determined (repeated r s) = determined-steps r s (determined r) (determined s)
 
   -- each derivation of some tokens has a tree of its own
-  pub tree-once : (r : Rule) (d e : Derivation class r) → tree-of r d ≡ tree-of r e
+  pub tree-once : (r : Rule) (d e : Derivation class r) → tree-of class r d ≡ tree-of class r e
       → tokens-of class r d ≡ tokens-of class r e → d ≡ e
   tree-once r d e p q = determined r d e p [] [] (ap (λ l. l ++ []) q) .0
 
   -- the tree of a derivation of ts yields the classes of ts
   yields-classes : (r : Rule) (ts : List A) (d : Derivation class r) → tokens-of class r d ≡ ts
-      → yield r (tree-of r d) ≡ classes ts
+      → yield r (tree-of class r d) ≡ classes ts
   yields-classes r ts d e = tree-yield r d ∙ ap classes e
 
   -- tokens are derived exactly where their classes are
   pub derives-tokens : (r : Rule) (ts : List A) → Derives r (map class ts) ↔ DerivesTokens class r ts
   derives-tokens r ts = (
     λ t. let x = tree-onto r (t .0) ts (t .1) in (x .derivation, x .its-tokens),
-    λ d. (tree-of r (d .0), yields-classes r ts (d .0) (d .1)),
+    λ d. (tree-of class r (d .0), yields-classes r ts (d .0) (d .1)),
   )
 
   -- tokens have two derivations only where their classes have
   pub one-reading-tokens : (r : Rule) (ts : List A)
       → Unique r (map class ts) → (d e : Derivation class r) → tokens-of class r d ≡ ts → tokens-of class r e ≡ ts → d ≡ e
   one-reading-tokens r ts unique d e p q =
-      tree-once r d e (unique (tree-of r d) (tree-of r e) (yields-classes r ts d p) (yields-classes r ts e q)) (p ∙ sym q)
+      tree-once r d e (unique (tree-of class r d) (tree-of class r e) (yields-classes r ts d p) (yields-classes r ts e q)) (p ∙ sym q)
 
   take-classes : (i : ℕ) (ts : List A) → take i (classes ts) ≡ classes (take i ts)
   take-classes zero ts = refl

@@ -9,7 +9,12 @@ use Prim.Native.Nat.{ℕ, _<_}
 use lib.Dec.{T, eqb}
 use Rattle.terminal.specs.Terminal.{terminals}
 use Rattle.grammar.specs.Answer.{Verdict, Derivable, ViablePrefix, RightVerdict}
-use Rattle.grammar.specs.Rule.{Rule, never, empty, token, _⨾_, _or_, repeated, Steps, in-order}
+use Rattle.grammar.specs.Rule.{Rule, never, empty, token, _⨾_, _or_, repeated, Steps, last, step, Tree, in-order}
+
+-- the tree of a repeated part, from the trees of its steps and of its last part
+abbrev pub each-step : {S L S′ L′ : Type 0} → (S → S′) → (L → L′) → Steps S L → Steps S′ L′
+each-step f g (last d) = last (g d)
+each-step f g (step d more) = step (f d) (each-step f g more)
 
 module _ {A : Type 0} (class : A → ℕ) where
   -- A derivation: each choice made, each number of repeats, each token, which is of the class that the rule names.
@@ -30,6 +35,16 @@ module _ {A : Type 0} (class : A → ℕ) where
   tokens-of (r or s) (inl d) = tokens-of r d
   tokens-of (r or s) (inr d) = tokens-of s d
   tokens-of (repeated r s) d = in-order (tokens-of r) (tokens-of s) d
+
+  -- the tree of a derivation: its choices and repeats, without its tokens
+  abbrev pub tree-of : (r : Rule) → Derivation r → Tree r
+  tree-of never d = d
+  tree-of empty d = tt
+  tree-of (token c) d = tt
+  tree-of (r ⨾ s) d = (tree-of r (d .0), tree-of s (d .1))
+  tree-of (r or s) (inl d) = inl (tree-of r d)
+  tree-of (r or s) (inr d) = inr (tree-of s d)
+  tree-of (repeated r s) d = each-step (tree-of r) (tree-of s) d
 
   -- the rule derives the token sequence ts
   abbrev pub DerivesTokens : Rule → List A → Type 0

@@ -1,4 +1,4 @@
--- The outline of a module: what its entries are, and the loop that stores them, each when the next definition begins. And the first
+-- The outline of a module: what its entries are, and the loop that stores them, each when its end is found. And the first
 -- definitions of a table are those that its first words hold.
 -- Assumes nothing.
 use mathlib.Core.Path.{_≡_, refl, sym, ap, _∙_}
@@ -13,6 +13,7 @@ use Rattle.index.specs.First.{first}
 use Rattle.index.proofs.Hits.{inside-same, hit-inside, first-hit-is, next-hit}
 use Rattle.definition.specs.Landmark.{begins, last, definitions, definition-end}
 use Rattle.definition.specs.Fields.{fields-of}
+use Rattle.definition.proofs.Next.{next-from-end}
 use Rattle.module_table.specs.declared.Definition.{Definition}
 use Rattle.module_table.specs.Definition.{width, definitions-in, absent, entry, Stored}
 use Rattle.module_table.specs.Module.{most-definitions}
@@ -91,14 +92,15 @@ module _ (cs words : List ℕ) (count d : ℕ) (c : Collecting cs words count d)
   room-left other = omega (arith, table-counted words, c .long, c .few)
 
   -- the definition at d is stored
-  pub collecting-more : d < last cs → (count ≡ most-definitions → ⊥) → (e : ℕ) → e ≡ first (begins cs) (d + 1) (last cs) → (next : List ℕ)
-      → Stored words count (outlined d (fields-of cs d e)) next → Collecting cs next (count + 1) e
-  unfolding definitions definition-end
-  collecting-more h other e is next stored = record {
+  pub collecting-more : d < last cs → (count ≡ most-definitions → ⊥) → (e : ℕ) → e ≡ definition-end cs d → (next : List ℕ)
+      → Stored words count (outlined d (fields-of cs d e)) next → (following : ℕ) → following ≡ first (begins cs) e (last cs)
+      → Collecting cs next (count + 1) following
+  unfolding definitions
+  collecting-more h other e is next stored following begun = record {
     long = stored .as-long ∙ c .long;
     few = omega (arith, c .few);
     within = omega (arith, one-more h);
-    at = is ∙ at;
+    at = begun ∙ ap (λ (x : ℕ). first (begins cs) x (last cs)) is ∙ next-from-end cs d h ∙ at;
     held = λ j l. held j l (ℕ-discrete j count);
   }
     where

@@ -40,7 +40,7 @@ outlined d f = record {
   parent = 0;
 }
 
--- the definition whose name is token d, up to where the next one begins
+-- the definition whose name is token d, up to its end
 abbrev pub outlined-at : List ℕ → ℕ → Definition
 outlined-at cs d = outlined d (fields-of cs d (definition-end cs d))
 

@@ -11,6 +11,7 @@ ghost use Rattle.module_table.specs.Module.{most-definitions};
 ghost use Rattle.outline.specs.Outline.{flag, outlined, Outlines};
 use definition::Fields;
 use definition::begins;
+use definition::definition_end;
 use definition::fields_of;
 use index::NumberIndex;
 use index::RecordIndex;
@@ -62,7 +63,7 @@ fn outlined(name: usize, f: Fields) -> Definition
     }
 }
 
-// Where the first definition from token a on begins; the last token, END, where none does.
+// Where the first definition from token a on begins; the last token where none does.
 fn next_beginning(classes: &[u8], a: usize) -> usize
     requires few { ⌜ length (now classes) ≤ 65536 ⌝ }
     requires inside { ⌜ a ≤ last (now classes) ⌝ }
@@ -87,7 +88,7 @@ fn definition_between(classes: &[u8], d: usize, e: usize) -> Definition
     outlined(d, fields_of(classes, classes.len(), d, e))
 }
 
-// Collects the definitions of a module, each when the next one begins.
+// Collects the definitions of a module, each when its end is found.
 pub fn collect_outline(classes: &[u8], definitions: &mut [usize]) -> Collected
     requires few { ⌜ length (now classes) ≤ 65536 ⌝ }
     requires room { ⌜ length (now definitions) ≡ most-definitions * width ⌝ }
@@ -100,14 +101,14 @@ pub fn collect_outline(classes: &[u8], definitions: &mut [usize]) -> Collected
         if count == MOST_DEFINITIONS {
             return Collected::TooMany(TokenIndex(d));
         }
-        let e = next_beginning(classes, d + 1);
+        let e = definition_end(classes, classes.len(), d);
         store(
             definitions,
             RecordIndex(count),
             definition_between(classes, d, e),
         );
         count += 1;
-        d = e;
+        d = next_beginning(classes, e);
     }
     Collected::All(count)
 }

@@ -1,17 +1,16 @@
 -- Where the definitions stand: each ends before the next begins, and its syntax lies inside it.
 -- Assumes nothing.
-use mathlib.Core.Path.{_≡_, _∙_}
+use mathlib.Core.Path.{_≡_}
 use mathlib.Core.List.{List}
-use Prim.Native.Nat.{ℕ, suc, _+_, _≤_, _<_}
+use Prim.Native.Nat.{ℕ, suc, _≤_, _<_}
 use native.Mathlib.Decide.{decLt}
 use native.Mathlib.Omega.{arith}
 use lib.ListN.{length, getD}
-use Rattle.index.proofs.Search.{first-inside}
 use Rattle.index.proofs.Hits.{hit-inside, inside-same}
 use Rattle.definition.specs.Landmark.{begins, last, definitions, definition-end}
 use Rattle.definition.specs.Fields.{fields-of, fields-at}
 use Rattle.definition.proofs.Inside.{Inside, syntax-inside}
-use Rattle.definition.proofs.Next.{definition-next}
+use Rattle.definition.proofs.Next.{end-inside as ends-inside, definition-next}
 use Rattle.index.proofs.Hits.{hits-rise}
 
 module _ (cs : List ℕ) where
@@ -31,8 +30,8 @@ module _ (cs : List ℕ) where
   pub ends-before : (j k : ℕ) → j < k → k < length (definitions cs) → end-of j ≤ name-of k
   ends-before j k l h = go (decLt (suc j) k)
     where
-      next : end-of j ≡ name-of (suc j)
-      next = definition-next cs j (omega arith) ∙ inside-same (definitions cs) (suc j) (last cs) 0 (omega arith)
+      next : end-of j ≤ name-of (suc j)
+      next = omega (arith, definition-next cs j (omega arith), inside-same (definitions cs) (suc j) (last cs) 0 (omega arith))
 
       go : Dec (suc j < k) → end-of j ≤ name-of k
       go (yes m) = omega (arith, next, names-rise (suc j) k m h)
@@ -41,11 +40,8 @@ module _ (cs : List ℕ) where
   module _ (k : ℕ) (h : k < length (definitions cs)) where
     -- it ends after its name, and not after the module's last token
     pub end-inside : (name-of k < end-of k) × (end-of k ≤ last cs)
-    unfolding definitions definition-end
-    end-inside =
-        let start = hit-inside (begins cs) 0 (last cs) k h .1 in
-        let end = first-inside (begins cs) (name-of k + 1) (last cs) (omega arith) in
-        (omega (arith, end .0), end .1)
+    unfolding definitions
+    end-inside = ends-inside cs (name-of k) (hit-inside (begins cs) 0 (last cs) k h .1)
 
     -- its syntax lies inside it
     pub syntax-at-home : Inside (name-of k) (end-of k) (fields-at cs k .syntax)

@@ -1,11 +1,14 @@
 -- `collect_outline` is right by the law of the loop that collects definitions.
 -- Assumes nothing.
 use mathlib.Core.Path.{_≡_, sym, ap, _∙_}
-use Prim.Native.Nat.{ℕ, _+_, _-_, _≤_, _<_}
+use mathlib.Core.List.{List}
+use Prim.Native.Nat.{ℕ, _-_, _≤_, _<_}
 use native.Mathlib.Omega.{arith}
-use lib.ListN.{length, getD}
+use lib.ListN.{length, getD, take}
+use lib.Seq.{take-length}
 use Rattle.index.proofs.Search.{first-inside, first-from}
-use Rattle.definition.specs.Landmark.{begins, last, definitions}
+use Rattle.definition.specs.Landmark.{begins, last, definitions, definition-end}
+use Rattle.definition.proofs.Next.{end-inside}
 use Rattle.module_table.specs.Module.{most-definitions}
 use Rattle.outline.proofs.Outline.{Collecting, collecting-start, collecting-more, collecting-end, one-more, its-name, room-left, all-stored, outline-counted}
 use Rattle.outline.proofs.collect_outline.Statement.{statement}
@@ -47,20 +50,23 @@ returns c =
     let name = its-name cs (l .loop .definitions) (l .loop .count) (l .loop .d) (l .loop .inv .0) h in
     (l .loop .inv .0 .long ∙ sym (s .pre .1), (omega arith, sym name ∙ ap (λ (k : ℕ). getD (definitions cs) k 0) most))
 
-add-next-beginning : tie.Need-add-next-beginning Inv-loop μ-loop
-add-next-beginning c = omega (arith, c .before .before .loop .inv .1)
+-- what `definition_end` answers
+answer : (cs : List ℕ) (d e : ℕ) → e ≡ definition-end (take (length cs) cs) d → e ≡ definition-end cs d
+answer cs d e is = is ∙ ap (λ (l : List ℕ). definition-end l d) (take-length cs)
 
-next-beginning-requires-2 : tie.Need-next-beginning-requires-2 Inv-loop μ-loop
-next-beginning-requires-2 c κs =
+definition-end-requires : tie.Need-definition-end-requires Inv-loop μ-loop
+definition-end-requires c κs =
     let s = c .before .before .before .before .before .before in
-    (s .pre .0, omega (arith, c .before .loop-test .taken))
+    (omega arith, (s .pre .0, omega (arith, c .before .loop-test .taken)))
 
 definition-between-requires : tie.Need-definition-between-requires Inv-loop μ-loop
 definition-between-requires c κs =
     let l = c .before .before .before .before in
     let s = l .before .before .before .before in
     let cs = s .args .classes .now in
-    (omega (arith, l .loop .inv .1, s .pre .0), omega (arith, c .before .next-beginning2 .ensures, s .pre .0, first-inside (begins cs) (l .loop .d + 1) (last cs) (omega (arith, c .before .before .before .loop-test .taken))))
+    let h : l .loop .d < last cs = omega (arith, c .before .before .before .loop-test .taken) in
+    let is = answer cs (l .loop .d) _ (c .before .definition-end .ensures) in
+    (omega (arith, l .loop .inv .1, s .pre .0), omega (arith, is, s .pre .0, end-inside cs (l .loop .d) h .1))
 
 store-requires : tie.Need-store-requires Inv-loop μ-loop
 store-requires c κs =
@@ -70,23 +76,37 @@ store-requires c κs =
 add-count : tie.Need-add-count Inv-loop μ-loop
 add-count c = omega (arith, c .before .before .before .before .before .before .before .before .loop .inv .0 .few)
 
-loop-less : tie.Need-loop-less Inv-loop μ-loop
-loop-less c =
-    let l = c .before .before .before .before .before .before .before .before in
-    let cs = l .before .before .before .before .args .classes .now in
-    omega (arith, c .before .before .before .before .before .next-beginning2 .ensures, first-from (begins cs) (l .loop .d + 1) (last cs), c .before .before .before .before .before .before .before .loop-test .taken)
-
-loop-again : tie.Need-loop-again Inv-loop μ-loop
-loop-again c =
+next-beginning-requires-2 : tie.Need-next-beginning-requires-2 Inv-loop μ-loop
+next-beginning-requires-2 c κs =
     let e = c .before .before .before .before .before in
     let l = e .before .before .before in
     let s = l .before .before .before .before in
     let cs = s .args .classes .now in
-    let h : l .loop .d < last cs = omega (arith, e .before .before .loop-test .taken) in (
-      collecting-more cs (l .loop .definitions) (l .loop .count) (l .loop .d) (l .loop .inv .0) h (e .before .if1 .left) (e .next-beginning2 .result)
-          (e .next-beginning2 .ensures) _
-          (rw (← c .before .before .before .definition-between .ensures) (c .before .before .store .ensures)),
-      omega (arith, e .next-beginning2 .ensures, first-inside (begins cs) (l .loop .d + 1) (last cs) (omega arith)),
+    let h : l .loop .d < last cs = omega (arith, e .before .before .loop-test .taken) in
+    let is = answer cs (l .loop .d) _ (e .definition-end .ensures) in
+    (s .pre .0, omega (arith, is, end-inside cs (l .loop .d) h .1))
+
+loop-less : tie.Need-loop-less Inv-loop μ-loop
+loop-less c =
+    let e = c .before .before .before .before .before .before in
+    let l = e .before .before .before in
+    let cs = l .before .before .before .before .args .classes .now in
+    let h : l .loop .d < last cs = omega (arith, e .before .before .loop-test .taken) in
+    let is = answer cs (l .loop .d) _ (e .definition-end .ensures) in
+    omega (arith, c .next-beginning2 .ensures, is, first-from (begins cs) (e .definition-end .result) (last cs), end-inside cs (l .loop .d) h .0)
+
+loop-again : tie.Need-loop-again Inv-loop μ-loop
+loop-again c =
+    let e = c .before .before .before .before .before .before in
+    let l = e .before .before .before in
+    let s = l .before .before .before .before in
+    let cs = s .args .classes .now in
+    let h : l .loop .d < last cs = omega (arith, e .before .before .loop-test .taken) in
+    let is = answer cs (l .loop .d) _ (e .definition-end .ensures) in (
+      collecting-more cs (l .loop .definitions) (l .loop .count) (l .loop .d) (l .loop .inv .0) h (e .before .if1 .left) (e .definition-end .result) is _
+          (rw (← c .before .before .before .before .definition-between .ensures) (c .before .before .before .store .ensures))
+          (c .next-beginning2 .result) (c .next-beginning2 .ensures),
+      omega (arith, c .next-beginning2 .ensures, first-inside (begins cs) (e .definition-end .result) (last cs) (omega (arith, is, end-inside cs (l .loop .d) h .1))),
     )
 
 same-length-2 : tie.Need-same-length-2 Inv-loop μ-loop
@@ -115,11 +135,11 @@ collect-outline-spec =
     add-loop
     same-length
     returns
-    add-next-beginning
-    next-beginning-requires-2
+    definition-end-requires
     definition-between-requires
     store-requires
     add-count
+    next-beginning-requires-2
     loop-less
     loop-again
     same-length-2

@@ -1,4 +1,4 @@
--- `definition_end` is right: at no token that it passed a definition starts, and the next start, or END, stops it.
+-- `definition_end` is right: no token that it passed closes the definition, and the first that does stops it.
 -- Assumes nothing.
 use mathlib.Core.Path.{refl, sym, _∙_}
 use Prim.Native.Nat.{_+_, _-_}
@@ -6,13 +6,13 @@ use native.Mathlib.Omega.{arith}
 use borrow.Author.Needs.{needs}
 use lib.ListN.{take}
 use lib.Seq.{length-take-le}
-use Rattle.definition.specs.Landmark.{begins, last, definition-end}
+use Rattle.definition.specs.Landmark.{closes, last, definition-end}
 use Rattle.definition.proofs.Found.{Passed, passed-miss, passed-hit, passed-end}
 use Rattle.definition.proofs.landmark.definition_end.Statement.{statement}
 use Rattle.definition.proofs.landmark.definition_end.Tie as tie
 
 abbrev Inv-loop : tie.InvT-loop
-Inv-loop classes n d i₀ i = Passed (begins (take n classes)) (d + 1) (last (take n classes)) i
+Inv-loop classes n d i₀ i = Passed (closes (take n classes)) (d + 1) (last (take n classes)) i
 
 abbrev μ-loop : tie.MeasureT-loop
 μ-loop classes n d i₀ i = n - 1 - i
@@ -26,8 +26,8 @@ loop-holds c = refl
 sub-loop : tie.Need-sub-loop Inv-loop μ-loop
 sub-loop c = search needs
 
-begins-requires : tie.Need-begins-requires Inv-loop μ-loop
-begins-requires c κs = search needs
+closes-requires : tie.Need-closes-requires Inv-loop μ-loop
+closes-requires c κs = search needs
 
 returns : tie.Need-returns Inv-loop μ-loop
 unfolding definition-end
@@ -36,7 +36,7 @@ returns c =
     let start = at .before .before in
     passed-hit _ _ _ _ (at .loop .inv)
     (omega (arith, length-take-le (start .args .n) (start .args .classes .now) (start .pre .0)))
-    (sym (c .before .begins .ensures) ∙ c .if1 .taken)
+    (sym (c .before .closes .ensures) ∙ c .if1 .taken)
 
 add-i-2 : tie.Need-add-i-2 Inv-loop μ-loop
 add-i-2 c = search needs
@@ -50,7 +50,7 @@ loop-again c =
     let start = at .before .before in
     passed-miss _ _ _ _ (at .loop .inv)
     (omega (arith, length-take-le (start .args .n) (start .args .classes .now) (start .pre .0)))
-    (sym (c .before .begins .ensures) ∙ c .if1 .left)
+    (sym (c .before .closes .ensures) ∙ c .if1 .left)
 
 returns-2 : tie.Need-returns-2 Inv-loop μ-loop
 unfolding definition-end
@@ -68,7 +68,7 @@ definition-end-spec =
     add-i
     loop-holds
     sub-loop
-    begins-requires
+    closes-requires
     returns
     add-i-2
     loop-less

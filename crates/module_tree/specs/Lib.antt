@@ -1,0 +1,4 @@
+pub mod Marked
+pub mod Grammar
+pub mod Module
+pub mod OfTree
