@@ -14,7 +14,7 @@ use Rattle.index.proofs.Hits.{hits-none}
 use Rattle.index.proofs.Tested.{and-left, and-right}
 use Rattle.terminal.specs.Terminal.{number, assign, current, not-accessible, AUGMENTS, DEFVAL, INDEX, MAX-ACCESS, OBJECTS, SEQUENCE, STATUS, SYNTAX, UNITS}
 use Rattle.definition.specs.Landmark.{class-at, kind-at, has-oid, sequence-type}
-use Rattle.definition.specs.Fields.{find, nowhere, braced-after, word-after, syntax-span, columns-span, oid-span, fields-of}
+use Rattle.definition.specs.Fields.{find, nowhere, braced-at, word-after, syntax-behind, columns-span, oid-span, fields-of}
 use Rattle.definition.specs.Members.{oid-numbers}
 use Rattle.module_tree.specs.Marked.{Marked, nothing, nil, word, _then_, _either_, steps, mark, unmarked, leaves, marks, size}
 use Rattle.module_tree.specs.Grammar.{definition, start, the-end, status, access, syntax, index, augments, default, objects, columns, oid, own-number, identity, def}
@@ -143,7 +143,7 @@ module _ (k : ℕ) (m : Marked) (p : T (line-passes k m)) (t : Tree (unmarked m)
 
   -- the fields are those of the tree
   pub fields-are : kind-at cs d ≡ k → fields-of cs d (d + size m t) ≡ fields-of-part k m d t
-  unfolding fields-of braced-after syntax-span columns-span oid-span
+  unfolding fields-of braced-at syntax-behind columns-span oid-span
   fields-are is = λ i. record {
     kind = is i;
     status = word-law m t cs d st STATUS current status (pass-at (tests k m) 0 p) i;
