@@ -33,13 +33,14 @@ use Rattle.reader.specs.Buffers.{number-of, place-of, count-of, record-words, n
 use Rattle.reader.specs.declared.Answer.{Answer}
 use Rattle.reader.specs.declared.Answer.the-variants.{Accepted, Refused}
 use Rattle.reader.proofs.Kept.{accepted-kept}
-use Rattle.statements.specs.Order.{InOrder, Placed}
+use Rattle.statements.specs.Order.{Placed}
 use Rattle.statements.specs.Breach.{WithinLimits}
 use Rattle.statements.specs.Statements.{OidIs, FirstDemand, SecondDemand}
 use Rattle.statements.proofs.Limits.{Lent, short, long, within, lent}
 use Rattle.statements.proofs.Filled.{filled-beyond, filled-unused}
 use Rattle.statements.proofs.RisingModule.{classes-leave}
 use Rattle.statements.proofs.Room.{kept-rest, words-fit}
+use Rattle.statements.proofs.Breaches.{Ordered}
 use Rattle.statements.proofs.Right.{refused-exactly, accepted-exactly, accepted-is, later-refusal}
 
 -- where all rules are kept, each definition of a kind with an OID has the numbers recorded, and no others
@@ -62,7 +63,7 @@ none-read : (o : Outcome) → 0 < number-of (answer-to o) → (records-in o ≡ 
 none-read (accepted count records numbers) some = absurd (omega arith)
 none-read (refused number clause place other) some = (refl, refl)
 
-module _ (text : List ℕ) (order : InOrder (rules (meanings-in text))) (placed : Placed (length (meanings-in text)) (rules (meanings-in text)))
+module _ (text : List ℕ) (order : Ordered (meanings-in text)) (placed : Placed (length (meanings-in text)) (rules (meanings-in text)))
     (answer : Answer) (records records′ numbers numbers′ : List ℕ) (reads : Reads text answer records records′ numbers numbers′) where
   -- number 1 or 2, with nothing changed
   nothing-changed : (right : Answer) → Left answer right records′ records numbers′ numbers → 0 < number-of right → number-of right ≤ 2

@@ -5,9 +5,8 @@ use mathlib.Core.List.{List}
 use Prim.Native.Nat.{ℕ}
 use Rattle.token.specs.Cut.{meanings-in}
 use Rattle.row_status.specs.RowStatus.{Outcome}
-use Rattle.reader.specs.Reading.{rules}
-use Rattle.statements.specs.Order.{InOrder}
 use Rattle.statements.specs.Statements.{Statements}
+use Rattle.statements.proofs.Breaches.{Ordered}
 use Rattle.statements.proofs.Rising.{rules-in-order, rules-placed}
 use Rattle.statements.proofs.Demands.{first-demand, second-demand}
 use Rattle.statements.proofs.Third.{third-demand}
@@ -17,7 +16,7 @@ use Rattle.statements.proofs.Rows.{state-kept, same-answer}
 use Rattle.statements.proofs.Examples.{examples}
 
 -- the rules of any text are in order
-order : (text : List ℕ) → InOrder (rules (meanings-in text))
+order : (text : List ℕ) → Ordered (meanings-in text)
 order text = rules-in-order (meanings-in text)
 
 pub statements : Statements

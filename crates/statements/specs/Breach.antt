@@ -15,7 +15,7 @@ use Rattle.grammar.specs.Derivation.{DerivesTokens}
 use Rattle.syntax.specs.Parsing.{Fault}
 use Rattle.reader.specs.Reading.{rules, start-of}
 use Rattle.reader.specs.Buffers.{record-words, number-words}
-use Rattle.statements.specs.Order.{Broken}
+use Rattle.statements.specs.Order.{rank, Broken}
 
 -- the buffers, of so many words, are long enough, and the text is not too long
 pub record WithinLimits (text : List ℕ) (records numbers : ℕ) : Type 0 where
@@ -61,8 +61,9 @@ pub data InBreach (text : List ℕ) (records numbers : ℕ) : ℕ → ℕ → Ty
   rule-broken : {number token : ℕ} → Cuts text → Derives text → BrokenIn (rules (meanings-in text)) number token
       → InBreach text records numbers number (start-of (cut text .tokens) token)
 
--- The rule of this number is broken at this place, and nowhere earlier; and no rule of a smaller number is broken anywhere.
+-- The rule of this number is broken at this place; no rule of an earlier rank is broken anywhere, and none of its own rank, whichever
+-- its number, at an earlier place.
 pub record FirstBreach (text : List ℕ) (records numbers number place : ℕ) : Type 0 where
   pub broken : InBreach text records numbers number place
-  pub nowhere-earlier : (q : ℕ) → q < place → InBreach text records numbers number q → ⊥
-  pub none-smaller : (m q : ℕ) → m < number → InBreach text records numbers m q → ⊥
+  pub no-earlier-rank : (m q : ℕ) → rank m < rank number → InBreach text records numbers m q → ⊥
+  pub nowhere-earlier : (m q : ℕ) → rank m ≡ rank number → q < place → InBreach text records numbers m q → ⊥
