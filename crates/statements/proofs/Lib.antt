@@ -12,6 +12,7 @@ pub mod Third
 pub mod Alike
 pub mod Printing
 pub mod Rows
+pub mod Exporting
 pub mod Examples
 pub mod RisingHits
 pub mod RisingRun
