@@ -17,8 +17,10 @@ use Rattle.syntax.specs.Parsing.{Fault}
 use Rattle.rule.specs.declared.Finding.{Finding}
 use Rattle.reader.specs.Reading.{rules, start-of}
 use Rattle.reader.specs.Buffers.{record-words, number-words}
-use Rattle.statements.specs.Order.{ranks, is-among, ranks-before, rank, NoLater, Placed}
-use Rattle.statements.specs.Breach.{WithinLimits, Cuts, Derives, _listed-in_, BrokenIn, InBreach, short-buffer, long-text, not-cut, not-derived, rule-broken, FirstBreach}
+use Rattle.statements.specs.Order.{ranks, is-among, ranks-before, rank}
+use Rattle.statements.proofs.Ordered.{NoLater, Placed, _listed-in_, BrokenIn}
+use Rattle.statements.specs.Breach.{WithinLimits, Cuts, Derives, InBreach, short-buffer, long-text, not-cut, not-derived, in-module, FirstBreach}
+use Rattle.statements.proofs.ModuleBreaches.{row-of-rule, rule-of-row}
 use Rattle.statements.proofs.First.{first-found, kept-none, placed-listed, first-least}
 use Rattle.statements.proofs.RisingRun.{Run, ranked-listed}
 use Rattle.statements.proofs.Starts.{starts-rise}
@@ -112,7 +114,9 @@ module _ (text : List ℕ) (a b : ℕ) where
     by-number m q (long-text over) = inr (inl (refl, over))
     by-number m q (not-cut e) = let n = cut-numbered text m q e in inr (inr (cut-ranked m (n .0) (n .1), n .0))
     by-number m q (not-derived c n f) = inr (inr (seven-later, omega arith))
-    by-number m q (rule-broken c d x) = inr (inr (omega (arith, seven-later, after-grammar (meanings-in text) order x .0), later-number x))
+    by-number m q (in-module {token = t} c d x) =
+        let y = rule-of-row (meanings-in text) m t x in
+        inr (inr (omega (arith, seven-later, after-grammar (meanings-in text) order y .0), later-number y))
 
     -- no number is 0
     pub numbered : (m q : ℕ) → In m q → 1 ≤ m
@@ -168,7 +172,7 @@ module _ (text : List ℕ) (a b : ℕ) where
               let place : p ≡ q = cc in
               inr (ap rank number, omega arith, λ same. number)
           least m q (not-derived c d f) = absurd (never c)
-          least m q (rule-broken c d x) = absurd (never c)
+          least m q (in-module c d x) = absurd (never c)
 
       -- a text that cuts into tokens
       module _ (cuts : Cuts text) where
@@ -184,7 +188,7 @@ module _ (text : List ℕ) (a b : ℕ) where
             least m q (long-text l) = absurd (omega (arith, limits .short-text))
             least m q (not-cut e) = absurd (whole-cut m q e)
             least m q (not-derived c n f) = inr (refl, omega (arith, one-fault text fault f), λ same. refl)
-            least m q (rule-broken c d x) = absurd (none d)
+            least m q (in-module c d x) = absurd (none d)
 
         -- and is derived
         module _ (derives : Derives text) where
@@ -193,7 +197,7 @@ module _ (text : List ℕ) (a b : ℕ) where
           by-rules m q (long-text l) = absurd (omega (arith, limits .short-text))
           by-rules m q (not-cut e) = absurd (whole-cut m q e)
           by-rules m q (not-derived c none f) = absurd (none derives)
-          by-rules m q (rule-broken {token = t} c d x) = record { token = t; broken = x; starts = refl }
+          by-rules m q (in-module {token = t} c d x) = record { token = t; broken = rule-of-row (meanings-in text) m t x; starts = refl }
 
           -- all rules are kept
           pub none-broken : AllKept (rules (meanings-in text)) → (m q : ℕ) → In m q → ⊥
@@ -204,7 +208,10 @@ module _ (text : List ℕ) (a b : ℕ) where
           -- one is broken: the first is broken first at its token's start, since starts rise
           pub first-broken : Placed (length (meanings-in text)) (rules (meanings-in text)) → (f : Finding)
               → FirstBroken f (rules (meanings-in text)) → Least (f .number) (start-of (cut text .tokens) (f .token .0))
-          first-broken placed f first = record { broken = rule-broken cuts derives (first-found first); least = least }
+          first-broken placed f first = record {
+            broken = in-module cuts derives (row-of-rule (meanings-in text) (f .number) (f .token .0) (first-found first));
+            least = least;
+          }
             where
               start : ℕ → ℕ
               start = start-of (cut text .tokens)

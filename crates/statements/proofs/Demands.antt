@@ -33,7 +33,7 @@ use Rattle.reader.specs.Buffers.{number-of, place-of, count-of, record-words, n
 use Rattle.reader.specs.declared.Answer.{Answer}
 use Rattle.reader.specs.declared.Answer.the-variants.{Accepted, Refused}
 use Rattle.reader.proofs.Kept.{accepted-kept}
-use Rattle.statements.specs.Order.{Placed}
+use Rattle.statements.proofs.Ordered.{Placed}
 use Rattle.statements.specs.Breach.{WithinLimits}
 use Rattle.statements.specs.Statements.{OidIs, FirstDemand, SecondDemand}
 use Rattle.statements.proofs.Limits.{Lent, short, long, within, lent}

@@ -10,8 +10,8 @@ use Rattle.rule.specs.declared.Finding.{Finding}
 use Rattle.rule.specs.Rule.{Rule}
 use Rattle.index.proofs.Search.{true-false}
 use Rattle.rule.proofs.Judged.{AllKept, NeverBroken, BrokenAt, FirstBroken, here, later}
-use Rattle.statements.specs.Order.{rank, NoLater, Broken, Rises, Before, BeforeAll, InOrder, Placed}
-use Rattle.statements.specs.Breach.{_listed-in_, BrokenIn}
+use Rattle.statements.specs.Order.{rank}
+use Rattle.statements.proofs.Ordered.{NoLater, Broken, Rises, Before, BeforeAll, InOrder, Placed, _listed-in_, BrokenIn}
 
 -- where a rule is broken first, it is broken
 broken-here : {r : Rule} {f : Finding} → (b : BrokenAt r f) → Broken r (b .index)

@@ -1,8 +1,9 @@
+pub mod Tests
+pub mod Ordered
 pub mod First
 pub mod Starts
 pub mod CutNumbers
 pub mod Faults
-pub mod Breaches
 pub mod Right
 pub mod Room
 pub mod Limits
@@ -19,4 +20,10 @@ pub mod RisingRun
 pub mod RisingDefinitions
 pub mod RisingModule
 pub mod Rising
+pub mod NameBreaches
+pub mod OidBreaches
+pub mod SyntaxBreaches
+pub mod TableBreaches
+pub mod ModuleBreaches
+pub mod Breaches
 pub mod Statements

@@ -20,7 +20,7 @@ use Rattle.reader.specs.Reading.{rules, judged, outcome}
 use Rattle.reader.specs.Buffers.{number-of, answer-to, Reads}
 use Rattle.reader.specs.declared.Answer.{Answer}
 use Rattle.reader.specs.declared.Answer.the-variants.{Accepted, Refused}
-use Rattle.statements.specs.Order.{Placed}
+use Rattle.statements.proofs.Ordered.{Placed}
 use Rattle.statements.specs.Breach.{WithinLimits, Cuts, InBreach, FirstBreach}
 use Rattle.statements.proofs.Limits.{Lent, short, long, within, lent}
 use Rattle.statements.proofs.Breaches.{Ordered, Least, least-first, one-first, numbered, first-short, first-long, past-limits, first-uncut, first-underived, none-broken, first-broken}

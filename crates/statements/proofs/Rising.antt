@@ -27,7 +27,8 @@ use Rattle.table_check.specs.Refusal.{table-broken}
 use Rattle.access_check.specs.Access.{access-broken}
 use Rattle.access_check.specs.Notification.{notification-broken}
 use Rattle.reader.specs.Reading.{numbered, classed, module-of, oid-rules, object-rules, later-rules, rules}
-use Rattle.statements.specs.Order.{ranks, is-among, ranks-before, rank, Broken, Placed}
+use Rattle.statements.specs.Order.{ranks, is-among, ranks-before, rank}
+use Rattle.statements.proofs.Ordered.{Broken, Placed}
 use Rattle.statements.proofs.RisingHits.{Confined, hits-confined, confined-wider}
 use Rattle.statements.proofs.RisingRun.{Run, run-row, run-then, run-none, run-each, placed-row, placed-each}
 use Rattle.scope.proofs.Imports as imports
@@ -70,16 +71,16 @@ module _ (ms : List Meaning) where
 
   -- ---- the stages keep the definitions where they are
 
-  named-keeps : Keeps (outline (classes-of ms)) (named ms .definitions)
+  pub named-keeps : Keeps (outline (classes-of ms)) (named ms .definitions)
   named-keeps = record { counted = refl; names = λ k. refl; syntaxes = λ k. refl }
 
-  numbered-keeps : Keeps (outline (classes-of ms)) (numbered ms .definitions)
+  pub numbered-keeps : Keeps (outline (classes-of ms)) (numbered ms .definitions)
   numbered-keeps = keeps-then named-keeps (oids-keep (named ms))
 
-  classed-keeps : Keeps (outline (classes-of ms)) (classed ms .definitions)
+  pub classed-keeps : Keeps (outline (classes-of ms)) (classed ms .definitions)
   classed-keeps = keeps-then numbered-keeps (classes-keep (numbered ms .classes) (numbered ms .values) (numbered ms .definitions))
 
-  module-keeps : Keeps (outline (classes-of ms)) (module-of ms .definitions)
+  pub module-keeps : Keeps (outline (classes-of ms)) (module-of ms .definitions)
   module-keeps = keeps-then classed-keeps (parents-keep (classed ms .numbers) (classed ms .definitions))
 
   -- ---- the rules, one by one

@@ -6,8 +6,8 @@ use mathlib.Core.Logic.{inl, inr}
 use Prim.Native.Nat.{ℕ, zero, suc, _+_, _≤_, _<_}
 use native.Mathlib.Omega.{arith}
 use Rattle.rule.specs.Rule.{Rule, each-of}
-use Rattle.statements.specs.Order.{rank, Broken, Before, BeforeAll, InOrder, Placed}
-use Rattle.statements.specs.Breach.{_listed-in_}
+use Rattle.statements.specs.Order.{rank}
+use Rattle.statements.proofs.Ordered.{Broken, Before, BeforeAll, InOrder, Placed, _listed-in_}
 use Rattle.statements.proofs.RisingHits.{Confined}
 
 -- all have ranks from n on, below m

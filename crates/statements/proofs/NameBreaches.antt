@@ -1,0 +1,99 @@
+-- The rows 8 to 11 are the rules on names.
+-- Assumes nothing.
+use mathlib.Core.Path.{_≡_, refl, subst, ap}
+use mathlib.Core.Logic.{_⊎_, ⊎-elim}
+use mathlib.Core.Bool.{true, false, not}
+use mathlib.Core.List.{List}
+use Prim.Native.Nat.{ℕ, _≤_, _<_}
+use native.Mathlib.Omega.{arith}
+use lib.ListN.{length}
+use borrow.Author.Tests.{eqb-true, eq-eqb}
+use Rattle.lexicon.specs.Word.{same}
+use Rattle.lexicon.proofs.Words.{same-equal, same-refl}
+use Rattle.token.specs.Token.{Meaning}
+use Rattle.symbol.specs.Symbol.{iso-name}
+use Rattle.module_table.specs.Module.{most-definitions}
+use Rattle.outline.specs.Outline.{outline}
+use Rattle.scope.specs.Token.{classes-of, spelled}
+use Rattle.scope.specs.Import.{imports-end, is-import, offered}
+use Rattle.scope.specs.Lead.{introduces, leads-to}
+use Rattle.name_kind.specs.Need.{need-at}
+use Rattle.name_kind.specs.Serve.{serves}
+use Rattle.index.proofs.Search.{any-at}
+use Rattle.naming.specs.Rules.{too-many, introduces-name, introduced-again, not-offered, is-unknown, unknown-name}
+use Rattle.statements.specs.Breach.{definition-count, name-token, ModuleBreach, definition-513, iso-introduced, introduced-twice, unoffered, unknown}
+use Rattle.statements.proofs.Tests.{both, joined, either, left, right, denied, deny, found}
+use Rattle.statements.proofs.Ordered.{Broken, BrokenBy}
+
+-- two spellings that are the same
+pub spelled-same : (xs ys : List ℕ) → xs ≡ ys → same xs ys ≡ true
+spelled-same xs ys e = subst (λ (z : List ℕ). same xs z ≡ true) e (same-refl xs)
+
+module _ (ms : List Meaning) where
+  pub many-told : (i : ℕ) → Broken (too-many ms) i → ModuleBreach ms 8 (too-many ms .place i)
+  unfolding too-many
+  many-told i b =
+      let is : i ≡ most-definitions = eqb-true i most-definitions (b .breaks) in
+      rw is (definition-513 (omega (arith, b .below)))
+
+  pub many-broken : most-definitions < definition-count ms → BrokenBy (too-many ms) (name-token ms most-definitions)
+  unfolding too-many
+  many-broken h = record {
+    index = most-definitions;
+    broken = record { from = omega arith; below = h; breaks = eq-eqb most-definitions most-definitions refl };
+    placed = refl;
+  }
+
+  pub again-told : (i : ℕ) → Broken (introduced-again ms) i → ModuleBreach ms 9 (introduced-again ms .place i)
+  unfolding introduced-again
+  again-told i b =
+      let two = both (introduces (classes-of ms) i) _ (b .breaks) in
+      ⊎-elim
+      (λ iso. iso-introduced (b .below) (two .0) (same-equal _ _ iso))
+      (λ earlier.
+      let f = found (introduces-name ms (spelled ms i)) 0 i earlier in
+      let x = both (introduces (classes-of ms) (f .0)) _ (f .3) in
+      introduced-twice (f .0) (b .below) (two .0) (f .2) (x .0) (same-equal _ _ (x .1)))
+      (either _ _ (two .1))
+
+  pub iso-broken : (i : ℕ) → i < length ms → introduces (classes-of ms) i ≡ true → spelled ms i ≡ iso-name → BrokenBy (introduced-again ms) i
+  unfolding introduced-again
+  iso-broken i h e is = record {
+    index = i;
+    broken = record { from = omega arith; below = h; breaks = joined e (left _ (spelled-same _ _ is)) };
+    placed = refl;
+  }
+
+  pub twice-broken : (i j : ℕ) → i < length ms → introduces (classes-of ms) i ≡ true → j < i → introduces (classes-of ms) j ≡ true
+      → spelled ms j ≡ spelled ms i → BrokenBy (introduced-again ms) i
+  unfolding introduced-again
+  twice-broken i j h e l f is = record {
+    index = i;
+    broken = record {
+      from = omega arith;
+      below = h;
+      breaks = joined e (right (same (spelled ms i) iso-name) (any-at (introduces-name ms (spelled ms i)) 0 i j (omega arith) l (joined f (spelled-same _ _ is))));
+    };
+    placed = refl;
+  }
+
+  pub offer-told : (i : ℕ) → Broken (not-offered ms) i → ModuleBreach ms 10 (not-offered ms .place i)
+  unfolding not-offered
+  offer-told i b = let two = both (is-import (classes-of ms) i) _ (b .breaks) in unoffered (b .below) (two .0) (denied _ (two .1))
+
+  pub offer-broken : (i : ℕ) → i < imports-end (classes-of ms) → is-import (classes-of ms) i ≡ true → offered ms i ≡ false → BrokenBy (not-offered ms) i
+  unfolding not-offered
+  offer-broken i h e f = record {
+    index = i;
+    broken = record { from = omega arith; below = h; breaks = joined e (deny f) };
+    placed = refl;
+  }
+
+  pub use-told : (i : ℕ) → Broken (unknown-name ms) i → ModuleBreach ms 11 (unknown-name ms .place i)
+  unfolding unknown-name is-unknown
+  use-told i b = unknown (b .from) (b .below) (denied _ (b .breaks))
+
+  pub use-broken : (i : ℕ) → imports-end (classes-of ms) ≤ i → i < length ms
+      → serves (outline (classes-of ms)) (leads-to ms (spelled ms i)) (need-at (classes-of ms) i) ≡ false → BrokenBy (unknown-name ms) i
+  unfolding unknown-name is-unknown
+  use-broken i l h f = record { index = i; broken = record { from = l; below = h; breaks = deny f }; placed = refl }
