@@ -10,7 +10,7 @@ use lib.ListN.{length}
 use Rattle.rule.specs.Rule.{Rule, each, each-of}
 use Rattle.token.specs.Token.{Meaning}
 use Rattle.module_table.specs.declared.Definition.{Definition}
-use Rattle.module_table.specs.Module.{Module, at}
+use Rattle.module_table.specs.Module.{Module, most-definitions}
 use Rattle.scope.specs.Token.{spelled}
 use Rattle.naming.specs.Rules.{too-many, introduced-again, not-offered, unknown-name, name-rules}
 use Rattle.naming.specs.Values.{named}
@@ -195,7 +195,9 @@ module _ (ms : List Meaning) where
 
   pub rule-of-row : (number token : ℕ) → ModuleBreach ms number token → BrokenIn (rules ms) number token
   unfolding oid-rules object-rules too-many introduced-again not-offered unknown-name rule.unreached too-long past-room held-rule table-broken access-broken notification-broken
-  rule-of-row number token (definition-513 more) = broken-in (too-many ms) (by-names _ (inl refl)) refl (many-broken ms more)
+  rule-of-row number token (definition-513 {k} h is) =
+      let that : k ≡ most-definitions = omega arith in
+      broken-in (too-many ms) (by-names _ (inl refl)) refl (many-broken ms k h that)
   rule-of-row number token (iso-introduced h e is) = broken-in (introduced-again ms) (by-names _ (inr (inl refl))) refl (iso-broken ms token h e is)
   rule-of-row number token (introduced-twice j h e l f is) =
       broken-in (introduced-again ms) (by-names _ (inr (inl refl))) refl (twice-broken ms token j h e l f is)

@@ -30,17 +30,15 @@ pub spelled-same : (xs ys : List ℕ) → xs ≡ ys → same xs ys ≡ true
 spelled-same xs ys e = subst (λ (z : List ℕ). same xs z ≡ true) e (same-refl xs)
 
 module _ (ms : List Meaning) where
-  pub many-told : (i : ℕ) → Broken (too-many ms) i → ModuleBreach ms 8 (too-many ms .place i)
+  pub many-told : (k : ℕ) → Broken (too-many ms) k → ModuleBreach ms 8 (too-many ms .place k)
   unfolding too-many
-  many-told i b =
-      let is : i ≡ most-definitions = eqb-true i most-definitions (b .breaks) in
-      rw is (definition-513 (omega (arith, b .below)))
+  many-told k b = let is : k ≡ most-definitions = eqb-true k most-definitions (b .breaks) in definition-513 (b .below) (omega arith)
 
-  pub many-broken : most-definitions < definition-count ms → BrokenBy (too-many ms) (name-token ms most-definitions)
+  pub many-broken : (k : ℕ) → k < definition-count ms → k ≡ most-definitions → BrokenBy (too-many ms) (name-token ms k)
   unfolding too-many
-  many-broken h = record {
-    index = most-definitions;
-    broken = record { from = omega arith; below = h; breaks = eq-eqb most-definitions most-definitions refl };
+  many-broken k h is = record {
+    index = k;
+    broken = record { from = omega arith; below = h; breaks = eq-eqb k most-definitions is };
     placed = refl;
   }
 

@@ -201,7 +201,7 @@ pub data NotificationFault (m : Module) (k : ℕ) : Type 0 where
 -- The rule of this number is broken at this token, by what the tokens of a text that is derived say.
 pub data ModuleBreach (ms : List Meaning) : ℕ → ℕ → Type 0 where
   -- 8: a 513th definition
-  definition-513 : most-definitions < definition-count ms → ModuleBreach ms 8 (name-token ms most-definitions)
+  definition-513 : {k : ℕ} → k < definition-count ms → k ≡ most-definitions → ModuleBreach ms 8 (name-token ms k)
   -- 9: a name (in imports a macro word too) defined or imported a second time, or `iso` (the later)
   iso-introduced : {i : ℕ} → i < length ms → introduces (classes-of ms) i ≡ true → spelled ms i ≡ iso-name → ModuleBreach ms 9 i
   introduced-twice : {i : ℕ} (j : ℕ) → i < length ms → introduces (classes-of ms) i ≡ true → j < i → introduces (classes-of ms) j ≡ true
