@@ -14,6 +14,9 @@ pub mod Alike
 pub mod Printing
 pub mod Rows
 pub mod Exporting
+pub mod CardTokens
+pub mod Card
+pub mod WholeCase
 pub mod Examples
 pub mod RisingHits
 pub mod RisingRun

@@ -31,7 +31,7 @@ use Rattle.records.specs.Record.{record-width}
 use Rattle.reader.specs.Reading.{Outcome, module-of, records-of}
 use Rattle.reader.specs.Buffers.{number-of, place-of, count-of, record-words, number-words, zeros, filled, answer-to, examined-to, ReadsAs, Reads}
 use Rattle.reader.specs.declared.Answer.{Answer}
-use Rattle.reader.specs.declared.Answer.the-variants.{Refused}
+use Rattle.reader.specs.declared.Answer.the-variants.{Accepted, Refused}
 use Rattle.hint.specs.Answer as hint
 use Rattle.hint.specs.declared.Answer.{Answer as HintAnswer}
 use Rattle.hint.specs.declared.Answer.the-variants.{Printed, ShortBuffer}
@@ -39,6 +39,7 @@ use Rattle.row_status.specs.RowStatus as row
 use Rattle.mib.specs.Raw as raw
 use Rattle.digit.specs.Digits.{glyph, digits, numeral}
 use Rattle.row_status.specs.declared.Answer.{Answer as RowAnswer}
+use Rattle.statements.specs.Card.{card-text, record-of-t, record-of-a, card-numbers}
 use Rattle.statements.specs.Breach.{WithinLimits, Cuts, Derives, InBreach, FirstBreach}
 
 -- ---- Reading a module
@@ -167,6 +168,15 @@ pub record Examples : Type 0 where
   pub P8 : (hint.octets-verdict 4096 (bytes "255t") (0xC3 ∷ 0xA9 ∷ []) ≡ hint.text (0xC3 ∷ 0xA9 ∷ []))
       × (hint.octets-verdict 4096 (bytes "255a") (0xC3 ∷ 0xA9 ∷ []) ≡ hint.refusal 33 0)
 
+-- The whole case of "The shelf card": every call with it, and with buffers that are long enough, answers `accepted 2`, and leaves these
+-- two records and these sub-identifiers, and then zeros; the words beyond the working parts are as they were.
+abbrev pub WholeCase : Type 0
+WholeCase =
+    (answer : Answer) (records records′ numbers numbers′ : List ℕ) → Reads card-text answer records records′ numbers numbers′
+    → record-words ≤ length records → number-words ≤ length numbers
+    → (answer ≡ Accepted 2) × (records′ ≡ filled record-words (record-of-t ++ record-of-a) records)
+    × (numbers′ ≡ filled number-words card-numbers numbers)
+
 -- ---- All of them
 
 pub record Statements : Type 0 where
@@ -208,5 +218,7 @@ pub record Statements : Type 0 where
       → row.Sets state value complete willing x → row.Sets state value complete willing y → x ≡ y
   -- nor do those of the exported functions: each slice that is lent is settled, the answer's words with the others
   pub exported : Exported
+  -- the whole case
+  pub whole-case : WholeCase
   -- P1 to P8
   pub examples : Examples
