@@ -8,6 +8,7 @@ pub mod Right
 pub mod Room
 pub mod Limits
 pub mod Filled
+pub mod CutOut
 pub mod Demands
 pub mod Third
 pub mod Alike

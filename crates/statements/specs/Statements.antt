@@ -11,7 +11,7 @@ use mathlib.Core.Path.{_≡_}
 use mathlib.Core.Logic.{_⊎_, _↔_}
 use mathlib.Core.Bool.{Bool, true}
 use mathlib.Core.List.{List, [], _∷_, _++_}
-use Prim.Native.Nat.{ℕ, _-_, _*_, _<_, _≤_}
+use Prim.Native.Nat.{ℕ, _+_, _-_, _*_, _<_, _≤_}
 use lib.IntN.{ℤ, negsuc}
 use lib.ListN.{length, getD, take, drop}
 use Rattle.terminal.specs.Terminal.{lower}
@@ -69,6 +69,10 @@ pub record FirstDemand (text : List ℕ) (answer : Answer) (records records′ n
 abbrev pub OidIs : Module → ℕ → List ℕ → Type 0
 OidIs m k oid = HasOid m (Definition (record { 0 = k })) oid × ((other : List ℕ) → HasOid m (Definition (record { 0 = k })) other → other ≡ oid)
 
+-- word j of record k, both from 0 on
+abbrev pub record-word : List ℕ → ℕ → ℕ → ℕ
+record-word records k j = getD records (k * record-width + j) 0
+
 -- The second demand: the first broken rule, or the records and sub-identifiers of all definitions.
 pub record SecondDemand (text : List ℕ) (answer : Answer) (records records′ numbers numbers′ : List ℕ) : Type 0 where
   -- "Given when the condition holds and no smaller number applies (3 to 6 together: the leftmost token), with the earliest place in
@@ -90,6 +94,10 @@ pub record SecondDemand (text : List ℕ) (answer : Answer) (records records′ 
   -- cut out of all of them by where they start and how many they are
   pub resolved : number-of answer ≡ 0 → (k : ℕ) → k < definitions-in (module-of (meanings-in text)) → has-value (at (named (meanings-in text)) k) ≡ true
       → OidIs (named (meanings-in text)) k (oid-of (module-of (meanings-in text)) k)
+  -- "first index and count of its sub-identifiers": words 3 and 4 of record k cut the OID of definition k out of the number buffer as it
+  -- is left
+  pub cut-out : number-of answer ≡ 0 → (k : ℕ) → k < count-of answer → has-value (at (named (meanings-in text)) k) ≡ true
+      → OidIs (named (meanings-in text)) k (take (record-word records′ k 4) (drop (record-word records′ k 3) numbers′))
 
 -- The third demand, of a text within the limits that cuts into tokens: refusal 7 exactly when the grammar derives no such token
 -- sequence; its place is the start of the first token after which no derived sequence, however long, can begin so, or the text's
