@@ -30,4 +30,5 @@ pub mod SyntaxBreaches
 pub mod TableBreaches
 pub mod ModuleBreaches
 pub mod Breaches
+pub mod Searching
 pub mod Statements

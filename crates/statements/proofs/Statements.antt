@@ -16,6 +16,7 @@ use Rattle.statements.proofs.Alike.{quotes-alike, read-once}
 use Rattle.statements.proofs.Printing.{prints, printed-alike, octets-bound}
 use Rattle.statements.proofs.Rows.{state-kept, same-answer}
 use Rattle.statements.proofs.Exporting.{exported}
+use Rattle.statements.proofs.Searching.{searches}
 use Rattle.statements.proofs.WholeCase.{whole-case}
 use Rattle.statements.proofs.Examples.{examples}
 
@@ -43,6 +44,7 @@ statements = record {
       (ap (λ (o : Outcome). o .number) set, ap (λ (o : Outcome). o .next) set, state-kept state answer);
   row-settled = λ state value complete willing x y p q. same-answer state x y (p ∙ sym q);
   exported = exported;
+  searches = searches;
   whole-case = whole-case;
   examples = examples;
 }

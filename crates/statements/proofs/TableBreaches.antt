@@ -42,11 +42,11 @@ module _ (m : Module) (k : ℕ) where
   -- ---- 20
 
   -- the one row of a SEQUENCE type
-  row-of-type : (type r : ℕ) → is-of ds row type r ≡ true → (is-row (at m r) ≡ true) × (type-of (at m r) ≡ type)
+  pub row-of-type : (type r : ℕ) → is-of ds row type r ≡ true → (is-row (at m r) ≡ true) × (type-of (at m r) ≡ type)
   unfolding is-of
   row-of-type type r e = let x = both _ _ e in (x .0, eqb-true _ type (x .1))
 
-  of-type : (type r : ℕ) → is-row (at m r) ≡ true → type-of (at m r) ≡ type → is-of ds row type r ≡ true
+  pub of-type : (type r : ℕ) → is-row (at m r) ≡ true → type-of (at m r) ≡ type → is-of ds row type r ≡ true
   unfolding is-of
   of-type type r e is = joined e (eq-eqb _ type is)
 

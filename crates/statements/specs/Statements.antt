@@ -40,6 +40,7 @@ use Rattle.mib.specs.Raw as raw
 use Rattle.digit.specs.Digits.{glyph, digits, numeral}
 use Rattle.row_status.specs.declared.Answer.{Answer as RowAnswer}
 use Rattle.statements.specs.Card.{card-text, record-of-t, record-of-a, card-numbers}
+use Rattle.statements.specs.Searches.{Searches}
 use Rattle.statements.specs.Breach.{WithinLimits, Cuts, Derives, InBreach, FirstBreach}
 
 -- ---- Reading a module
@@ -226,6 +227,8 @@ pub record Statements : Type 0 where
       → row.Sets state value complete willing x → row.Sets state value complete willing y → x ≡ y
   -- nor do those of the exported functions: each slice that is lent is settled, the answer's words with the others
   pub exported : Exported
+  -- searches of the layers in plain words
+  pub searches : Searches
   -- the whole case
   pub whole-case : WholeCase
   -- P1 to P8
