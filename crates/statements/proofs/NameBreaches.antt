@@ -1,17 +1,19 @@
 -- The rows 8 to 11 are the rules on names.
 -- Assumes nothing.
-use mathlib.Core.Path.{_≡_, refl, subst, ap}
+use mathlib.Core.Path.{_≡_, refl, sym, subst, ap, _∙_}
 use mathlib.Core.Logic.{_⊎_, ⊎-elim}
 use mathlib.Core.Bool.{true, false, not}
-use mathlib.Core.List.{List}
+use mathlib.Core.List.{List, []}
 use Prim.Native.Nat.{ℕ, _≤_, _<_}
 use native.Mathlib.Omega.{arith}
-use lib.ListN.{length}
-use borrow.Author.Tests.{eqb-true, eq-eqb}
+use lib.ListN.{length, getD}
+use borrow.Author.Tests.{eqb-true, eq-eqb, ltb-true, lt-ltb}
+use lib.Dec.{ltb}
 use Rattle.lexicon.specs.Word.{same}
 use Rattle.lexicon.proofs.Words.{same-equal, same-refl}
 use Rattle.token.specs.Token.{Meaning}
-use Rattle.symbol.specs.Symbol.{iso-name}
+use Rattle.symbol.specs.Symbol.{iso-name, symbol-names, symbol-count, symbol-of}
+use Rattle.symbol.proofs.Symbols.{found-again}
 use Rattle.module_table.specs.Module.{most-definitions}
 use Rattle.outline.specs.Outline.{outline}
 use Rattle.scope.specs.Token.{classes-of, spelled}
@@ -19,10 +21,10 @@ use Rattle.scope.specs.Import.{imports-end, is-import, offered}
 use Rattle.scope.specs.Lead.{introduces, leads-to}
 use Rattle.name_kind.specs.Need.{need-at}
 use Rattle.name_kind.specs.Serve.{serves}
-use Rattle.index.proofs.Search.{any-at}
+use Rattle.index.proofs.Search.{any-at, first-holds}
 use Rattle.naming.specs.Rules.{too-many, introduces-name, introduced-again, not-offered, is-unknown, unknown-name}
-use Rattle.statements.specs.Breach.{definition-count, name-token, ModuleBreach, definition-513, iso-introduced, introduced-twice, unoffered, unknown}
-use Rattle.statements.proofs.Tests.{both, joined, either, left, right, denied, deny, found}
+use Rattle.statements.specs.Breach.{definition-count, name-token, Offers, ModuleBreach, definition-513, iso-introduced, introduced-twice, unoffered, unknown}
+use Rattle.statements.proofs.Tests.{both, joined, either, left, right, denied, deny, fails, never, found}
 use Rattle.statements.proofs.Ordered.{Broken, BrokenBy}
 
 -- two spellings that are the same
@@ -75,15 +77,33 @@ module _ (ms : List Meaning) where
     placed = refl;
   }
 
+  offers-is : (i : ℕ) → Offers ms i → offered ms i ≡ true
+  unfolding offered
+  offers-is i x =
+      let k = x .0 in
+      let is : symbol-of (spelled ms i) ≡ k = ap symbol-of (sym (x .2)) ∙ found-again k (x .1) in
+      rw is (joined (lt-ltb k symbol-count (x .1)) (spelled-same _ _ (sym (x .3))))
+
+  is-offers : (i : ℕ) → offered ms i ≡ true → Offers ms i
+  unfolding offered symbol-of
+  is-offers i e =
+      let two = both (ltb (symbol-of (spelled ms i)) symbol-count) _ e in
+      let inside = ltb-true (symbol-of (spelled ms i)) symbol-count (two .0) in (
+        symbol-of (spelled ms i),
+        inside,
+        sym (same-equal _ _ (first-holds (λ (k : ℕ). same (spelled ms i) (getD symbol-names k [])) 0 symbol-count inside (omega arith))),
+        sym (same-equal _ _ (two .1)),
+      )
+
   pub offer-told : (i : ℕ) → Broken (not-offered ms) i → ModuleBreach ms 10 (not-offered ms .place i)
   unfolding not-offered
-  offer-told i b = let two = both (is-import (classes-of ms) i) _ (b .breaks) in unoffered (b .below) (two .0) (denied _ (two .1))
+  offer-told i b = let two = both (is-import (classes-of ms) i) _ (b .breaks) in unoffered (b .below) (two .0) (λ x. never (denied _ (two .1)) (offers-is i x))
 
-  pub offer-broken : (i : ℕ) → i < imports-end (classes-of ms) → is-import (classes-of ms) i ≡ true → offered ms i ≡ false → BrokenBy (not-offered ms) i
+  pub offer-broken : (i : ℕ) → i < imports-end (classes-of ms) → is-import (classes-of ms) i ≡ true → (Offers ms i → ⊥) → BrokenBy (not-offered ms) i
   unfolding not-offered
   offer-broken i h e f = record {
     index = i;
-    broken = record { from = omega arith; below = h; breaks = joined e (deny f) };
+    broken = record { from = omega arith; below = h; breaks = joined e (deny (fails _ (λ o. f (is-offers i o)))) };
     placed = refl;
   }
 

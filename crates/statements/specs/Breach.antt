@@ -7,7 +7,7 @@
 use mathlib.Core.Path.{_≡_}
 use mathlib.Core.Logic.{_⊎_}
 use mathlib.Core.Bool.{true, false}
-use mathlib.Core.List.{List}
+use mathlib.Core.List.{List, []}
 use Prim.Native.Nat.{ℕ, suc, _+_, _-_, _≤_, _<_}
 use lib.ListN.{length, getD}
 use lib.Signed.{ltZ}
@@ -18,7 +18,7 @@ use Rattle.token.specs.Table.{longest-text}
 use Rattle.grammar.specs.Grammar.{smi-module}
 use Rattle.grammar.specs.Derivation.{DerivesTokens}
 use Rattle.syntax.specs.Parsing.{Fault}
-use Rattle.symbol.specs.Symbol.{iso-name}
+use Rattle.symbol.specs.Symbol.{iso-name, symbol-count, symbol-names, module-name}
 use Rattle.terminal.specs.Terminal.{bar}
 use Rattle.definition.specs.Landmark.{class-at, definitions, convention}
 use Rattle.definition.specs.Members.{is-name}
@@ -29,7 +29,7 @@ use Rattle.definition.specs.declared.Syntax.the-variants as syntax
 use Rattle.module_table.specs.Module.{Module, most-definitions, at, oid-of}
 use Rattle.outline.specs.Outline.{outline}
 use Rattle.scope.specs.Token.{classes-of, spelled}
-use Rattle.scope.specs.Import.{imports-end, is-import, offered}
+use Rattle.scope.specs.Import.{imports-end, is-import, source}
 use Rattle.scope.specs.Lead.{introduces, leads-to}
 use Rattle.name_kind.specs.Need.{need-at}
 use Rattle.name_kind.specs.Serve.{serves}
@@ -72,6 +72,11 @@ definition-count ms = length (definitions (classes-of ms))
 
 abbrev pub name-token : List Meaning → ℕ → ℕ
 name-token ms k = getD (definitions (classes-of ms)) k 0
+
+-- the module that token i is imported from offers it: one of its built-in symbols has this name
+abbrev pub Offers : List Meaning → ℕ → Type 0
+Offers ms i =
+    (k : ℕ) × (k < symbol-count) × (getD symbol-names k [] ≡ spelled ms i) × (module-name k ≡ spelled ms (source (classes-of ms) i))
 
 -- the syntax of definition k
 abbrev pub syntax-of : Module → ℕ → Syntax
@@ -207,7 +212,7 @@ pub data ModuleBreach (ms : List Meaning) : ℕ → ℕ → Type 0 where
   introduced-twice : {i : ℕ} (j : ℕ) → i < length ms → introduces (classes-of ms) i ≡ true → j < i → introduces (classes-of ms) j ≡ true
       → spelled ms j ≡ spelled ms i → ModuleBreach ms 9 i
   -- 10: symbol that the module named doesn't offer
-  unoffered : {i : ℕ} → i < imports-end (classes-of ms) → is-import (classes-of ms) i ≡ true → offered ms i ≡ false → ModuleBreach ms 10 i
+  unoffered : {i : ℕ} → i < imports-end (classes-of ms) → is-import (classes-of ms) i ≡ true → (Offers ms i → ⊥) → ModuleBreach ms 10 i
   -- 11: name not known in the kind needed: macro, type (SEQUENCE types in objects only), OID head; an object in INDEX, AUGMENTS, OBJECTS,
   -- SEQUENCE; a SEQUENCE type after OF
   unknown : {i : ℕ} → imports-end (classes-of ms) ≤ i → i < length ms
