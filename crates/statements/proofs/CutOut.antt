@@ -32,7 +32,7 @@ use Rattle.statements.proofs.RisingModule.{classes-leave}
 use Rattle.statements.proofs.Room.{kept-rest}
 
 -- what neither class nor parent changes
-module-leaves : {B : Type 0} (g : Definition → B) → ((d : Definition) (class sequence : ℕ) → g (with-class d class sequence) ≡ g d)
+pub module-leaves : {B : Type 0} (g : Definition → B) → ((d : Definition) (class sequence : ℕ) → g (with-class d class sequence) ≡ g d)
     → ((parent : ℕ) (d : Definition) → g (with-parent parent d) ≡ g d)
     → (ms : List Meaning) (k : ℕ) → g (at (module-of ms) k) ≡ g (at (numbered ms) k)
 unfolding parents-added

@@ -30,5 +30,6 @@ pub mod SyntaxBreaches
 pub mod TableBreaches
 pub mod ModuleBreaches
 pub mod Breaches
+pub mod Parents
 pub mod Searching
 pub mod Statements

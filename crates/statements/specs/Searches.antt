@@ -3,11 +3,12 @@
 use mathlib.Core.Path.{_≡_}
 use mathlib.Core.Logic.{_↔_}
 use mathlib.Core.Bool.{true}
-use mathlib.Core.List.{List}
-use Prim.Native.Nat.{ℕ, _≤_, _<_}
+use mathlib.Core.List.{List, [], _∷_, _++_}
+use Prim.Native.Nat.{ℕ, suc, _≤_, _<_}
+use lib.ListN.{length}
 use Rattle.token.specs.Token.{Meaning}
 use Rattle.symbol.specs.Symbol.{iso-name, symbol-of, symbol-count}
-use Rattle.module_table.specs.Module.{Module, at}
+use Rattle.module_table.specs.Module.{Module, at, oid-of}
 use Rattle.module_table.specs.declared.Lead.{Lead}
 use Rattle.module_table.specs.declared.Lead.the-variants.{Iso, Import, Definition, Nothing}
 use Rattle.scope.specs.Token.{classes-of, spelled}
@@ -16,7 +17,9 @@ use Rattle.scope.specs.Lead.{leads-to}
 use Rattle.oid_head.specs.Oid.{HasOid, has-value, name-of, Reaches}
 use Rattle.oid_head.specs.Unreached.{unreached}
 use Rattle.clause_table.specs.Clause.{has-one-row}
-use Rattle.statements.specs.Breach.{definition-count, name-token, OneRow, ModuleBreach}
+use Rattle.object_tree.specs.Words.{is-object}
+use Rattle.reader.specs.Reading.{module-of}
+use Rattle.statements.specs.Breach.{definition-count, name-token, parent, OneRow, ModuleBreach}
 
 -- a symbol of this name is imported
 abbrev pub Imported : List Meaning → List ℕ → Type 0
@@ -34,9 +37,18 @@ pub record LeadsPlainly (ms : List Meaning) (s : List ℕ) : Type 0 where
   pub to-definition : (k : ℕ) → (leads-to ms s ≡ Definition (record { 0 = k })) ↔ (Named ms s k × (Imported ms s → ⊥))
   pub to-nothing : (leads-to ms s ≡ Nothing) ↔ ((s ≡ iso-name → ⊥) × (Imported ms s → ⊥) × ((k : ℕ) → Named ms s k → ⊥))
 
+-- definition j is the object whose OID is that of object k less its last number
+abbrev pub IsParent : Module → ℕ → ℕ → Type 0
+IsParent m j k =
+    (j < length (m .definitions)) × (is-object (at m j) ≡ true) × (is-object (at m k) ≡ true)
+    × (last : ℕ) × (oid-of m k ≡ oid-of m j ++ (last ∷ []))
+
 pub record Searches : Type 0 where
   -- "exactly one row"
   pub one-row : (m : Module) (type : ℕ) → (has-one-row (m .definitions) type ≡ true) ↔ ((r : ℕ) × OneRow m type r)
+  -- the parent of a definition, by its number, counted from 1, where no token breaks rule 15
+  pub parents : (ms : List Meaning) → ((i : ℕ) → ModuleBreach ms 15 i → ⊥) → (k j : ℕ) → k < definition-count ms
+      → (parent (module-of ms) k ≡ suc j) ↔ IsParent (module-of ms) j k
   -- 12 knows of no bound: however far the heads are followed
   pub never-reached : (m : Module) (k : ℕ) → (unreached m .breach k ≡ true) ↔ ((has-value (at m k) ≡ true) × (Reaches m (name-of k) → ⊥))
   -- what has an OID is what reaches a built-in name
