@@ -30,6 +30,7 @@ pub mod SyntaxBreaches
 pub mod TableBreaches
 pub mod ModuleBreaches
 pub mod Breaches
+pub mod RangesRising
 pub mod Parents
 pub mod Searching
 pub mod Statements
