@@ -77,14 +77,14 @@ module _ (ms : List Meaning) where
     placed = refl;
   }
 
-  offers-is : (i : ℕ) → Offers ms i → offered ms i ≡ true
+  pub offers-is : (i : ℕ) → Offers ms i → offered ms i ≡ true
   unfolding offered
   offers-is i x =
       let k = x .0 in
       let is : symbol-of (spelled ms i) ≡ k = ap symbol-of (sym (x .2)) ∙ found-again k (x .1) in
       rw is (joined (lt-ltb k symbol-count (x .1)) (spelled-same _ _ (sym (x .3))))
 
-  is-offers : (i : ℕ) → offered ms i ≡ true → Offers ms i
+  pub is-offers : (i : ℕ) → offered ms i ≡ true → Offers ms i
   unfolding offered symbol-of
   is-offers i e =
       let two = both (ltb (symbol-of (spelled ms i)) symbol-count) _ e in

@@ -22,8 +22,10 @@ use Rattle.module_table.specs.Module.{Module, at}
 use Rattle.module_table.specs.declared.Lead.{Lead}
 use Rattle.module_table.specs.declared.Lead.the-variants.{Iso, Import, Definition, Nothing}
 use Rattle.scope.specs.Token.{classes-of, spelled}
-use Rattle.scope.specs.Import.{imports-end, is-import}
-use Rattle.scope.specs.Lead.{introduces, imports-name, is-imported, defines-name, defined-as, leads-to}
+use Rattle.scope.specs.Import.{imports-end, is-import, offered}
+use Rattle.scope.specs.Held.{AllOffered}
+use Rattle.scope.proofs.Leads.{import-offered}
+use Rattle.scope.specs.Lead.{introduces, imports-name, is-imported, is-offered, defines-name, defined-as, leads-to}
 use Rattle.scope.proofs.Imports.{end-inside, import-before}
 use Rattle.oid_head.specs.Oid.{HasOid, of-symbol, has-value, name-of, symbol-has-oid, Reaches}
 use Rattle.oid_head.specs.Unreached.{unreached}
@@ -31,19 +33,25 @@ use Rattle.oid_head.proofs.Meaning.{oid-reaches, reaches-oid}
 use Rattle.oid_head.proofs.Unreached.{broken-never, never-broken}
 use Rattle.clause_table.specs.Clause.{has-one-row}
 use Rattle.clause_table.proofs.OneRow.{exactly-one, one-is-all}
-use Rattle.statements.specs.Breach.{definition-count, name-token, OneRow, ModuleBreach, iso-introduced, introduced-twice}
+use Rattle.statements.specs.Breach.{definition-count, name-token, Offers, OneRow, ModuleBreach, iso-introduced, introduced-twice, unoffered}
 use Rattle.statements.specs.Searches.{Imported, Named, LeadsPlainly, Searches}
 use Rattle.statements.proofs.Tests.{both, joined, left, right, fails, never, found}
-use Rattle.statements.proofs.NameBreaches.{spelled-same}
+use Rattle.statements.proofs.NameBreaches.{spelled-same, offers-is, is-offers}
 use Rattle.statements.proofs.RangesRising.{rising-exactly}
 use Rattle.statements.proofs.Parents.{parents}
 use Rattle.statements.proofs.TableBreaches.{row-of-type, of-type}
 
 -- ---- what a name leads to
 
-module _ (ms : List Meaning) (kept : (i : ℕ) → ModuleBreach ms 9 i → ⊥) where
+module _ (ms : List Meaning) (kept : (i : ℕ) → ModuleBreach ms 9 i → ⊥) (offering : (i : ℕ) → ModuleBreach ms 10 i → ⊥) where
   counted : length (classes-of ms) ≡ length ms
   counted = length-map ms (λ (m : Meaning). m .class)
+
+  -- each import is offered
+  all-offered : AllOffered ms
+  all-offered i own =
+      answers (offered ms i) (λ e. e)
+      (λ f. absurd (offering i (unoffered (import-before (classes-of ms) i own) own (λ x. never f (offers-is ms i x)))))
 
   -- an imported symbol introduces its name, and so does a definition
   import-introduces : (i : ℕ) → is-import (classes-of ms) i ≡ true → (introduces (classes-of ms) i ≡ true) × (i < length ms)
@@ -126,7 +134,7 @@ module _ (ms : List Meaning) (kept : (i : ℕ) → ModuleBreach ms 9 i → ⊥) 
         (λ other.
         let not-iso : s ≡ iso-name → ⊥ = λ e. never other (spelled-same _ _ e) in
         answers (is-imported ms s)
-        (λ some. at-import not-iso (imported-is some) (rw (other, some)))
+        (λ some. at-import not-iso (imported-is some) (rw (other, some, import-offered ms s all-offered some)))
         (λ none.
         let not-imported : Imported ms s → ⊥ = λ x. never none (is-imported-by x) in
         answers (any (defines-name ms s) 0 (definition-count ms))
@@ -166,6 +174,25 @@ module _ (ms : List Meaning) (kept : (i : ℕ) → ModuleBreach ms 9 i → ⊥) 
           to-nothing = (λ e. (other, none, nowhere), λ x. is);
         }
 
+-- a name that leads to a symbol is imported from a module that offers it
+offered-lead : (ms : List Meaning) (s : List ℕ) (k : ℕ) → leads-to ms s ≡ Import k
+    → (i : ℕ) × (is-import (classes-of ms) i ≡ true) × (spelled ms i ≡ s) × Offers ms i
+unfolding leads-to
+offered-lead ms s k e = go (same s iso-name) (is-imported ms s) (is-offered ms s) refl (ltb (defined-as ms s) (definition-count ms)) e
+  where
+    go : (a b o : Bool) → is-offered ms s ≡ o → (c : Bool)
+        → cond a Iso (cond b (cond o (Import (symbol-of s)) Nothing) (cond c (Definition (record { 0 = defined-as ms s })) Nothing)) ≡ Import k
+        → (i : ℕ) × (is-import (classes-of ms) i ≡ true) × (spelled ms i ≡ s) × Offers ms i
+    go true b o is c e = let z : _≡_ {A = ℕ} 0 1 = cc in absurd (omega arith)
+    go false true true is c e =
+        let f = found _ 0 (imports-end (classes-of ms)) is in
+        let x = both (imports-name ms s (f .0)) _ (f .3) in
+        let y = both (is-import (classes-of ms) (f .0)) _ (x .0) in
+        (f .0, y .0, same-equal _ _ (y .1), is-offers ms (f .0) (x .1))
+    go false true false is c e = let z : _≡_ {A = ℕ} 0 1 = cc in absurd (omega arith)
+    go false false o is true e = let z : _≡_ {A = ℕ} 0 1 = cc in absurd (omega arith)
+    go false false o is false e = let z : _≡_ {A = ℕ} 0 1 = cc in absurd (omega arith)
+
 -- ---- exactly one row
 
 one-row : (m : Module) (type : ℕ) → (has-one-row (m .definitions) type ≡ true) ↔ ((r : ℕ) × OneRow m type r)
@@ -193,5 +220,6 @@ searches = record {
   never-reached = λ m k. (broken-never m k, λ x. never-broken m k (x .0) (x .1));
   has-oid = λ m l. (λ x. oid-reaches m (x .1), reaches-oid m l);
   no-symbol = no-symbol-oid;
+  offered = offered-lead;
   leads = plainly;
 }

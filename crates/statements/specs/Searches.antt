@@ -24,7 +24,7 @@ use Rattle.oid_head.specs.Unreached.{unreached}
 use Rattle.clause_table.specs.Clause.{has-one-row}
 use Rattle.object_tree.specs.Words.{is-object}
 use Rattle.reader.specs.Reading.{module-of}
-use Rattle.statements.specs.Breach.{definition-count, name-token, parent, Unordered, OneRow, ModuleBreach}
+use Rattle.statements.specs.Breach.{definition-count, name-token, Offers, parent, Unordered, OneRow, ModuleBreach}
 
 -- a symbol of this name is imported
 abbrev pub Imported : List Meaning → List ℕ → Type 0
@@ -34,7 +34,7 @@ Imported ms s = (i : ℕ) × (is-import (classes-of ms) i ≡ true) × (spelled 
 abbrev pub Named : List Meaning → List ℕ → ℕ → Type 0
 Named ms s k = (k < definition-count ms) × (spelled ms (name-token ms k) ≡ s)
 
--- What a name leads to, where no token breaks rule 9: `iso`, the built-in symbol that is imported by it, the definition of that name, or
+-- What a name leads to, where no token breaks rule 9 or 10: `iso`, the built-in symbol that is imported by it, the definition of that name, or
 -- nothing.
 pub record LeadsPlainly (ms : List Meaning) (s : List ℕ) : Type 0 where
   pub to-iso : (leads-to ms s ≡ Iso) ↔ (s ≡ iso-name)
@@ -80,5 +80,8 @@ pub record Searches : Type 0 where
   pub has-oid : (m : Module) (l : Lead) → ((oid : List ℕ) × HasOid m l oid) ↔ Reaches m l
   -- an import that is no built-in symbol has none
   pub no-symbol : (m : Module) (k : ℕ) (oid : List ℕ) → symbol-count ≤ k → HasOid m (Import k) oid → ⊥
-  -- names, where 9 is kept
-  pub leads : (ms : List Meaning) → ((i : ℕ) → ModuleBreach ms 9 i → ⊥) → (s : List ℕ) → LeadsPlainly ms s
+  -- a name leads to a symbol only where it is imported from a module that offers it
+  pub offered : (ms : List Meaning) (s : List ℕ) (k : ℕ) → leads-to ms s ≡ Import k
+      → (i : ℕ) × (is-import (classes-of ms) i ≡ true) × (spelled ms i ≡ s) × Offers ms i
+  -- names, where 9 and 10 are kept
+  pub leads : (ms : List Meaning) → ((i : ℕ) → ModuleBreach ms 9 i → ⊥) → ((i : ℕ) → ModuleBreach ms 10 i → ⊥) → (s : List ℕ) → LeadsPlainly ms s
