@@ -18,8 +18,8 @@ laid [] slice = slice
 laid (word ∷ words) [] = []
 laid (word ∷ words) (old ∷ slice) = word ∷ laid words slice
 
--- Reading, the contract of mib_read_raw: the two buffers are as the reader's contract says, and the right answer's number, place and count are laid over the
--- answer's words.
+-- Reading, the contract of mib_read_raw: the two buffers are as the reader's contract says, and the right answer's number, place and
+-- count are laid over the answer's words.
 pub record ReadRaw (text records records′ numbers numbers′ answer answer′ : List ℕ) : Type 0 where
   pub right : Answer
   pub reads : Reads text right records records′ numbers numbers′

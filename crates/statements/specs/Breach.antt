@@ -26,6 +26,7 @@ use Rattle.definition.specs.declared.Span.{Span}
 use Rattle.definition.specs.declared.Restriction.the-variants.{Ranges, Sizes, Enumeration}
 use Rattle.definition.specs.declared.Syntax.{Syntax}
 use Rattle.definition.specs.declared.Syntax.the-variants as syntax
+use Rattle.module_table.specs.declared.Definition.{Definition}
 use Rattle.module_table.specs.Module.{Module, most-definitions, at, oid-of}
 use Rattle.outline.specs.Outline.{outline}
 use Rattle.scope.specs.Token.{classes-of, spelled}
@@ -132,9 +133,19 @@ list-of m type = columns-of (m .definitions) type
 abbrev pub object-at : Module → ℕ → ℕ
 object-at m i = named-at (m .definitions) (m .values) i
 
--- the parent of definition k: the object whose OID is its own less the last number
+-- the parent of definition k, by its number, counted from 1, and itself: the object whose OID is its own less the last number
 abbrev pub parent : Module → ℕ → ℕ
 parent m k = at m k .parent
+
+abbrev pub above : Module → ℕ → Definition
+above m k = definition-of-number (m .definitions) (parent m k)
+
+-- the object that token i names, and the definition that AUGMENTS of definition k names
+abbrev pub named-object : Module → ℕ → Definition
+named-object m i = definition-of-number (m .definitions) (object-at m i)
+
+abbrev pub augmented : Module → ℕ → Definition
+augmented m k = definition-of-number (m .definitions) (number-at (m .values) (at m k .augments .from))
 
 -- the last number of its OID
 abbrev pub last-number : Module → ℕ → ℕ
@@ -149,11 +160,11 @@ pub record OneRow (m : Module) (type r : ℕ) : Type 0 where
 -- "Rule 20": definition k, an object, is at fault
 pub data TableFault (m : Module) (k : ℕ) : Type 0 where
   -- "a table's SEQUENCE type has exactly one row, at the table's OID followed by 1 (else the table)"
-  rowless : is-table (at m k) ≡ true → ((r : ℕ) → OneRow m (type-of (at m k)) r → parent m r ≡ k + 1 → last-number m r ≡ 1 → ⊥) → TableFault m k
+  rowless : is-table (at m k) ≡ true → ((r : ℕ) → OneRow m (type-of (at m k)) r → parent m r ≡ k + 1 → last-number m r ≡ 1 → ⊥)
+      → TableFault m k
   -- "each row is at the OID, followed by 1, of a table of its type (else the row)"
   stray : is-row (at m k) ≡ true
-      → (is-table (definition-of-number (m .definitions) (parent m k)) ≡ true
-      → type-of (definition-of-number (m .definitions) (parent m k)) ≡ type-of (at m k) → last-number m k ≡ 1 → ⊥) → TableFault m k
+      → (is-table (above m k) ≡ true → type-of (above m k) ≡ type-of (at m k) → last-number m k ≡ 1 → ⊥) → TableFault m k
   -- "rows have INDEX or AUGMENTS"
   unindexed : is-row (at m k) ≡ true → is-given (at m k .index) ≡ false → is-given (at m k .augments) ≡ false → TableFault m k
   -- "other objects neither"
@@ -164,27 +175,25 @@ pub data TableFault (m : Module) (k : ℕ) : Type 0 where
       → (object-at m j ≡ 0 → ⊥) → object-at m i ≡ object-at m j → TableFault m k
   -- "and are objects at its OID plus one number (else the row)"
   misnaming : (i : ℕ) → is-row (at m k) ≡ true → list-of m (type-of (at m k)) .from ≤ i → i < list-of m (type-of (at m k)) .to
-      → (object-at m i ≡ 0 → ⊥) → (definition-of-number (m .definitions) (object-at m i) .parent ≡ k + 1 → ⊥) → TableFault m k
+      → (object-at m i ≡ 0 → ⊥) → (named-object m i .parent ≡ k + 1 → ⊥) → TableFault m k
   -- "each object there is listed (else that object)"
-  unlisted : is-object (at m k) ≡ true → is-row (definition-of-number (m .definitions) (parent m k)) ≡ true
-      → ((i : ℕ) → list-of m (type-of (definition-of-number (m .definitions) (parent m k))) .from ≤ i
-      → i < list-of m (type-of (definition-of-number (m .definitions) (parent m k))) .to → object-at m i ≡ k + 1 → ⊥) → TableFault m k
+  unlisted : is-object (at m k) ≡ true → is-row (above m k) ≡ true
+      → ((i : ℕ) → list-of m (type-of (above m k)) .from ≤ i → i < list-of m (type-of (above m k)) .to → object-at m i ≡ k + 1 → ⊥)
+      → TableFault m k
   -- "AUGMENTS names a row with INDEX"
   unfounded : is-object (at m k) ≡ true → is-given (at m k .augments) ≡ true
-      → (is-row (definition-of-number (m .definitions) (number-at (m .values) (at m k .augments .from))) ≡ true
-      → is-given (definition-of-number (m .definitions) (number-at (m .values) (at m k .augments .from)) .index) ≡ true → ⊥) → TableFault m k
+      → (is-row (augmented m k) ≡ true → is-given (augmented m k .index) ≡ true → ⊥) → TableFault m k
 
 -- "Rule 21": definition k, an object, is at fault
 pub data AccessFault (m : Module) (k : ℕ) : Type 0 where
   -- "no read-write column in a row that has a read-create one (at the former)"
-  clashing : (i : ℕ) → is-object (at m k) ≡ true → at m k .access ≡ read-write → is-row (definition-of-number (m .definitions) (parent m k)) ≡ true
-      → list-of m (type-of (definition-of-number (m .definitions) (parent m k))) .from ≤ i
-      → i < list-of m (type-of (definition-of-number (m .definitions) (parent m k))) .to
-      → definition-of-number (m .definitions) (object-at m i) .access ≡ read-create → AccessFault m k
+  clashing : (i : ℕ) → is-object (at m k) ≡ true → at m k .access ≡ read-write → is-row (above m k) ≡ true
+      → list-of m (type-of (above m k)) .from ≤ i → i < list-of m (type-of (above m k)) .to
+      → named-object m i .access ≡ read-create → AccessFault m k
   -- "tables and rows are not-accessible"
   accessible : (is-table (at m k) ≡ true) ⊎ (is-row (at m k) ≡ true) → (at m k .access ≡ not-accessible → ⊥) → AccessFault m k
   -- "read-create only in columns"
-  created : is-object (at m k) ≡ true → at m k .access ≡ read-create → is-row (definition-of-number (m .definitions) (parent m k)) ≡ false → AccessFault m k
+  created : is-object (at m k) ≡ true → at m k .access ≡ read-create → is-row (above m k) ≡ false → AccessFault m k
   -- "objects of classes 7 and 12 are read-only or accessible-for-notify"
   counter : is-object (at m k) ≡ true → (at m k .class ≡ counter32) ⊎ (at m k .class ≡ counter64)
       → (at m k .access ≡ read-only → ⊥) → (at m k .access ≡ accessible-for-notify → ⊥) → AccessFault m k
@@ -198,8 +207,8 @@ pub data NotificationFault (m : Module) (k : ℕ) : Type 0 where
   -- "or it has fewer than two"
   short : length (oid-of m k) < 2 → NotificationFault m k
   -- "or it lists a not-accessible object"
-  hidden : (i : ℕ) → at m k .objects .from ≤ i → i < at m k .objects .to
-      → definition-of-number (m .definitions) (object-at m i) .access ≡ not-accessible → NotificationFault m k
+  hidden : (i : ℕ) → at m k .objects .from ≤ i → i < at m k .objects .to → named-object m i .access ≡ not-accessible
+      → NotificationFault m k
 
 -- ---- The rows from 8 on
 
@@ -223,13 +232,16 @@ pub data ModuleBreach (ms : List Meaning) : ℕ → ℕ → Type 0 where
   -- 13: OID over 128 numbers
   long-oid : {k : ℕ} → k < definition-count ms → longest-oid < length (resolved-oid (named ms) k) → ModuleBreach ms 13 (name-token ms k)
   -- 14: definition with which the OID numbers pass 8,192
-  many-numbers : {k : ℕ} → k < definition-count ms → first-number (named ms) k ≤ most-numbers → most-numbers < first-number (named ms) (suc k)
+  many-numbers : {k : ℕ} → k < definition-count ms → first-number (named ms) k ≤ most-numbers
+      → most-numbers < first-number (named ms) (suc k)
       → ModuleBreach ms 14 (name-token ms k)
   -- 15: OID already held by an earlier definition, both of kinds 1, 3, 4, 7
-  held-twice : {k : ℕ} (j : ℕ) → k < definition-count ms → j < k → is-holder (at (numbered ms) k) ≡ true → is-holder (at (numbered ms) j) ≡ true
+  held-twice : {k : ℕ} (j : ℕ) → k < definition-count ms → j < k → is-holder (at (numbered ms) k) ≡ true
+      → is-holder (at (numbered ms) j) ≡ true
       → oid-of (numbered ms) j ≡ oid-of (numbered ms) k → ModuleBreach ms 15 (name-token ms k)
   -- 16: range with low not below high, or ranges not in rising order without overlap
-  unordered : {i : ℕ} (k : ℕ) (s : Span) → k < definition-count ms → HasRanges (classed ms) k s ⊎ HasSizes (classed ms) k s → Within (classed ms) s i
+  unordered : {i : ℕ} (k : ℕ) (s : Span) → k < definition-count ms → HasRanges (classed ms) k s ⊎ HasSizes (classed ms) k s
+      → Within (classed ms) s i
       → starts-range (classed ms .classes) i ≡ true → Unordered (classed ms) i → ModuleBreach ms 16 i
   -- 17: ranges on a class other than 1, 8, 9, sizes on one other than 3, or outside: class 1 -2147483648..2147483647, 8 and 9
   -- 0..4294967295, sizes 0..65535; not tested in a convention that breaches 19, nor in an object naming one

@@ -34,8 +34,8 @@ Imported ms s = (i : ℕ) × (is-import (classes-of ms) i ≡ true) × (spelled 
 abbrev pub Named : List Meaning → List ℕ → ℕ → Type 0
 Named ms s k = (k < definition-count ms) × (spelled ms (name-token ms k) ≡ s)
 
--- What a name leads to, where no token breaks rule 9 or 10: `iso`, the built-in symbol that is imported by it, the definition of that name, or
--- nothing.
+-- What a name leads to, where no token breaks rule 9 or 10: `iso`, the built-in symbol that is imported by it, the definition of that
+-- name, or nothing.
 pub record LeadsPlainly (ms : List Meaning) (s : List ℕ) : Type 0 where
   pub to-iso : (leads-to ms s ≡ Iso) ↔ (s ≡ iso-name)
   pub to-import : (k : ℕ) → (leads-to ms s ≡ Import k) ↔ (Imported ms s × (symbol-of s ≡ k))
@@ -51,7 +51,8 @@ IsParent m j k =
 -- a range stands from token a on, before e, as the grammar has it: "number or number .. number"
 pub data RangeStands (cs : List ℕ) : ℕ → ℕ → Type 0 where
   alone : {a : ℕ} → is-number (class-at cs a) ≡ true → RangeStands cs a (a + 1)
-  pair : {a : ℕ} → is-number (class-at cs a) ≡ true → class-at cs (a + 1) ≡ dots → is-number (class-at cs (a + 2)) ≡ true → RangeStands cs a (a + 3)
+  pair : {a : ℕ} → is-number (class-at cs a) ≡ true → class-at cs (a + 1) ≡ dots → is-number (class-at cs (a + 2)) ≡ true
+      → RangeStands cs a (a + 3)
 
 -- ranges stand from token a on, parted by `|`, before the bracket that closes them at b
 pub data RangesStand (cs : List ℕ) : ℕ → ℕ → Type 0 where
@@ -84,4 +85,5 @@ pub record Searches : Type 0 where
   pub offered : (ms : List Meaning) (s : List ℕ) (k : ℕ) → leads-to ms s ≡ Import k
       → (i : ℕ) × (is-import (classes-of ms) i ≡ true) × (spelled ms i ≡ s) × Offers ms i
   -- names, where 9 and 10 are kept
-  pub leads : (ms : List Meaning) → ((i : ℕ) → ModuleBreach ms 9 i → ⊥) → ((i : ℕ) → ModuleBreach ms 10 i → ⊥) → (s : List ℕ) → LeadsPlainly ms s
+  pub leads : (ms : List Meaning) → ((i : ℕ) → ModuleBreach ms 9 i → ⊥) → ((i : ℕ) → ModuleBreach ms 10 i → ⊥)
+      → (s : List ℕ) → LeadsPlainly ms s

@@ -68,7 +68,9 @@ pub record FirstDemand (text : List ℕ) (answer : Answer) (records records′ n
 
 -- Definition k has this OID, and no other, by the relation that follows heads however far they lead.
 abbrev pub OidIs : Module → ℕ → List ℕ → Type 0
-OidIs m k oid = HasOid m (Definition (record { 0 = k })) oid × ((other : List ℕ) → HasOid m (Definition (record { 0 = k })) other → other ≡ oid)
+OidIs m k oid =
+    HasOid m (Definition (record { 0 = k })) oid
+    × ((other : List ℕ) → HasOid m (Definition (record { 0 = k })) other → other ≡ oid)
 
 -- word j of record k, both from 0 on
 abbrev pub record-word : List ℕ → ℕ → ℕ → ℕ
@@ -93,7 +95,8 @@ pub record SecondDemand (text : List ℕ) (answer : Answer) (records records′ 
       → numbers′ ≡ filled number-words (module-of (meanings-in text) .numbers) numbers
   -- "An OID is the head's OID followed by the parts' numbers": these are the sub-identifiers of each definition of a kind that has any,
   -- cut out of all of them by where they start and how many they are
-  pub resolved : number-of answer ≡ 0 → (k : ℕ) → k < definitions-in (module-of (meanings-in text)) → has-value (at (named (meanings-in text)) k) ≡ true
+  pub resolved : number-of answer ≡ 0 → (k : ℕ) → k < definitions-in (module-of (meanings-in text))
+      → has-value (at (named (meanings-in text)) k) ≡ true
       → OidIs (named (meanings-in text)) k (oid-of (module-of (meanings-in text)) k)
   -- "first index and count of its sub-identifiers": words 3 and 4 of record k cut the OID of definition k out of the number buffer as it
   -- is left
@@ -194,19 +197,21 @@ pub record Statements : Type 0 where
   -- two texts that differ only in allowed bytes strictly inside text tokens are answered and written alike
   pub quotes : (a b : List ℕ) → QuotedChange a b → ReadAlike a b
   pub third-demand : OfEveryRead
-      (λ text answer records records′ numbers numbers′. WithinLimits text (length records) (length numbers) → Cuts text → ThirdDemand text answer)
+      (λ text answer records records′ numbers numbers′.
+      WithinLimits text (length records) (length numbers) → Cuts text → ThirdDemand text answer)
   -- the contracts leave nothing open: number, place, count and each lent word are settled; of reader::examine, clause and other place too
   pub read-settled : (text : List ℕ) → ReadAlike text text
   pub examine-settled : (text : List ℕ) → ExaminedAlike text text
   -- the second demand's printed values, of octets and of integers
-  pub octets : (display-hint value : List ℕ) (answer : HintAnswer) (before after : List ℕ) → hint.PrintedOctets display-hint value answer before after
+  pub octets : (display-hint value : List ℕ) (answer : HintAnswer) (before after : List ℕ)
+      → hint.PrintedOctets display-hint value answer before after
       → Prints hint.octets-part (hint.octets-verdict (length before) display-hint value) answer before after
   pub integer : (display-hint : List ℕ) (value : ℤ) (answer : HintAnswer) (before after : List ℕ)
       → hint.PrintedInteger display-hint value answer before after
       → Prints hint.integer-part (hint.integer-verdict (length before) display-hint value) answer before after
   -- "Output never passes four bytes for each octet"
-  pub four-bytes : (room : ℕ) (display-hint value t : List ℕ) → ((k : ℕ) → getD value k 0 < 256) → hint.octets-verdict room display-hint value ≡ hint.text t
-      → length t ≤ 4 * length value
+  pub four-bytes : (room : ℕ) (display-hint value t : List ℕ) → ((k : ℕ) → getD value k 0 < 256)
+      → hint.octets-verdict room display-hint value ≡ hint.text t → length t ≤ 4 * length value
   -- "Bases 2, 8, 10, 16 share one fact over the base": the digits of a number read back as it
   pub digits-back : (base n : ℕ) → 2 ≤ base → base ≤ 16 → numeral base 0 (digits base n) ≡ n
   -- "no leading zeros": 0 is one digit, and of no other number the first digit is 0
