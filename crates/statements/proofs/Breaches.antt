@@ -57,15 +57,19 @@ cut-ranked (suc (suc (suc (suc (suc zero))))) l h = omega arith
 cut-ranked (suc (suc (suc (suc (suc (suc zero)))))) l h = omega arith
 cut-ranked (suc (suc (suc (suc (suc (suc (suc n))))))) l h = absurd (omega arith)
 
+eight-later : rank 7 < rank 8
+unfolding rank ranks-before is-among
+eight-later = omega arith
+
 -- the rules after the grammar have later ranks
 abbrev pub Ordered : List Meaning → Type 0
-Ordered ms = Run (suc (rank 7)) (length ranks) (rules ms)
+Ordered ms = Run (rank 8) (length ranks) (rules ms)
 
 pub after-grammar : (ms : List Meaning) → Ordered ms → {m t : ℕ} → BrokenIn (rules ms) m t → (rank 7 < rank m) × (rank m < length ranks)
 after-grammar ms order x =
     let within = ranked-listed (rules ms) (order .ranked) (x .rule) (x .listed) in
     let same = ap rank (x .numbered) in
-    (omega (arith, within .0, same), omega (arith, within .1, same))
+    (omega (arith, eight-later, within .0, same), omega (arith, within .1, same))
 
 -- ---- the first breach
 

@@ -1,6 +1,6 @@
 -- The first and the second demand, from what each answer says of breaches and from what the contract says of the buffers.
 -- Assumes nothing.
-use mathlib.Core.Path.{_≡_, refl, sym, ap, ap₂, _∙_}
+use mathlib.Core.Path.{_≡_, refl, sym, ap, ap₂, subst, _∙_}
 use mathlib.Core.Logic.{_⊎_, ⊎-elim}
 use mathlib.Core.Bool.{true, false}
 use mathlib.Core.List.{List, []}
@@ -186,7 +186,8 @@ module _ (text : List ℕ) (order : Ordered (meanings-in text)) (placed : Placed
     not-counted = refusal-count answer;
     recorded = records-are;
     numbered = numbers-are;
-    resolved = λ zero k h has. rw (recorded-oid (meanings-in text) k) (resolved-of (meanings-in text) (rules-kept zero) k h has);
+    resolved = λ zero k h has.
+        subst (OidIs (named (meanings-in text)) k) (sym (recorded-oid (meanings-in text) k)) (resolved-of (meanings-in text) (rules-kept zero) k h has);
     cut-out = λ zero k h has.
         let inside : k < definitions-in (module-of (meanings-in text)) = omega (arith, all-counted (accepted-within zero) zero) in
         rw (cut-of zero k inside) (resolved-of (meanings-in text) (rules-kept zero) k inside has);

@@ -30,7 +30,7 @@ use Rattle.reader.specs.Reading.{numbered, classed, module-of, oid-rules, objec
 use Rattle.statements.specs.Order.{ranks, is-among, ranks-before, rank}
 use Rattle.statements.proofs.Ordered.{Broken, Placed}
 use Rattle.statements.proofs.RisingHits.{Confined, hits-confined, confined-wider}
-use Rattle.statements.proofs.RisingRun.{Run, run-row, run-then, run-none, run-each, placed-row, placed-each}
+use Rattle.statements.proofs.RisingRun.{Run, run-row, run-one, run-then, run-within, run-each, placed-row, placed-each}
 use Rattle.scope.proofs.Imports as imports
 use Rattle.outline.proofs.Outline.{outline-counted}
 use Rattle.statements.proofs.RisingDefinitions.{name-of, end-of, ends-before, end-inside, syntax-at-home}
@@ -177,13 +177,12 @@ module _ (ms : List Meaning) where
   -- ---- in a row
 
   -- a rule for each definition, its places inside it
-  of-each : {n : ℕ} (number : ℕ) → rank number ≡ n → (rule : ℕ → Rule)
-      → ((k : ℕ) → k < count → Confined number (name-of (classes-of ms) k) (end-of (classes-of ms) k) (rule k))
-      → Run n (suc n) (each rule 0 (length shapes))
+  of-each : (number : ℕ) (rule : ℕ → Rule) → ((k : ℕ) → k < count → Confined number (name-of (classes-of ms) k) (end-of (classes-of ms) k) (rule k))
+      → Run (rank number) (suc (rank number)) (each rule 0 (length shapes))
   unfolding each
-  of-each {n} number is rule home =
+  of-each number rule home =
       rw shapes-counted
-      (run-each rule number n count is (name-of (classes-of ms)) (end-of (classes-of ms)) home (ends-before (classes-of ms)) (count - 0) 0 (omega arith))
+      (run-each rule number count (name-of (classes-of ms)) (end-of (classes-of ms)) home (ends-before (classes-of ms)) (count - 0) 0 (omega arith))
 
   placed-of-each : (n : ℕ) (rule : ℕ → Rule) → ((k : ℕ) → k < count → Confined n (name-of (classes-of ms) k) (end-of (classes-of ms) k) (rule k))
       → Placed (length ms) (each rule 0 (length shapes))
@@ -194,20 +193,19 @@ module _ (ms : List Meaning) where
       (λ k h i p. omega (arith, counted, home k h .inside i p .1, end-inside (classes-of ms) k h))
       (count - 0) 0 (omega arith))
 
-  -- the ranks of 8 to 11, of 12 to 15, of 16 to 19 and of 20 to 22
-  names-run : Run 4 8 (name-rules ms)
+  names-run : Run (rank 8) (suc (rank 11)) (name-rules ms)
   unfolding rank ranks-before is-among
   names-run =
-      run-then refl (omega arith) too-many-rises
-      (run-then refl (omega arith) introduced-again-rises
-      (run-then refl (omega arith) not-offered-rises (run-then refl (omega arith) unknown-name-rises (run-none 8))))
+      run-then (omega arith) (omega arith) too-many-rises
+      (run-then (omega arith) (omega arith) introduced-again-rises
+      (run-then (omega arith) (omega arith) not-offered-rises (run-one unknown-name-rises)))
 
-  oids-run : Run 8 12 (oid-rules (named ms))
+  oids-run : Run (rank 12) (suc (rank 15)) (oid-rules (named ms))
   unfolding oid-rules rank ranks-before is-among
   oids-run =
-      run-then refl (omega arith) unreached-rises
-      (run-then refl (omega arith) too-long-rises
-      (run-then refl (omega arith) past-room-rises (run-then refl (omega arith) held-twice-rises (run-none 12))))
+      run-then (omega arith) (omega arith) unreached-rises
+      (run-then (omega arith) (omega arith) too-long-rises
+      (run-then (omega arith) (omega arith) past-room-rises (run-one held-twice-rises)))
 
   abbrev ranges : Demand → ℕ → Rule
   ranges demand = range-rule-of (classed ms .classes) (classed ms .values) shapes demand
@@ -224,28 +222,28 @@ module _ (ms : List Meaning) where
   abbrev of-syntax : List Rule
   of-syntax = rules-over (spelled ms) (classed ms .classes) (classed ms .values) shapes
 
-  syntax-run : Run 12 16 of-syntax
+  syntax-run : Run (rank 16) (suc (rank 19)) of-syntax
   unfolding rules-over rank ranks-before is-among
   syntax-run =
-      run-row (omega arith) (omega arith) (of-each 16 refl (ranges Order) (ranges-home Order))
-      (run-row (omega arith) (omega arith) (of-each 17 refl (ranges Limits) (ranges-home Limits))
-      (run-row (omega arith) (omega arith) (of-each 18 refl items items-home)
-      (run-then refl (omega arith) indirect-rises (run-none 16))))
+      run-row (omega arith) (omega arith) (omega arith) (of-each 16 (ranges Order) (ranges-home Order))
+      (run-row (omega arith) (omega arith) (omega arith) (of-each 17 (ranges Limits) (ranges-home Limits))
+      (run-row (omega arith) (omega arith) (omega arith) (of-each 18 items items-home) (run-one indirect-rises)))
 
   abbrev of-objects : List Rule
   of-objects = object-rules objects (module-of ms .values) (module-of ms .numbers)
 
-  objects-run : Run 16 19 of-objects
+  objects-run : Run (rank 20) (suc (rank 22)) of-objects
   unfolding object-rules rank ranks-before is-among
   objects-run =
-      run-then refl (omega arith) table-broken-rises
-      (run-then refl (omega arith) access-broken-rises (run-then refl (omega arith) notification-broken-rises (run-none 19)))
+      run-then (omega arith) (omega arith) table-broken-rises
+      (run-then (omega arith) (omega arith) access-broken-rises (run-one notification-broken-rises))
 
-  pub rules-in-order : Run (suc (rank 7)) (length ranks) (rules ms)
+  pub rules-in-order : Run (rank 8) (length ranks) (rules ms)
   unfolding rules later-rules rank ranks-before is-among
   rules-in-order =
-      run-row (omega arith) (omega arith) names-run
-      (run-row (omega arith) (omega arith) oids-run (run-row (omega arith) (omega arith) syntax-run objects-run))
+      run-row (omega arith) (omega arith) (omega arith) names-run
+      (run-row (omega arith) (omega arith) (omega arith) oids-run
+      (run-row (omega arith) (omega arith) (omega arith) syntax-run (run-within (omega arith) objects-run)))
 
   -- ---- places
 

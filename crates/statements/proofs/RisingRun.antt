@@ -25,10 +25,10 @@ pub ranked-listed : {n m : ℕ} (rs : List Rule) → Ranked n m rs → (s : Rule
 ranked-listed (r ∷ rs) p s (inl same) = let equal = ap (λ (x : Rule). rank (x .number)) same in (omega (arith, p .0, equal), omega (arith, p .1, equal))
 ranked-listed (r ∷ rs) p s (inr l) = ranked-listed rs (p .2) s l
 
-ranked-row : (n m o : ℕ) (rs ss : List Rule) → n ≤ m → m ≤ o → Ranked n m rs → Ranked m o ss → Ranked n o (rs ++ ss)
-ranked-row n m o [] [] l h p q = tt
-ranked-row n m o [] (s ∷ ss) l h p q = (omega (arith, q .0), q .1, ranked-row n m o [] ss l h tt (q .2))
-ranked-row n m o (r ∷ rs) ss l h p q = (p .0, omega (arith, p .1), ranked-row n m o rs ss l h (p .2) q)
+ranked-row : (n m a o : ℕ) (rs ss : List Rule) → n ≤ a → m ≤ o → Ranked n m rs → Ranked a o ss → Ranked n o (rs ++ ss)
+ranked-row n m a o [] [] l h p q = tt
+ranked-row n m a o [] (s ∷ ss) l h p q = (omega (arith, q .0), q .1, ranked-row n m a o [] ss l h tt (q .2))
+ranked-row n m a o (r ∷ rs) ss l h p q = (p .0, omega (arith, p .1), ranked-row n m a o rs ss l h (p .2) q)
 
 -- a rule comes before those of later ranks
 before-later : (m o : ℕ) (r : Rule) (ss : List Rule) → rank (r .number) < m → Ranked m o ss → BeforeAll r ss
@@ -39,41 +39,45 @@ before-row : (r : Rule) (rs ss : List Rule) → BeforeAll r rs → BeforeAll r s
 before-row r [] ss p q = q
 before-row r (s ∷ rs) ss p q = (p .0, before-row r rs ss (p .1) q)
 
-ordered-row : (n m o : ℕ) (rs ss : List Rule) → Ranked n m rs → Ranked m o ss → InOrder rs → InOrder ss → InOrder (rs ++ ss)
-ordered-row n m o [] ss p q f g = g
-ordered-row n m o (r ∷ rs) ss p q f g =
-    (f .0, before-row r rs ss (f .1) (before-later m o r ss (p .1) q), ordered-row n m o rs ss (p .2) q (f .2) g)
+ordered-row : (n m a o : ℕ) (rs ss : List Rule) → m ≤ a → Ranked n m rs → Ranked a o ss → InOrder rs → InOrder ss → InOrder (rs ++ ss)
+ordered-row n m a o [] ss l p q f g = g
+ordered-row n m a o (r ∷ rs) ss l p q f g =
+    (f .0, before-row r rs ss (f .1) (before-later a o r ss (omega (arith, p .1)) q), ordered-row n m a o rs ss l (p .2) q (f .2) g)
 
--- one run after the other
-pub run-row : {n m o : ℕ} {rs ss : List Rule} → n ≤ m → m ≤ o → Run n m rs → Run m o ss → Run n o (rs ++ ss)
-run-row {n} {m} {o} {rs} {ss} l h p q = record {
-  ranked = ranked-row n m o rs ss l h (p .ranked) (q .ranked);
-  in-order = ordered-row n m o rs ss (p .ranked) (q .ranked) (p .in-order) (q .in-order);
+-- one run after the other: no rank of the first comes behind one of the second
+pub run-row : {n m a o : ℕ} {rs ss : List Rule} → n ≤ a → m ≤ a → m ≤ o → Run n m rs → Run a o ss → Run n o (rs ++ ss)
+run-row {n} {m} {a} {o} {rs} {ss} l h k p q = record {
+  ranked = ranked-row n m a o rs ss l k (p .ranked) (q .ranked);
+  in-order = ordered-row n m a o rs ss h (p .ranked) (q .ranked) (p .in-order) (q .in-order);
 }
 
--- a rule alone, of a number of rank n
-run-one : {n number d e : ℕ} {r : Rule} → rank number ≡ n → Confined number d e r → Run n (suc n) (r ∷ [])
-run-one is c =
+-- ranks that end earlier end before any later one
+pub run-within : {n m o : ℕ} {rs : List Rule} → m ≤ o → Run n m rs → Run n o rs
+run-within {n} {m} {o} {rs} h p = record { ranked = within rs (p .ranked); in-order = p .in-order }
+  where
+    within : (rs : List Rule) → Ranked n m rs → Ranked n o rs
+    within [] q = tt
+    within (r ∷ rs) q = (q .0, omega (arith, q .1), within rs (q .2))
+
+-- a rule alone
+pub run-one : {number d e : ℕ} {r : Rule} → Confined number d e r → Run (rank number) (suc (rank number)) (r ∷ [])
+run-one c =
     let at = ap rank (c .numbered) in
-    record { ranked = (omega (arith, at, is), omega (arith, at, is), tt); in-order = (c .rises, tt, tt) }
+    record { ranked = (omega (arith, at), omega (arith, at), tt); in-order = (c .rises, tt, tt) }
 
 -- a rule, and then those of later ranks
-pub run-then : {n m number d e : ℕ} {r : Rule} {rs : List Rule} → rank number ≡ n → n < m → Confined number d e r → Run (suc n) m rs → Run n m (r ∷ rs)
-run-then is l c rest = run-row (omega arith) l (run-one is c) rest
+pub run-then : {number a o d e : ℕ} {r : Rule} {rs : List Rule} → rank number < a → a ≤ o → Confined number d e r → Run a o rs → Run (rank number) o (r ∷ rs)
+run-then l h c rest = run-row (omega arith) l (omega arith) (run-one c) rest
 
--- no rule
-pub run-none : (n : ℕ) → Run n n []
-run-none n = record { ranked = tt; in-order = tt }
-
--- a rule of one number, of rank n, for each index below c, with bounds for each, of which none passes the next
-module _ (rule : ℕ → Rule) (number n c : ℕ) (is : rank number ≡ n) (d e : ℕ → ℕ) (confined : (k : ℕ) → k < c → Confined number (d k) (e k) (rule k))
+-- a rule of one number for each index below c, with bounds for each, of which none passes the next
+module _ (rule : ℕ → Rule) (number c : ℕ) (d e : ℕ → ℕ) (confined : (k : ℕ) → k < c → Confined number (d k) (e k) (rule k))
     (apart : (j k : ℕ) → j < k → k < c → e j ≤ d k) where
-  each-ranked : (m a : ℕ) → a + m ≤ c → Ranked n (suc n) (each-of rule a m)
+  each-ranked : (m a : ℕ) → a + m ≤ c → Ranked (rank number) (suc (rank number)) (each-of rule a m)
   unfolding each-of
   each-ranked zero a h = tt
   each-ranked (suc m) a h =
       let at = ap rank (confined a (omega arith) .numbered) in
-      (omega (arith, at, is), omega (arith, at, is), each-ranked m (suc a) (omega arith))
+      (omega (arith, at), omega (arith, at), each-ranked m (suc a) (omega arith))
 
   before : (j k : ℕ) → j < k → k < c → Before (rule j) (rule k)
   before j k l h x y p q =
@@ -93,7 +97,7 @@ module _ (rule : ℕ → Rule) (number n c : ℕ) (is : rank number ≡ n) (d e 
   each-ordered (suc m) a h =
       (confined a (omega arith) .rises, before-each a m (suc a) (omega arith) (omega arith), each-ordered m (suc a) (omega arith))
 
-  pub run-each : (m a : ℕ) → a + m ≤ c → Run n (suc n) (each-of rule a m)
+  pub run-each : (m a : ℕ) → a + m ≤ c → Run (rank number) (suc (rank number)) (each-of rule a m)
   run-each m a h = record { ranked = each-ranked m a h; in-order = each-ordered m a h }
 
 -- the places of rules in a row, and of a rule for each index below c
