@@ -1,10 +1,11 @@
--- Digits of a number at a base, one definition for the bases 2, 8, 10 and 16; and the implied decimal point.
+-- Digits of a number at a base, one definition for the bases 2, 8, 10 and 16; the implied decimal point; and the number that digits
+-- write.
 -- Assumes nothing.
 use Prim.Native.Nat.{ℕ, zero, suc, _+_, _-_, _*_, _/_, _%_}
 use Prim.Native.Char.{code}
 use mathlib.Core.Bool.{true, false, cond}
 use mathlib.Core.List.{List, [], _∷_, _++_}
-use lib.Dec.{ltb}
+use lib.Dec.{leb, ltb}
 
 -- the byte of one digit: 0 to 9, then lower-case a to f
 unfoldable pub glyph : ℕ → ℕ
@@ -30,3 +31,12 @@ pointed (suc places) n = pointed places (n / 10) ++ (glyph (n % 10) ∷ [])
 unfoldable pub big-endian : ℕ → List ℕ → ℕ
 big-endian n [] = n
 big-endian n (octet ∷ rest) = big-endian (n * 256 + octet) rest
+
+-- the value of a digit's byte
+unfoldable pub digit-value : ℕ → ℕ
+digit-value b = cond (leb b (code "9")) (b - code "0") (b - code "a" + 10)
+
+-- the number that digits write at a base, most significant first, after digits that were worth n
+unfoldable pub numeral : ℕ → ℕ → List ℕ → ℕ
+numeral base n [] = n
+numeral base n (d ∷ ds) = numeral base (n * base + digit-value d) ds

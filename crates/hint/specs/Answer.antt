@@ -110,3 +110,11 @@ pub record Answered (part : ℕ) (verdict : Verdict) (answer : Answer) (before a
   pub place-is : place-of answer ≡ place verdict
   pub length-is : length-of answer ≡ size verdict
   pub buffer-is : after ≡ buffer part verdict before
+
+-- the contract of hint::octets
+abbrev pub PrintedOctets : List ℕ → List ℕ → Answer → List ℕ → List ℕ → Type 0
+PrintedOctets hint value answer before after = Answered octets-part (octets-verdict (length before) hint value) answer before after
+
+-- the contract of hint::integer
+abbrev pub PrintedInteger : List ℕ → ℤ → Answer → List ℕ → List ℕ → Type 0
+PrintedInteger hint value answer before after = Answered integer-part (integer-verdict (length before) hint value) answer before after

@@ -3,8 +3,7 @@
 mod pieces;
 
 ghost use mathlib.Core.Path.{_≡_};
-ghost use lib.ListN.{length};
-ghost use Rattle.hint.specs.Answer.{number-of, place-of, length-of, Answered, octets-verdict, integer-verdict, octets-part, integer-part};
+ghost use Rattle.hint.specs.Answer.{number-of, place-of, length-of, PrintedOctets, PrintedInteger};
 use buffer::clear;
 use hint_form::is_hint;
 use hint_integer::form_of;
@@ -75,8 +74,7 @@ impl Answer {
 // Prints octets by a hint for octets. Works on the first 4,096 bytes of the output: the text, then zeros. A refusal zeroes
 // them too, but for a buffer that is shorter, of which nothing changes.
 pub fn octets(hint: &[u8], value: &[u8], out: &mut [u8]) -> Answer
-    ensures { λ r. ⌜ Answered octets-part (octets-verdict (length (now (out .entry))) (now (hint .entry)) (now (value .entry)))
-        r (now (out .entry)) (now (out .exit)) ⌝ }
+    ensures { λ r. ⌜ PrintedOctets (now (hint .entry)) (now (value .entry)) r (now (out .entry)) (now (out .exit)) ⌝ }
 {
     if out.len() < 4096 {
         return Answer::ShortBuffer;
@@ -99,8 +97,7 @@ pub fn octets(hint: &[u8], value: &[u8], out: &mut [u8]) -> Answer
 
 // Prints an integer by a hint for integers, likewise in the first 64 bytes of the output.
 pub fn integer(hint: &[u8], value: i64, out: &mut [u8]) -> Answer
-    ensures { λ r. ⌜ Answered integer-part (integer-verdict (length (now (out .entry))) (now (hint .entry)) value)
-        r (now (out .entry)) (now (out .exit)) ⌝ }
+    ensures { λ r. ⌜ PrintedInteger (now (hint .entry)) value r (now (out .entry)) (now (out .exit)) ⌝ }
 {
     if out.len() < 64 {
         return Answer::ShortBuffer;

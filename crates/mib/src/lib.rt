@@ -2,12 +2,10 @@
 // words of a slice that the caller lends, as far as it reaches; words beyond the answer stay as they were.
 ghost use mathlib.Core.Path.{_≡_};
 ghost use mathlib.Core.List.{_∷_, []};
-ghost use lib.ListN.{length};
 ghost use Rattle.reader.specs.Buffers.{number-of, place-of, count-of};
 ghost use Rattle.hint.specs.Answer.{number-of as printed-number, place-of as printed-place, length-of as printed-length};
-ghost use Rattle.hint.specs.Answer.{octets-part, integer-part, octets-verdict, integer-verdict};
 ghost use Rattle.row_status.specs.RowStatus.{outcome};
-ghost use Rattle.mib.specs.Raw.{laid, step-words, ReadRaw, PrintedRaw, set-raw};
+ghost use Rattle.mib.specs.Raw.{laid, step-words, ReadRaw, OctetsRaw, IntegerRaw, SetRaw};
 use hint::Answer as Printing;
 use reader::Answer as Reading;
 use row_status::Answer as Step;
@@ -107,8 +105,8 @@ pub extern "C" fn mib_print_octets_raw(
     out: &mut [u8],
     answer: &mut [usize],
 )
-    ensures { λ _. ⌜ PrintedRaw octets-part (octets-verdict (length (now (out .entry))) (now (hint .entry)) (now (octets .entry)))
-        (now (out .entry)) (now (out .exit)) (now (answer .entry)) (now (answer .exit)) ⌝ }
+    ensures { λ _. ⌜ OctetsRaw (now (hint .entry)) (now (octets .entry)) (now (out .entry)) (now (out .exit))
+        (now (answer .entry)) (now (answer .exit)) ⌝ }
 {
     lay_printing(hint::octets(hint, octets, out), answer);
 }
@@ -121,8 +119,8 @@ pub extern "C" fn mib_print_integer_raw(
     out: &mut [u8],
     answer: &mut [usize],
 )
-    ensures { λ _. ⌜ PrintedRaw integer-part (integer-verdict (length (now (out .entry))) (now (hint .entry)) value)
-        (now (out .entry)) (now (out .exit)) (now (answer .entry)) (now (answer .exit)) ⌝ }
+    ensures { λ _. ⌜ IntegerRaw (now (hint .entry)) value (now (out .entry)) (now (out .exit))
+        (now (answer .entry)) (now (answer .exit)) ⌝ }
 {
     lay_printing(hint::integer(hint, value, out), answer);
 }
@@ -136,7 +134,7 @@ pub extern "C" fn mib_set_row_raw(
     willing: u32,
     answer: &mut [usize],
 )
-    ensures { λ _. ⌜ now (answer .exit) ≡ set-raw state value complete willing (now (answer .entry)) ⌝ }
+    ensures { λ _. ⌜ SetRaw state value complete willing (now (answer .entry)) (now (answer .exit)) ⌝ }
 {
     let step = row_status::set(state, value, complete != 0, willing != 0);
     lay_step(step, state, answer);

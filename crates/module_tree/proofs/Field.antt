@@ -15,7 +15,7 @@ use Rattle.index.specs.First.{first}
 use Rattle.index.proofs.Search.{answers}
 use Rattle.definition.specs.Landmark.{class-at}
 use Rattle.definition.specs.declared.Span.{Span}
-use Rattle.definition.specs.Fields.{find, span, nowhere, word-after, word-at}
+use Rattle.definition.specs.Fields.{find, span, nowhere, word-after, word-at as word-behind}
 use Rattle.module_tree.specs.Module.{leading, is-none, first-marked, first-mark, some-marked, marked-span}
 use Rattle.module_tree.proofs.Counted.{dead-number, among, stays}
 use Rattle.module_tree.proofs.Machine.{after, outputs}
@@ -207,7 +207,7 @@ module _ (class base : ℕ) (cs xs : List ℕ) (d : ℕ) (st : Stands cs d xs) w
 
   pub word-told : T (among (ends class false never-bad at-once (word-value base) 0 xs) complete)
       → word-after cs class base d (d + length xs) ≡ first-mark (told class false never-bad at-once (word-value base) 0 xs)
-  unfolding word-at words
+  unfolding word-behind words
   word-told h = go (sought class false never-bad at-once (word-value base) (word-nonzero base) xs h)
     where
       at : find cs class d (d + length xs) ≡ d + leading (λ (c : ℕ). not (eqb c class)) xs

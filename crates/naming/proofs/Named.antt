@@ -27,12 +27,13 @@ use Rattle.module_table.specs.Lead.{word-of}
 use Rattle.module_table.specs.declared.Lead.the-variants.{Import}
 use Rattle.name_chain.proofs.Chain.{both}
 use Rattle.scope.specs.Token.{classes-of, spelled, TokensHeld}
-use Rattle.scope.specs.Import.{imports-end, is-import}
+use Rattle.scope.specs.Import.{imports-end, is-import, offered}
 use Rattle.scope.specs.Lead.{introduces, imports-name, is-imported, defines-name, leads-to}
-use Rattle.scope.specs.Held.{import-word, ImportsHeld, Distinct}
+use Rattle.scope.specs.Held.{import-word, AllOffered, ImportsHeld, Distinct}
 use Rattle.scope.proofs.Tokens.{said-counted, said-is}
 use Rattle.scope.proofs.Imports.{import-before, import-named, end-inside}
-use Rattle.naming.specs.Rules.{is-again, introduced-again}
+use Rattle.scope.proofs.Leads.{import-offered}
+use Rattle.naming.specs.Rules.{is-again, introduced-again, not-offered}
 use Rattle.naming.specs.Values.{is-use, value-at, values-from, values-of}
 use Rattle.naming.specs.Told.{Filled, NumbersFilled}
 use Rattle.naming.proofs.Twice.{or-second, name-again}
@@ -90,8 +91,8 @@ module _ (ms : List Meaning) (kept : Kept ≡ judge-one (introduced-again ms)) w
       go (no l) (yes m) = absurd (not-twice s j i m h q p)
       go (no l) (no m) = omega arith
 
-  -- an imported symbol leads to itself
-  module _ (i : ℕ) (h : i < length ms) (own : is-import (classes-of ms) i ≡ true) where
+  -- an imported symbol leads to itself, where all are offered
+  module _ (offers : AllOffered ms) (i : ℕ) (h : i < length ms) (own : is-import (classes-of ms) i ≡ true) where
     not-iso : same (spelled ms i) iso-name ≡ false
     unfolding introduces
     not-iso = answers (same (spelled ms i) iso-name) (λ e. absurd (true-false (rw (own, e)) (no-again i h))) (λ e. e)
@@ -102,11 +103,18 @@ module _ (ms : List Meaning) (kept : Kept ≡ judge-one (introduced-again ms)) w
         let there : is-imported ms (spelled ms i) ≡ true =
         any-at (imports-name ms (spelled ms i)) 0 (imports-end (classes-of ms)) i (omega arith) (import-before (classes-of ms) i own)
         (both (is-import (classes-of ms) i) _ own (same-refl (spelled ms i))) in
-        simp (not-iso, there)
+        simp (not-iso, there, import-offered ms (spelled ms i) offers there)
 
     import-value : import-word ms i ≡ value-at ms i
     unfolding is-use
     import-value = rw own (ap word-of (sym own-lead))
+
+-- where rule 10 is kept each import is offered
+pub all-offered : (ms : List Meaning) → Kept ≡ judge-one (not-offered ms) → AllOffered ms
+unfolding not-offered
+all-offered ms kept i own =
+    let none = judged-kept (not-offered ms ∷ []) (sym (kept ∙ judge-alone (not-offered ms))) .0 i (omega arith) (import-before (classes-of ms) i own) in
+    answers (offered ms i) (λ e. e) (λ f. absurd (true-false (rw (own, f)) none))
 
 -- a token of the imports that is no symbol has its number
 module _ (ms : List Meaning) (i : ℕ) (other : is-import (classes-of ms) i ≡ false) (before : i < imports-end (classes-of ms)) where
@@ -130,20 +138,22 @@ module _ (text starts ends : List ℕ) (t : TokensHeld text (classes-of (meaning
   ms = meanings-in text
 
   -- after rule 10 the imports have their values
-  pub imports-held : (values : List ℕ) → length values ≡ length (classes-of (meanings-in text))
+  pub imports-held : AllOffered (meanings-in text) → (values : List ℕ) → length values ≡ length (classes-of (meanings-in text))
       → ((i : ℕ) → i < imports-end (classes-of (meanings-in text)) → getD values i 0 ≡ import-word (meanings-in text) i)
       → ImportsHeld (meanings-in text) (take (imports-end (classes-of (meanings-in text))) values)
-  imports-held values long filled =
+  imports-held offers values long filled =
       let end = imports-end (classes-of (meanings-in text)) in
       let taken : length (take (imports-end (classes-of (meanings-in text))) values) ≡ imports-end (classes-of (meanings-in text)) =
       length-take-le end values (omega (arith, end-inside (classes-of (meanings-in text)))) in
       record {
+        offers = offers;
         counted = taken;
         held = λ i h. let l : i < imports-end (classes-of (meanings-in text)) = omega arith in getD-take end values i 0 l ∙ filled i l;
       }
 
   module _ (one two three : List ℕ)
       (kept : Kept ≡ judge-one (introduced-again (meanings-in text)))
+      (offers : AllOffered (meanings-in text))
       (imports : (i : ℕ) → i < imports-end (classes-of (meanings-in text)) → getD one i 0 ≡ import-word (meanings-in text) i)
       (uses : Filled (meanings-in text) one two)
       (numbers : NumbersFilled (meanings-in text) two three)
@@ -157,7 +167,7 @@ module _ (text starts ends : List ℕ) (t : TokensHeld text (classes-of (meaning
       before-end i h l = named (is-name (class-at (classes-of (meanings-in text)) i)) refl
         where
           symbol : is-name (class-at (classes-of (meanings-in text)) i) ≡ true → (b : Bool) → is-import (classes-of (meanings-in text)) i ≡ b → import-word (meanings-in text) i ≡ value-at (meanings-in text) i
-          symbol e true own = import-value (meanings-in text) kept i h own
+          symbol e true own = import-value (meanings-in text) kept offers i h own
           symbol e false other =
               let none : import-word (meanings-in text) i ≡ 0 = rw other in
               none ∙ sym (name-number text (classes-of (meanings-in text)) starts ends t i (omega (arith, counted)) e)

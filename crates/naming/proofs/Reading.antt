@@ -5,7 +5,7 @@ use mathlib.Core.List.{List}
 use Prim.Native.Nat.{ℕ, _*_, _≤_, _<_}
 use native.Mathlib.Omega.{arith}
 use lib.ListN.{length, getD, take}
-use borrow.Author.Tests.{le-leb, lt-leb}
+use borrow.Author.Tests.{eq-eqb, ne-eqb}
 use Rattle.rule.specs.Rule.{judge}
 use Rattle.rule.specs.declared.Finding.{Finding}
 use Rattle.rule.specs.declared.Judgement.{Judgement}
@@ -36,8 +36,8 @@ module _ (ms : List Meaning) where
         index = most-definitions;
         inside = (omega arith, more);
         found = ap (plain 8) (sym is);
-        breaks = le-leb most-definitions most-definitions (omega arith);
-        none-before = λ k l h. lt-leb most-definitions k h;
+        breaks = eq-eqb most-definitions most-definitions refl;
+        none-before = λ k l h. ne-eqb k most-definitions (λ same. omega arith);
       }
 
   -- none is: the rules after it decide
@@ -45,7 +45,7 @@ module _ (ms : List Meaning) where
   unfolding too-many
   few-judged few =
       kept-next (too-many ms) (after-count ms) judged.Kept
-      (never-broken (too-many ms) (λ k l h. lt-leb most-definitions k (omega arith))) refl
+      (never-broken (too-many ms) (λ k l h. ne-eqb k most-definitions (λ same. omega arith))) refl
 
   answered : (count : ℕ) (j : Judgement) → judgement (answer-of count j) ≡ j
   answered count judged.Kept = refl

@@ -28,7 +28,7 @@ use Rattle.name_kind.specs.declared.need.Need.{Need}
 use Rattle.name_kind.specs.declared.need.Need.the-variants.{NoName, Macro, TypeName, ObjectType, Head, Object, Sequence}
 use Rattle.scope.specs.Token.{classes-of, spelled}
 use Rattle.scope.specs.Import.{imports-end, is-import}
-use Rattle.scope.specs.Lead.{is-imported, defined-as, leads-to}
+use Rattle.scope.specs.Lead.{is-imported, is-offered, defined-as, leads-to}
 use Rattle.scope.specs.Held.{ImportsHeld}
 use Rattle.scope.proofs.Imports.{import-before}
 use Rattle.scope.proofs.Leads.{small}
@@ -63,14 +63,15 @@ module _ (ms : List Meaning) (i : ℕ) (after : imports-end (classes-of ms) ≤ 
 -- there is a word for what a name leads to
 pub lead-small : (ms : List Meaning) (s : List ℕ) → length (definitions (classes-of ms)) ≤ most-definitions → Small (leads-to ms s)
 unfolding leads-to
-lead-small ms s few = go (same s iso-name) (is-imported ms s) (ltb (defined-as ms s) (length (definitions (classes-of ms)))) refl
+lead-small ms s few = go (same s iso-name) (is-imported ms s) (is-offered ms s) (ltb (defined-as ms s) (length (definitions (classes-of ms)))) refl
   where
-    go : (a b c : Bool) → ltb (defined-as ms s) (length (definitions (classes-of ms))) ≡ c
-        → Small (cond a Iso (cond b (Import (symbol-of s)) (cond c (Definition (record { 0 = defined-as ms s })) Nothing)))
-    go true b c e = tt
-    go false true c e = small ms s
-    go false false true e = omega (arith, ltb-true (defined-as ms s) (length (definitions (classes-of ms))) e)
-    go false false false e = tt
+    go : (a b o c : Bool) → ltb (defined-as ms s) (length (definitions (classes-of ms))) ≡ c
+        → Small (cond a Iso (cond b (cond o (Import (symbol-of s)) Nothing) (cond c (Definition (record { 0 = defined-as ms s })) Nothing)))
+    go true b o c e = tt
+    go false true true c e = small ms s
+    go false true false c e = tt
+    go false false o true e = omega (arith, ltb-true (defined-as ms s) (length (definitions (classes-of ms))) e)
+    go false false o false e = tt
 
 -- ---- the loop
 
@@ -104,6 +105,7 @@ module _ (ms : List Meaning) (old : List ℕ) (i : ℕ) (values : List ℕ) (u :
       let old-long : length (take (imports-end (classes-of ms)) old) ≡ imports-end (classes-of ms) =
       length-take-le (imports-end (classes-of ms)) old room in
       record {
+        offers = held .offers;
         counted = long;
         held = λ j h.
             let l : j < imports-end (classes-of ms) = omega arith in

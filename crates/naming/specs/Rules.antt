@@ -3,7 +3,7 @@
 use mathlib.Core.Bool.{Bool, not, _&&_, _||_}
 use mathlib.Core.List.{List, [], _∷_}
 use Prim.Native.Nat.{ℕ}
-use lib.Dec.{leb}
+use lib.Dec.{eqb}
 use lib.ListN.{length, getD}
 use Rattle.index.specs.First.{first, any}
 use Rattle.rule.specs.Rule.{Rule, plain-rule}
@@ -19,10 +19,10 @@ use Rattle.outline.specs.Outline.{outline}
 use Rattle.name_kind.specs.Need.{need-at}
 use Rattle.name_kind.specs.Serve.{serves}
 
--- 8: a 513th definition
+-- 8: a 513th definition; definitions are counted from 0
 unfoldable pub too-many : List Meaning → Rule
 too-many ms =
-    plain-rule 8 0 (length (definitions (classes-of ms))) (λ k. leb most-definitions k) (λ k. getD (definitions (classes-of ms)) k 0)
+    plain-rule 8 0 (length (definitions (classes-of ms))) (λ k. eqb k most-definitions) (λ k. getD (definitions (classes-of ms)) k 0)
 
 -- token i introduces the name s
 abbrev pub introduces-name : List Meaning → List ℕ → ℕ → Bool

@@ -1,7 +1,7 @@
 -- The words of SMI for a definition, read off its fields: what it is, what it has, and what stands for its access. The numbers are
 -- those of "Records" in document 01.
 -- Assumes nothing.
-use mathlib.Core.Bool.{Bool, true, false, cond, _&&_, _||_}
+use mathlib.Core.Bool.{Bool, cond, _&&_, _||_}
 use mathlib.Core.List.{List}
 use Prim.Native.Nat.{ℕ, _-_}
 use lib.Dec.{ltb, eqb}
@@ -77,5 +77,4 @@ number-at values i = definition-number (lead-at values i)
 -- the number a where the test holds, and b where it does not
 infixr 1 if_then_else_
 abbrev pub if_then_else_ : Bool → ℕ → ℕ → ℕ
-if true then a else b = a
-if false then a else b = b
+if test then a else b = cond test a b

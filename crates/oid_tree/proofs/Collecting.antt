@@ -4,9 +4,7 @@ use mathlib.Core.Path.{_≡_, refl, sym, ap, _∙_}
 use mathlib.Core.Bool.{not, _&&_}
 use mathlib.Core.List.{List, [], _∷_}
 use Prim.Native.Nat.{ℕ, zero, suc, _-_, _≤_, _<_}
-use native.Mathlib.Decide.{decLt}
 use native.Mathlib.Omega.{arith}
-use borrow.Author.Tests.{ltb-false}
 use lib.ListN.{length}
 use Rattle.index.specs.Walk.{after}
 use Rattle.rule.specs.Rule.{judge-one, judge}
@@ -24,15 +22,14 @@ use Rattle.module_table.proofs.Filled.{changed-entry}
 use Rattle.oid_head.specs.Oid.{named-in, has-value, is-built-in, next-head, name-of, reaches, resolved-oid, numbers-before, first-number}
 use Rattle.oid_tree.specs.Stage.{with-oid, with-oids}
 use Rattle.oid_head.specs.Unreached.{plain-over, unreached, AllReach}
-use Rattle.oid_tree.specs.Refusal.{past-room, most-numbers, length-rules, collecting-rules, long-by-count, room-by-count}
+use Rattle.oid_tree.specs.Refusal.{most-numbers, length-rules, collecting-rules, long-by-count, room-by-count}
 use Rattle.oid_tree.specs.Writing.{Measured, Placed}
 use Rattle.oid_tree.specs.Collected.{OidsHeld, Collected}
 use Rattle.oid_head.proofs.Meaning.{value-inside}
 use Rattle.oid_head.proofs.Unreached.{all-reach}
 use Rattle.oid_tree.proofs.Alike.{Alike, value-alike, reaches-alike, oid-alike, before-alike}
-use Rattle.oid_tree.proofs.Lengths.{first-none}
 use Rattle.oid_tree.proofs.Measuring.{stage-alike}
-use Rattle.oid_tree.proofs.Counted.{lengths-same}
+use Rattle.oid_tree.proofs.Counted.{numbers-fit, lengths-same}
 
 broken-kept : (f : Finding) → Broken f ≡ Kept → ⊥
 broken-kept f e = let z : _≡_ {A = ℕ} 0 1 = cc in omega arith
@@ -72,15 +69,7 @@ module _ (classes values words : List ℕ) where
 
   -- the numbers have room where refusal 14 is kept
   pub room-kept : judge (length-rules m) ≡ Kept → first-number m (count-of m) ≤ most-numbers
-  unfolding past-room
-  room-kept e = go (decLt 0 (count-of m))
-    where
-      go : Dec (0 < count-of m) → first-number m (count-of m) ≤ most-numbers
-      go (yes h) =
-          let last : count-of m ≡ suc (count-of m - 1) = omega arith in
-          let none = judged-kept (length-rules m) e .1 .0 (count-of m - 1) (omega arith) (omega arith) in
-          omega (arith, ltb-false most-numbers (first-number m (suc (count-of m - 1))) none, ap (first-number m) last)
-      go (no h) = let none : count-of m ≡ 0 = omega arith in omega (arith, ap (first-number m) none, first-none m)
+  room-kept e = numbers-fit m (judged-kept (length-rules m) e .1 .0) (count-of m) (omega arith)
 
   -- the definitions say where their numbers are
   module _ (next : List ℕ) (w : Measured m words next) where

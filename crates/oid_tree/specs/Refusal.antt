@@ -1,8 +1,9 @@
 -- Refusals 13 and 14, each a rule over the definitions in text order, placed at their names.
 -- Assumes nothing.
+use mathlib.Core.Bool.{Bool, _&&_}
 use mathlib.Core.List.{List, [], _∷_}
 use Prim.Native.Nat.{ℕ, zero, suc, _+_}
-use lib.Dec.{ltb}
+use lib.Dec.{leb, ltb}
 use lib.ListN.{length}
 use Rattle.rule.specs.Rule.{Rule}
 use Rattle.module_table.specs.Definition.{entry}
@@ -23,9 +24,13 @@ too-long m = plain-over 13 (m .definitions) (λ k. ltb longest-oid (length (reso
 abbrev pub most-numbers : ℕ
 most-numbers = 8192
 
+-- with a definition the numbers pass the most: there were no more before it, and there are more with it
+abbrev pub passes : ℕ → ℕ → Bool
+passes before with-it = leb before most-numbers && ltb most-numbers with-it
+
 -- 14: the definition with which the OID numbers pass 8,192
 unfoldable pub past-room : Module → Rule
-past-room m = plain-over 14 (m .definitions) (λ k. ltb most-numbers (first-number m (suc k)))
+past-room m = plain-over 14 (m .definitions) (λ k. passes (first-number m k) (first-number m (suc k)))
 
 -- the rules on how many numbers there are
 abbrev pub length-rules : Module → List Rule
@@ -48,4 +53,4 @@ long-by-count ds = plain-over 13 ds (λ k. ltb longest-oid (entry ds k .count))
 
 -- 14, by these counts
 unfoldable pub room-by-count : List Definition → Rule
-room-by-count ds = plain-over 14 ds (λ k. ltb most-numbers (counts-before ds (suc k)))
+room-by-count ds = plain-over 14 ds (λ k. passes (counts-before ds k) (counts-before ds (suc k)))

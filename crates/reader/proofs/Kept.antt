@@ -5,7 +5,7 @@ use mathlib.Core.List.{List}
 use Prim.Native.Nat.{ℕ, _≤_, _<_}
 use native.Mathlib.Decide.{decLt}
 use native.Mathlib.Omega.{arith}
-use borrow.Author.Tests.{le-leb}
+use borrow.Author.Tests.{eq-eqb}
 use lib.ListN.{length}
 use Rattle.index.proofs.Search.{true-false}
 use Rattle.rule.specs.Rule.{judge}
@@ -32,7 +32,7 @@ unfolding rules too-many
 few-definitions ms kept = go (decLt most-definitions (length (definitions (classes-of ms))))
   where
     go : Dec (most-definitions < length (definitions (classes-of ms))) → count-of (module-of ms) ≤ most-definitions
-    go (yes h) = absurd (true-false (le-leb most-definitions most-definitions (omega arith)) (kept .0 most-definitions (omega arith) h))
+    go (yes h) = absurd (true-false (eq-eqb most-definitions most-definitions refl) (kept .0 most-definitions (omega arith) h))
     go (no h) = omega (arith, module-counted ms, outline-counted (classes-of ms))
 
 -- a text is accepted where all rules are kept

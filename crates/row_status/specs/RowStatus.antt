@@ -1,6 +1,7 @@
 -- What a set of RowStatus does to a row: document 01, "RowStatus", clause by clause in its order.
 -- Assumes nothing.
 use Prim.Native.Nat.{ℕ}
+use mathlib.Core.Path.{_≡_}
 use mathlib.Core.Bool.{Bool, true, false}
 use lib.Dec.{ltb, eqb}
 use lib.IntN.{ℤ, pos, negsuc}
@@ -116,3 +117,7 @@ row-status state value complete willing =
     if is-value value 5 then createAndWait state complete willing else
     if is-value value 6 then noError none else
     wrongValue state
+
+-- the contract of row_status::set
+abbrev pub Sets : ℕ → ℤ → Bool → Bool → Answer → Type 0
+Sets state value complete willing answer = outcome state answer ≡ row-status state value complete willing

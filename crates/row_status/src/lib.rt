@@ -1,7 +1,7 @@
 // What may be done next to a conceptual row, by its RowStatus (RFC 2579).
 ghost use mathlib.Core.Path.{_≡_};
 ghost use Prim.Native.Nat.{ℕ};
-ghost use Rattle.row_status.specs.RowStatus.{number-of, next-of, outcome, row-status};
+ghost use Rattle.row_status.specs.RowStatus.{number-of, next-of, outcome, Sets};
 ghost use Rattle.row_status.specs.RowStatus.{if-complete, set-active, set-not-in-service, createAndGo, createAndWait};
 
 // The states of a row, and the set values of the same name.
@@ -55,7 +55,7 @@ impl Answer {
 // Answers a set of RowStatus to `value` on a row in `state`. `complete`: no required column is lacking after this set.
 // `willing`: the agent is willing to take the row out of service, or to create it so.
 pub fn set(state: u64, value: i64, complete: bool, willing: bool) -> Answer
-    ensures { λ r. ⌜ outcome state r ≡ row-status state value complete willing ⌝ }
+    ensures { λ r. ⌜ Sets state value complete willing r ⌝ }
 {
     if state > NOT_READY {
         return Answer::NoSuchState;

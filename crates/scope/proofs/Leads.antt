@@ -1,14 +1,14 @@
 -- The look-up of a name among the imports and the definitions.
 -- Assumes nothing.
 use mathlib.Core.Path.{_≡_, refl, sym, ap, _∙_}
-use mathlib.Core.Bool.{Bool, true, false, cond}
+use mathlib.Core.Bool.{Bool, true, false, cond, _&&_}
 use mathlib.Core.List.{List, []}
 use Prim.Native.Nat.{ℕ, _+_, _≤_, _<_}
 use native.Mathlib.Omega.{arith}
 use lib.ListN.{length, getD}
 use borrow.Author.Tests.{lt-ltb, le-ltb}
 use Rattle.index.specs.First.{first, any}
-use Rattle.index.proofs.Search.{answers, first-inside, first-holds, first-is, any-at}
+use Rattle.index.proofs.Search.{answers, first-inside, first-holds, first-is, any-at, any-index}
 use Rattle.index.proofs.Hits.{hit-inside, hit-holds}
 use Rattle.lexicon.specs.Word.{same, is-name}
 use Rattle.lexicon.proofs.Words.{same-equal}
@@ -25,9 +25,9 @@ use Rattle.name_chain.proofs.Chain.{both-first, both-second}
 use Rattle.token.specs.Cut.{meanings-in}
 use Rattle.name_chain.specs.Chain.{Placed, part-at}
 use Rattle.scope.specs.Token.{classes-of, spelled, TokensHeld}
-use Rattle.scope.specs.Import.{imports-end, is-import}
-use Rattle.scope.specs.Lead.{imports-name, is-imported, defines-name, defined-as, leads-to}
-use Rattle.scope.specs.Held.{import-word, found-word, Distinct}
+use Rattle.scope.specs.Import.{imports-end, is-import, offered}
+use Rattle.scope.specs.Lead.{imports-name, is-imported, is-offered, defines-name, defined-as, leads-to}
+use Rattle.scope.specs.Held.{import-word, found-word, AllOffered, Distinct}
 use Rattle.scope.proofs.Imports.{end-inside, import-before, import-named, begins-named}
 use Rattle.scope.proofs.Tokens.{placed, placed-name}
 
@@ -66,15 +66,23 @@ module _ (ms : List Meaning) (s : List ℕ) where
   unfolding symbol-of
   small = omega (arith, first-inside (λ (k : ℕ). same s (getD symbol-names k [])) 0 symbol-count (omega arith))
 
+  -- an import is offered where all are
+  pub import-offered : AllOffered ms → is-imported ms s ≡ true → is-offered ms s ≡ true
+  import-offered offers e =
+      let end = imports-end (classes-of ms) in
+      let f = any-index (imports-name ms s) 0 end (omega arith) e in
+      let own : offered ms (f .0) ≡ true = offers (f .0) (both-first (is-import (classes-of ms) (f .0)) _ (f .3)) in
+      any-at (λ (i : ℕ). imports-name ms s i && offered ms i) 0 end (f .0) (f .1) (f .2) (rw (f .3, own))
+
   -- ---- what the name leads to
 
   module _ (other : same s iso-name ≡ false) (word : ℕ) (is : word ≡ found-word ms s) where
-    pub lead-import : (word ≡ 0 → ⊥) → lead-in word ≡ leads-to ms s
+    pub lead-import : AllOffered ms → (word ≡ 0 → ⊥) → lead-in word ≡ leads-to ms s
     unfolding leads-to
-    lead-import some = go (is-imported ms s) refl
+    lead-import offers some = go (is-imported ms s) refl
       where
         go : (b : Bool) → is-imported ms s ≡ b → lead-in word ≡ leads-to ms s
-        go true e = simp (other, e) (rw (is, e) (word-read (Import (symbol-of s)) small))
+        go true e = simp (other, e, import-offered offers e) (rw (is, e) (word-read (Import (symbol-of s)) small))
         go false e = absurd (some (is ∙ rw e))
 
     module _ (none : word ≡ 0) where

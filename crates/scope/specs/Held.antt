@@ -12,7 +12,7 @@ use Rattle.definition.specs.Landmark.{definitions}
 use Rattle.module_table.specs.Lead.{word-of}
 use Rattle.module_table.specs.declared.Lead.the-variants.{Import}
 use Rattle.scope.specs.Token.{classes-of, spelled, TokensHeld}
-use Rattle.scope.specs.Import.{imports-end, is-import}
+use Rattle.scope.specs.Import.{imports-end, is-import, offered}
 use Rattle.scope.specs.Lead.{is-imported, defines-name}
 use Rattle.scope.specs.Tag.{NamesHeld}
 
@@ -24,8 +24,13 @@ import-word ms i = cond (is-import (classes-of ms) i) (word-of (Import (symbol-o
 abbrev pub found-word : List Meaning → List ℕ → ℕ
 found-word ms s = cond (is-imported ms s) (word-of (Import (symbol-of s))) 0
 
--- the values of the imports of a module
+-- each import is offered by the module named: what refusal 10 asks
+abbrev pub AllOffered : List Meaning → Type 0
+AllOffered ms = (i : ℕ) → is-import (classes-of ms) i ≡ true → offered ms i ≡ true
+
+-- the values of the imports of a module, which are all offered
 pub record ImportsHeld (ms : List Meaning) (values : List ℕ) : Type 0 where
+  pub offers : AllOffered ms
   pub counted : length values ≡ imports-end (classes-of ms)
   pub held : (i : ℕ) → i < length values → getD values i 0 ≡ import-word ms i
 

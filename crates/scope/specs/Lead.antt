@@ -13,7 +13,7 @@ use Rattle.definition.specs.Landmark.{begins, definitions}
 use Rattle.module_table.specs.declared.Lead.{Lead}
 use Rattle.module_table.specs.declared.Lead.the-variants.{Iso, Import, Definition, Nothing}
 use Rattle.scope.specs.Token.{classes-of, spelled}
-use Rattle.scope.specs.Import.{imports-end, is-import}
+use Rattle.scope.specs.Import.{imports-end, is-import, offered}
 
 -- token i introduces a name: it is an imported symbol, or the name of a definition
 unfoldable pub introduces : List ℕ → ℕ → Bool
@@ -27,6 +27,10 @@ imports-name ms s i = is-import (classes-of ms) i && same (spelled ms i) s
 abbrev pub is-imported : List Meaning → List ℕ → Bool
 is-imported ms s = any (imports-name ms s) 0 (imports-end (classes-of ms))
 
+-- the module named offers it
+abbrev pub is-offered : List Meaning → List ℕ → Bool
+is-offered ms s = any (λ (i : ℕ). imports-name ms s i && offered ms i) 0 (imports-end (classes-of ms))
+
 -- definition k has this name
 abbrev pub defines-name : List Meaning → List ℕ → ℕ → Bool
 defines-name ms s k = same (spelled ms (getD (definitions (classes-of ms)) k 0)) s
@@ -35,9 +39,10 @@ defines-name ms s k = same (spelled ms (getD (definitions (classes-of ms)) k 0))
 abbrev pub defined-as : List Meaning → List ℕ → ℕ
 defined-as ms s = first (defines-name ms s) 0 (length (definitions (classes-of ms)))
 
--- a name leads to `iso`; to the built-in symbol that is imported by it; to the definition of that name; or to nothing
+-- a name leads to `iso`; to the built-in symbol that is imported by it, and to nothing if the module named doesn't offer it; to the
+-- definition of that name; or to nothing
 unfoldable pub leads-to : List Meaning → List ℕ → Lead
 leads-to ms s =
     cond (same s iso-name) Iso
-    (cond (is-imported ms s) (Import (symbol-of s))
+    (cond (is-imported ms s) (cond (is-offered ms s) (Import (symbol-of s)) Nothing)
     (cond (ltb (defined-as ms s) (length (definitions (classes-of ms)))) (Definition (record { 0 = defined-as ms s })) Nothing))

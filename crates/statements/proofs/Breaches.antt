@@ -4,7 +4,8 @@
 use mathlib.Core.Path.{_≡_, refl, sym, ap, subst, _∙_}
 use mathlib.Core.Logic.{_⊎_, inl, inr, ⊎-elim}
 use mathlib.Core.List.{List, [], _∷_}
-use Prim.Native.Nat.{ℕ, _≤_, _<_}
+use Prim.Native.Nat.{ℕ, zero, suc, _≤_, _<_}
+use native.Mathlib.Decide.{decLt}
 use native.Mathlib.Omega.{arith}
 use lib.ListN.{length, length-map}
 use Rattle.rule.specs.Rule.{Rule}
@@ -14,35 +15,61 @@ use Rattle.token.specs.Cut.{cut, refused, meanings-in}
 use Rattle.token.specs.Table.{longest-text}
 use Rattle.syntax.specs.Parsing.{Fault}
 use Rattle.rule.specs.declared.Finding.{Finding}
-use Rattle.naming.specs.Rules.{too-many}
 use Rattle.reader.specs.Reading.{rules, start-of}
 use Rattle.reader.specs.Buffers.{record-words, number-words}
-use Rattle.statements.specs.Order.{Before, InOrder, Placed}
-use Rattle.statements.specs.Breach.{WithinLimits, Cuts, Derives, _listed-in_, BrokenIn, InBreach, short-buffer, long-text, not-cut, not-derived, rule-broken, FirstBreach}
-use Rattle.statements.proofs.First.{NoLater, before-listed, first-found, kept-none, placed-listed, first-least}
+use Rattle.statements.specs.Order.{ranks, is-among, ranks-before, rank}
+use Rattle.statements.proofs.Ordered.{NoLater, Placed, _listed-in_, BrokenIn}
+use Rattle.statements.specs.Breach.{WithinLimits, Cuts, Derives, InBreach, short-buffer, long-text, not-cut, not-derived, in-module, FirstBreach}
+use Rattle.statements.proofs.ModuleBreaches.{row-of-rule, rule-of-row}
+use Rattle.statements.proofs.First.{first-found, kept-none, placed-listed, first-least}
+use Rattle.statements.proofs.RisingRun.{Run, ranked-listed}
 use Rattle.statements.proofs.Starts.{starts-rise}
 use Rattle.statements.proofs.CutNumbers.{cut-numbered}
 use Rattle.statements.proofs.Faults.{one-fault}
 
--- ---- numbers
+-- ---- ranks
 
-before-number : (r s : Rule) → Before r s → r .number ≤ s .number
-before-number r s (inl less) = omega arith
-before-number r s (inr same) = omega (arith, same .0)
+-- a number of a later rank than 7 is none of the first two
+past-seven : (n : ℕ) → rank 7 < rank n → rank n < length ranks → 3 ≤ n
+unfolding rank ranks-before is-among
+past-seven zero l h = absurd (omega arith)
+past-seven (suc zero) l h = absurd (omega arith)
+past-seven (suc (suc zero)) l h = absurd (omega arith)
+past-seven (suc (suc (suc n))) l h = omega arith
 
--- the number of the first of some rules, which is the smallest where they are in order
-abbrev head-number : List Rule → ℕ
-head-number [] = 0
-head-number (r ∷ rs) = r .number
+-- 2 has a later rank than 1, 3 to 6 than 2, and 7 than 2
+two-later : rank 1 < rank 2
+unfolding rank ranks-before is-among
+two-later = omega arith
 
-head-smallest : (rs : List Rule) → InOrder rs → (s : Rule) → s listed-in rs → head-number rs ≤ s .number
-head-smallest (r ∷ rs) order s (inl same) = omega (arith, ap (λ (x : Rule). x .number) same)
-head-smallest (r ∷ rs) order s (inr l) = before-number r s (before-listed r rs (order .1) s l)
+seven-later : rank 2 < rank 7
+unfolding rank ranks-before is-among
+seven-later = omega arith
 
--- the rules after the grammar have numbers from 8 on
-pub from-eight : (ms : List Meaning) → InOrder (rules ms) → (s : Rule) → s listed-in rules ms → 8 ≤ s .number
-unfolding rules too-many
-from-eight ms order s l = head-smallest (rules ms) order s l
+cut-ranked : (n : ℕ) → 3 ≤ n → n ≤ 6 → rank 2 < rank n
+unfolding rank ranks-before is-among
+cut-ranked zero l h = absurd (omega arith)
+cut-ranked (suc zero) l h = absurd (omega arith)
+cut-ranked (suc (suc zero)) l h = absurd (omega arith)
+cut-ranked (suc (suc (suc zero))) l h = omega arith
+cut-ranked (suc (suc (suc (suc zero)))) l h = omega arith
+cut-ranked (suc (suc (suc (suc (suc zero))))) l h = omega arith
+cut-ranked (suc (suc (suc (suc (suc (suc zero)))))) l h = omega arith
+cut-ranked (suc (suc (suc (suc (suc (suc (suc n))))))) l h = absurd (omega arith)
+
+eight-later : rank 7 < rank 8
+unfolding rank ranks-before is-among
+eight-later = omega arith
+
+-- the rules after the grammar have later ranks
+abbrev pub Ordered : List Meaning → Type 0
+Ordered ms = Run (rank 8) (length ranks) (rules ms)
+
+pub after-grammar : (ms : List Meaning) → Ordered ms → {m t : ℕ} → BrokenIn (rules ms) m t → (rank 7 < rank m) × (rank m < length ranks)
+after-grammar ms order x =
+    let within = ranked-listed (rules ms) (order .ranked) (x .rule) (x .listed) in
+    let same = ap rank (x .numbered) in
+    (omega (arith, eight-later, within .0, same), omega (arith, within .1, same))
 
 -- ---- the first breach
 
@@ -50,32 +77,28 @@ module _ (text : List ℕ) (a b : ℕ) where
   abbrev In : ℕ → ℕ → Type 0
   In = InBreach text a b
 
-  abbrev First : ℕ → ℕ → Type 0
-  First = FirstBreach text a b
+  -- a breach that comes no later than any other
+  pub record Least (n p : ℕ) : Type 0 where
+    pub broken : In n p
+    pub least : (m q : ℕ) → In m q → NoLater n p m q
 
-  -- there is one
-  pub one-first : (n p m q : ℕ) → First n p → First m q → (n ≡ m) × (p ≡ q)
-  one-first n p m q f g = (number, place)
-    where
-      number : n ≡ m
-      number =
-          let not-below : n < m → ⊥ = λ less. g .none-smaller n p less (f .broken) in
-          let not-above : m < n → ⊥ = λ less. f .none-smaller m q less (g .broken) in
-          omega arith
-
-      place : p ≡ q
-      place =
-          let not-before : p < q → ⊥ = λ less. g .nowhere-earlier p less (subst (λ (k : ℕ). In k p) number (f .broken)) in
-          let not-after : q < p → ⊥ = λ less. f .nowhere-earlier q less (subst (λ (k : ℕ). In k q) (sym number) (g .broken)) in
-          omega arith
-
-  -- a breach that comes no later than any other is the first
-  least-first : (n p : ℕ) → In n p → ((m q : ℕ) → In m q → NoLater n p m q) → First n p
-  least-first n p broken least = record {
-    broken = broken;
-    nowhere-earlier = λ q less x. ⊎-elim (λ l. omega arith) (λ l. omega (arith, l .1)) (least n q x);
-    none-smaller = λ m q less x. ⊎-elim (λ l. omega arith) (λ l. omega (arith, l .0)) (least m q x);
+  -- is the first
+  pub least-first : (n p : ℕ) → Least n p → FirstBreach text a b n p
+  least-first n p l = record {
+    broken = l .broken;
+    no-earlier-rank = λ m q less x. ⊎-elim (λ e. omega arith) (λ e. omega (arith, e .0)) (l .least m q x);
+    nowhere-earlier = λ m q same less x. ⊎-elim (λ e. omega arith) (λ e. omega (arith, e .1)) (l .least m q x);
   }
+
+  -- and no other is
+  pub one-first : (n p m q : ℕ) → Least n p → FirstBreach text a b m q → (n ≡ m) × (p ≡ q)
+  one-first n p m q l f = ⊎-elim (λ less. absurd (f .no-earlier-rank n p less (l .broken))) same (l .least m q (f .broken))
+    where
+      same : (rank n ≡ rank m) × (p ≤ q) × (p ≡ q → n ≡ m) → (n ≡ m) × (p ≡ q)
+      same e =
+          let not-before : p < q → ⊥ = λ less. f .nowhere-earlier n p (e .0) less (l .broken) in
+          let place : p ≡ q = omega (arith, e .1) in
+          (e .2 place, place)
 
   -- a breach by a rule after the grammar
   record OfRules (m q : ℕ) : Type 0 where
@@ -84,29 +107,34 @@ module _ (text : List ℕ) (a b : ℕ) where
     starts : q ≡ start-of (cut text .tokens) token
 
   -- its rules are in order
-  module _ (order : InOrder (rules (meanings-in text))) where
-    later-number : {m token : ℕ} → BrokenIn (rules (meanings-in text)) m token → 8 ≤ m
-    later-number x = omega (arith, x .numbered, from-eight (meanings-in text) order (x .rule) (x .listed))
+  module _ (order : Ordered (meanings-in text)) where
+    later-number : {m token : ℕ} → BrokenIn (rules (meanings-in text)) m token → 3 ≤ m
+    later-number {m} x = let after = after-grammar (meanings-in text) order x in past-seven m (after .0) (after .1)
 
-    -- what breaks a rule of a number below 3
+    -- what breaks a rule: a buffer, the length of the text, or something of a later rank and a larger number
     by-number : (m q : ℕ) → In m q
-        → ((m ≡ 1) × ((a < record-words) ⊎ (b < number-words))) ⊎ (((m ≡ 2) × (longest-text < length text)) ⊎ (3 ≤ m))
+        → ((m ≡ 1) × ((a < record-words) ⊎ (b < number-words))) ⊎ (((m ≡ 2) × (longest-text < length text)) ⊎ ((rank 2 < rank m) × (3 ≤ m)))
     by-number m q (short-buffer few) = inl (refl, few)
     by-number m q (long-text over) = inr (inl (refl, over))
-    by-number m q (not-cut e) = inr (inr (cut-numbered text m q e .0))
-    by-number m q (not-derived c n f) = inr (inr (omega arith))
-    by-number m q (rule-broken c d x) = inr (inr (omega (arith, later-number x)))
+    by-number m q (not-cut e) = let n = cut-numbered text m q e in inr (inr (cut-ranked m (n .0) (n .1), n .0))
+    by-number m q (not-derived c n f) = inr (inr (seven-later, omega arith))
+    by-number m q (in-module {token = t} c d x) =
+        let y = rule-of-row (meanings-in text) m t x in
+        inr (inr (omega (arith, seven-later, after-grammar (meanings-in text) order y .0), later-number y))
 
     -- no number is 0
     pub numbered : (m q : ℕ) → In m q → 1 ≤ m
-    numbered m q x = ⊎-elim (λ one. omega (arith, one .0)) (⊎-elim (λ two. omega (arith, two .0)) (λ more. omega arith)) (by-number m q x)
+    numbered m q x =
+        ⊎-elim (λ one. omega (arith, one .0)) (⊎-elim (λ two. omega (arith, two .0)) (λ more. omega (arith, more .1))) (by-number m q x)
 
     -- 1 is the first wherever it is met
-    pub first-short : (a < record-words) ⊎ (b < number-words) → First 1 0
+    pub first-short : (a < record-words) ⊎ (b < number-words) → Least 1 0
     first-short few = record {
       broken = short-buffer few;
-      nowhere-earlier = λ q less x. omega arith;
-      none-smaller = λ m q less x. omega (arith, numbered m q x);
+      least = λ m q x.
+          ⊎-elim (λ one. inr (ap rank (sym (one .0)), omega arith, λ same. sym (one .0)))
+          (⊎-elim (λ two. inl (omega (arith, ap rank (two .0), two-later))) (λ more. inl (omega (arith, more .0, two-later))))
+          (by-number m q x);
     }
 
     -- buffers that are long enough are not too short
@@ -114,12 +142,13 @@ module _ (text : List ℕ) (a b : ℕ) where
     enough room space = ⊎-elim (λ few. omega arith) (λ few. omega arith)
 
     -- 2 is, where no buffer is too short
-    pub first-long : record-words ≤ a → number-words ≤ b → longest-text < length text → First 2 0
+    pub first-long : record-words ≤ a → number-words ≤ b → longest-text < length text → Least 2 0
     first-long room space over = record {
       broken = long-text over;
-      nowhere-earlier = λ q less x. omega arith;
-      none-smaller = λ m q less x.
-          ⊎-elim (λ one. enough room space (one .1)) (⊎-elim (λ two. omega (arith, two .0)) (λ more. omega arith)) (by-number m q x);
+      least = λ m q x.
+          ⊎-elim (λ one. absurd (enough room space (one .1)))
+          (⊎-elim (λ two. inr (ap rank (sym (two .0)), omega arith, λ same. sym (two .0))) (λ more. inl (more .0)))
+          (by-number m q x);
     }
 
     -- within the limits
@@ -130,11 +159,11 @@ module _ (text : List ℕ) (a b : ℕ) where
       -- neither 1 nor 2 is broken
       pub past-limits : (m q : ℕ) → In m q → 3 ≤ m
       past-limits m q x =
-          ⊎-elim (λ one. absurd (not-short (one .1))) (⊎-elim (λ two. absurd (omega (arith, two .1, limits .short-text))) (λ more. more)) (by-number m q x)
+          ⊎-elim (λ one. absurd (not-short (one .1))) (⊎-elim (λ two. absurd (omega (arith, two .1, limits .short-text))) (λ more. more .1)) (by-number m q x)
 
       -- a text that does not cut
-      pub first-uncut : (n p : ℕ) → cut text .ending ≡ refused n p → First n p
-      first-uncut n p e = least-first n p (not-cut e) least
+      pub first-uncut : (n p : ℕ) → cut text .ending ≡ refused n p → Least n p
+      first-uncut n p e = record { broken = not-cut e; least = least }
         where
           never : Cuts text → ⊥
           never c = let z : _≡_ {A = ℕ} 0 1 = cc in omega arith
@@ -145,9 +174,9 @@ module _ (text : List ℕ) (a b : ℕ) where
           least m q (not-cut f) =
               let number : n ≡ m = cc in
               let place : p ≡ q = cc in
-              inr (number, omega arith)
+              inr (ap rank number, omega arith, λ same. number)
           least m q (not-derived c d f) = absurd (never c)
-          least m q (rule-broken c d x) = absurd (never c)
+          least m q (in-module c d x) = absurd (never c)
 
       -- a text that cuts into tokens
       module _ (cuts : Cuts text) where
@@ -155,15 +184,15 @@ module _ (text : List ℕ) (a b : ℕ) where
         whole-cut m q e = let z : _≡_ {A = ℕ} 0 1 = cc in omega arith
 
         -- and is not derived
-        pub first-underived : (p : ℕ) → (Derives text → ⊥) → Fault text p → First 7 p
-        first-underived p none fault = least-first 7 p (not-derived cuts none fault) least
+        pub first-underived : (p : ℕ) → (Derives text → ⊥) → Fault text p → Least 7 p
+        first-underived p none fault = record { broken = not-derived cuts none fault; least = least }
           where
             least : (m q : ℕ) → In m q → NoLater 7 p m q
             least m q (short-buffer s) = absurd (not-short s)
             least m q (long-text l) = absurd (omega (arith, limits .short-text))
             least m q (not-cut e) = absurd (whole-cut m q e)
-            least m q (not-derived c n f) = inr (refl, omega (arith, one-fault text fault f))
-            least m q (rule-broken c d x) = absurd (none d)
+            least m q (not-derived c n f) = inr (refl, omega (arith, one-fault text fault f), λ same. refl)
+            least m q (in-module c d x) = absurd (none d)
 
         -- and is derived
         module _ (derives : Derives text) where
@@ -172,7 +201,7 @@ module _ (text : List ℕ) (a b : ℕ) where
           by-rules m q (long-text l) = absurd (omega (arith, limits .short-text))
           by-rules m q (not-cut e) = absurd (whole-cut m q e)
           by-rules m q (not-derived c none f) = absurd (none derives)
-          by-rules m q (rule-broken {token = t} c d x) = record { token = t; broken = x; starts = refl }
+          by-rules m q (in-module {token = t} c d x) = record { token = t; broken = rule-of-row (meanings-in text) m t x; starts = refl }
 
           -- all rules are kept
           pub none-broken : AllKept (rules (meanings-in text)) → (m q : ℕ) → In m q → ⊥
@@ -182,17 +211,31 @@ module _ (text : List ℕ) (a b : ℕ) where
 
           -- one is broken: the first is broken first at its token's start, since starts rise
           pub first-broken : Placed (length (meanings-in text)) (rules (meanings-in text)) → (f : Finding)
-              → FirstBroken f (rules (meanings-in text)) → First (f .number) (start-of (cut text .tokens) (f .token .0))
-          first-broken placed f first =
-              least-first (f .number) (start-of (cut text .tokens) (f .token .0)) (rule-broken cuts derives (first-found first)) least
+              → FirstBroken f (rules (meanings-in text)) → Least (f .number) (start-of (cut text .tokens) (f .token .0))
+          first-broken placed f first = record {
+            broken = in-module cuts derives (row-of-rule (meanings-in text) (f .number) (f .token .0) (first-found first));
+            least = least;
+          }
             where
-              least : (m q : ℕ) → In m q → NoLater (f .number) (start-of (cut text .tokens) (f .token .0)) m q
-              least m q x =
-                  let o = by-rules m q x in
-                  let y = o .broken in
+              start : ℕ → ℕ
+              start = start-of (cut text .tokens)
+
+              -- by the tokens
+              at-starts : (n t m u : ℕ) → u < length (cut text .tokens) → NoLater n t m u → NoLater n (start t) m (start u)
+              at-starts n t m u h (inl less) = inl less
+              at-starts n t m u h (inr same) = go (decLt t u)
+                where
+                  go : Dec (t < u) → NoLater n (start t) m (start u)
+                  go (yes l) = let rise = starts-rise text t u l h in inr (same .0, omega arith, λ e. absurd (omega arith))
+                  go (no l) =
+                      let equal : t ≡ u = omega (arith, same .1) in
+                      inr (same .0, omega (arith, ap start equal), λ e. same .2 equal)
+
+              of-rules : (m t : ℕ) → BrokenIn (rules (meanings-in text)) m t → NoLater (f .number) (start (f .token .0)) m (start t)
+              of-rules m t y =
                   let at = placed-listed (length (meanings-in text)) (rules (meanings-in text)) placed (y .rule) (y .listed) (y .index) (y .broken) in
-                  let inside : o .token < length (cut text .tokens) = omega (arith, at, y .placed, length-map (cut text .tokens) (λ (t : Tok). t .says)) in
-                  ⊎-elim
-                  (λ less. inl (omega (arith, y .numbered)))
-                  (λ same. inr (same .0 ∙ y .numbered, omega (arith, o .starts, starts-rise text (f .token .0) (o .token) (omega (arith, same .1, y .placed)) inside)))
-                  (first-least (rules (meanings-in text)) first order (y .rule) (y .listed) (y .index) (y .broken))
+                  at-starts (f .number) (f .token .0) m t (omega (arith, at, y .placed, length-map (cut text .tokens) (λ (t : Tok). t .says)))
+                  (rw (y .numbered, y .placed) at (first-least (rules (meanings-in text)) first (order .in-order) (y .rule) (y .listed) (y .index) (y .broken)))
+
+              least : (m q : ℕ) → In m q → NoLater (f .number) (start (f .token .0)) m q
+              least m q x = let o = by-rules m q x in rw (o .starts) (of-rules m (o .token) (o .broken))

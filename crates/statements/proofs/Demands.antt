@@ -1,68 +1,65 @@
 -- The first and the second demand, from what each answer says of breaches and from what the contract says of the buffers.
 -- Assumes nothing.
-use mathlib.Core.Path.{_≡_, refl, sym, ap, _∙_}
+use mathlib.Core.Path.{_≡_, refl, sym, ap, ap₂, subst, _∙_}
 use mathlib.Core.Logic.{_⊎_, ⊎-elim}
 use mathlib.Core.Bool.{true, false}
 use mathlib.Core.List.{List, []}
 use Prim.Native.Nat.{ℕ, _-_, _*_, _≤_, _<_}
 use native.Mathlib.Omega.{arith}
 use lib.ListN.{length, take, drop}
+use lib.Seq.{take-length}
 use Rattle.rule.specs.Rule.{judge}
 use Rattle.rule.specs.declared.Judgement.the-variants.{Kept}
 use Rattle.rule.proofs.Judged.{AllKept, judged-kept}
 use Rattle.token.specs.Token.{Meaning}
 use Rattle.token.specs.Cut.{cut, meanings-in}
 use Rattle.syntax.specs.declared.Answer.{Answer as Parsing}
-use Rattle.module_table.specs.declared.Definition.{Definition}
-use Rattle.module_table.specs.Module.{at, oid-in, oid-of}
-use Rattle.module_table.proofs.Filled.{column-kept}
+use Rattle.module_table.specs.Module.{at, oid-of}
 use Rattle.module_table.specs.Module.{count-of as definitions-in}
 use Rattle.naming.specs.Rules.{name-rules}
 use Rattle.naming.specs.Values.{named}
-use Rattle.oid_head.specs.Oid.{has-value, resolved-oid}
+use Rattle.oid_head.specs.Oid.{has-value, resolved-oid, numbers-before}
 use Rattle.oid_head.specs.Unreached.{unreached}
 use Rattle.oid_head.proofs.Unreached.{kept-has-oid, kept-one-oid}
 use Rattle.oid_tree.specs.Stage.{with-oids}
-use Rattle.oid_tree.proofs.Cut.{stage-oid}
-use Rattle.object_tree.specs.Tree.{parent-of, with-parent, parents-added}
 use Rattle.reader.proofs.Counting.{module-counted}
 use Rattle.records.specs.Record.{record-width}
 use Rattle.records.proofs.Words.{before-long}
-use Rattle.reader.specs.Reading.{Outcome, accepted, refused, rules, later-rules, oid-rules, numbered, classed, module-of, starts-of, ends-of, judged, outcome}
+use Rattle.reader.specs.Reading.{Outcome, accepted, refused, rules, later-rules, oid-rules, module-of, records-of, starts-of, ends-of, judged, outcome}
 use Rattle.reader.specs.Buffers.{number-of, place-of, count-of, record-words, number-words, filled, answer-to, records-in, numbers-in, Left, Reads}
 use Rattle.reader.specs.declared.Answer.{Answer}
 use Rattle.reader.specs.declared.Answer.the-variants.{Accepted, Refused}
 use Rattle.reader.proofs.Kept.{accepted-kept}
-use Rattle.statements.specs.Order.{InOrder, Placed}
+use Rattle.statements.proofs.Ordered.{Placed}
 use Rattle.statements.specs.Breach.{WithinLimits}
-use Rattle.statements.specs.Statements.{OidIs, FirstDemand, SecondDemand}
+use Rattle.statements.specs.Statements.{OidIs, record-word, FirstDemand, SecondDemand}
 use Rattle.statements.proofs.Limits.{Lent, short, long, within, lent}
 use Rattle.statements.proofs.Filled.{filled-beyond, filled-unused}
-use Rattle.statements.proofs.RisingModule.{classes-leave}
+use Rattle.statements.proofs.CutOut.{module-oid, words-cut}
 use Rattle.statements.proofs.Room.{kept-rest, words-fit}
+use Rattle.statements.proofs.Breaches.{Ordered}
 use Rattle.statements.proofs.Right.{refused-exactly, accepted-exactly, accepted-is, later-refusal}
 
--- where all rules are kept, each definition of a kind with an OID has the numbers recorded, and no others
+-- where all rules are kept, each definition of a kind with an OID has the numbers that are resolved, and no others
 resolved-of : (ms : List Meaning) → AllKept (rules ms) → (k : ℕ) → k < definitions-in (module-of ms) → has-value (at (named ms) k) ≡ true
-    → OidIs (named ms) k (oid-of (module-of ms) k)
-unfolding rules later-rules oid-rules unreached with-oids parents-added
-resolved-of ms kept k h has = rw (numbers-same) (kept-has-oid (named ms) k reached has, kept-one-oid (named ms) k reached has)
+    → OidIs (named ms) k (resolved-oid (named ms) k)
+unfolding rules later-rules oid-rules unreached
+resolved-of ms kept k h has = (kept-has-oid (named ms) k reached has, kept-one-oid (named ms) k reached has)
   where
     reached : unreached (named ms) .breach k ≡ false
     reached = kept-rest (name-rules ms) (later-rules ms) kept .0 k (omega arith) (omega (arith, module-counted ms))
 
-    numbers-same : oid-of (module-of ms) k ≡ resolved-oid (named ms) k
-    numbers-same =
-        column-kept (oid-in (numbered ms .numbers)) (λ (i : ℕ) (d : Definition). with-parent (parent-of (classed ms .definitions) (numbered ms .numbers) i) d) (λ i d. refl) (classed ms .definitions) k
-        ∙ classes-leave (oid-in (numbered ms .numbers)) (λ d class sequence. refl) (numbered ms .classes) (numbered ms .values) (numbered ms .definitions) k
-        ∙ stage-oid (named ms) k
+-- those are the numbers recorded
+recorded-oid : (ms : List Meaning) (k : ℕ) → oid-of (module-of ms) k ≡ resolved-oid (named ms) k
+unfolding with-oids
+recorded-oid ms k = module-oid ms (numbers-before (named ms) (definitions-in (named ms))) (take-length (numbers-before (named ms) (definitions-in (named ms)))) k
 
 -- after a refusal no word is read
 none-read : (o : Outcome) → 0 < number-of (answer-to o) → (records-in o ≡ []) × (numbers-in o ≡ [])
 none-read (accepted count records numbers) some = absurd (omega arith)
 none-read (refused number clause place other) some = (refl, refl)
 
-module _ (text : List ℕ) (order : InOrder (rules (meanings-in text))) (placed : Placed (length (meanings-in text)) (rules (meanings-in text)))
+module _ (text : List ℕ) (order : Ordered (meanings-in text)) (placed : Placed (length (meanings-in text)) (rules (meanings-in text)))
     (answer : Answer) (records records′ numbers numbers′ : List ℕ) (reads : Reads text answer records records′ numbers numbers′) where
   -- number 1 or 2, with nothing changed
   nothing-changed : (right : Answer) → Left answer right records′ records numbers′ numbers → 0 < number-of right → number-of right ≤ 2
@@ -157,6 +154,27 @@ module _ (text : List ℕ) (order : InOrder (rules (meanings-in text))) (placed 
   refusal-count (Accepted count) some = absurd (omega arith)
   refusal-count (Refused number place) some = refl
 
+  -- what is left of an accepted text
+  module _ (zero : number-of answer ≡ 0) where
+    rules-kept : AllKept (rules (meanings-in text))
+    rules-kept = judged-kept (rules (meanings-in text)) (all-kept (accepted-within zero) zero .0)
+
+    records-are : records′ ≡ filled record-words (records-of (cut text .tokens) (module-of (meanings-in text))) records
+    records-are =
+        let limits = accepted-within zero in
+        left limits .records-left ∙ ap (λ (o : Outcome). filled record-words (records-in o) records) (found-all limits zero)
+
+    numbers-are : numbers′ ≡ filled number-words (module-of (meanings-in text) .numbers) numbers
+    numbers-are =
+        let limits = accepted-within zero in
+        left limits .numbers-left ∙ ap (λ (o : Outcome). filled number-words (numbers-in o) numbers) (found-all limits zero)
+
+    cut-of : (k : ℕ) → k < definitions-in (module-of (meanings-in text))
+        → take (record-word records′ k 4) (drop (record-word records′ k 3) numbers′) ≡ resolved-oid (named (meanings-in text)) k
+    cut-of k h =
+        ap₂ (λ (r n : List ℕ). take (record-word r k 4) (drop (record-word r k 3) n)) records-are numbers-are
+        ∙ words-cut (meanings-in text) (starts-of (cut text .tokens)) (ends-of (cut text .tokens)) records numbers rules-kept k (omega (arith, module-counted (meanings-in text))) h
+
   pub second-demand : SecondDemand text answer records records′ numbers numbers′
   second-demand = record {
     refused-exactly = refused-exactly text order placed answer records records′ numbers numbers′ reads;
@@ -166,11 +184,11 @@ module _ (text : List ℕ) (order : InOrder (rules (meanings-in text))) (placed 
       all-counted (accepted-within zero) zero,
     );
     not-counted = refusal-count answer;
-    recorded = λ zero.
-        let limits = accepted-within zero in
-        left limits .records-left ∙ ap (λ (o : Outcome). filled record-words (records-in o) records) (found-all limits zero);
-    numbered = λ zero.
-        let limits = accepted-within zero in
-        left limits .numbers-left ∙ ap (λ (o : Outcome). filled number-words (numbers-in o) numbers) (found-all limits zero);
-    resolved = λ zero k h has. resolved-of (meanings-in text) (judged-kept (rules (meanings-in text)) (all-kept (accepted-within zero) zero .0)) k h has;
+    recorded = records-are;
+    numbered = numbers-are;
+    resolved = λ zero k h has.
+        subst (OidIs (named (meanings-in text)) k) (sym (recorded-oid (meanings-in text) k)) (resolved-of (meanings-in text) (rules-kept zero) k h has);
+    cut-out = λ zero k h has.
+        let inside : k < definitions-in (module-of (meanings-in text)) = omega (arith, all-counted (accepted-within zero) zero) in
+        rw (cut-of zero k inside) (resolved-of (meanings-in text) (rules-kept zero) k inside has);
   }

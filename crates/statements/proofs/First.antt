@@ -1,5 +1,4 @@
--- Of rules that are in order, the first that is broken is broken no later than any other: its number is no larger, and where it is
--- the same its place is no later.
+-- Of rules that are in order, the first that is broken is broken no later than any other.
 -- Assumes nothing.
 use mathlib.Core.Path.{_≡_, refl, sym, ap, subst, _∙_}
 use mathlib.Core.Logic.{_⊎_, inl, inr}
@@ -11,12 +10,8 @@ use Rattle.rule.specs.declared.Finding.{Finding}
 use Rattle.rule.specs.Rule.{Rule}
 use Rattle.index.proofs.Search.{true-false}
 use Rattle.rule.proofs.Judged.{AllKept, NeverBroken, BrokenAt, FirstBroken, here, later}
-use Rattle.statements.specs.Order.{Broken, Rises, Before, BeforeAll, InOrder, Placed}
-use Rattle.statements.specs.Breach.{_listed-in_, BrokenIn}
-
--- a breach by one number at one token comes no later than another
-abbrev pub NoLater : ℕ → ℕ → ℕ → ℕ → Type 0
-NoLater number token m i = (number < m) ⊎ ((number ≡ m) × (token ≤ i))
+use Rattle.statements.specs.Order.{rank}
+use Rattle.statements.proofs.Ordered.{NoLater, Broken, Rises, Before, BeforeAll, InOrder, Placed, _listed-in_, BrokenIn}
 
 -- where a rule is broken first, it is broken
 broken-here : {r : Rule} {f : Finding} → (b : BrokenAt r f) → Broken r (b .index)
@@ -72,7 +67,7 @@ placed-listed n (r ∷ rs) all s (inr l) k b = placed-listed n rs (all .1) s l k
 
 -- of one rule
 least-here : {f : Finding} (r : Rule) → BrokenAt r f → Rises r → (k : ℕ) → Broken r k → NoLater (f .number) (f .token .0) (r .number) (r .place k)
-least-here {f} r b rises k broken = inr (sym (its-number b), go (decLt k (b .index)) (decLt (b .index) k))
+least-here {f} r b rises k broken = inr (ap rank (sym (its-number b)), go (decLt k (b .index)) (decLt (b .index) k), λ same. sym (its-number b))
   where
     go : Dec (k < b .index) → Dec (b .index < k) → f .token .0 ≤ r .place k
     go (yes earlier) d = absurd (true-false (broken .breaks) (b .none-before k (broken .from) earlier))
@@ -83,9 +78,8 @@ least-here {f} r b rises k broken = inr (sym (its-number b), go (decLt k (b .ind
 
 -- of one rule and a later one
 least-after : {f : Finding} (r s : Rule) → BrokenAt r f → Before r s → (k : ℕ) → Broken s k → NoLater (f .number) (f .token .0) (s .number) (s .place k)
-least-after r s b (inl less) k broken = inl (omega (arith, its-number b))
-least-after r s b (inr same) k broken =
-    inr (sym (its-number b) ∙ same .0, omega (arith, its-place b, same .1 (b .index) k (broken-here b) broken))
+least-after {f} r s b before k broken =
+    rw (← its-number b, ← its-place b) (before (b .index) k (broken-here b) broken)
 
 -- of all of them
 pub first-least : {f : Finding} (rs : List Rule) → FirstBroken f rs → InOrder rs

@@ -20,18 +20,18 @@ use Rattle.reader.specs.Reading.{rules, judged, outcome}
 use Rattle.reader.specs.Buffers.{number-of, answer-to, Reads}
 use Rattle.reader.specs.declared.Answer.{Answer}
 use Rattle.reader.specs.declared.Answer.the-variants.{Accepted, Refused}
-use Rattle.statements.specs.Order.{InOrder, Placed}
+use Rattle.statements.proofs.Ordered.{Placed}
 use Rattle.statements.specs.Breach.{WithinLimits, Cuts, InBreach, FirstBreach}
 use Rattle.statements.proofs.Limits.{Lent, short, long, within, lent}
-use Rattle.statements.proofs.Breaches.{one-first, numbered, first-short, first-long, past-limits, first-uncut, first-underived, none-broken, first-broken}
+use Rattle.statements.proofs.Breaches.{Ordered, Least, least-first, one-first, numbered, first-short, first-long, past-limits, first-uncut, first-underived, none-broken, first-broken}
 
 -- what an answer says of breaches, where the buffers lent have so many words
 abbrev pub Right : List ℕ → ℕ → ℕ → Answer → Type 0
 Right text a b (Accepted count) = (m q : ℕ) → InBreach text a b m q → ⊥
-Right text a b (Refused number place) = FirstBreach text a b number (place .0)
+Right text a b (Refused number place) = Least text a b number (place .0)
 
 -- of a text whose rules are in order, with places among the tokens
-module _ (text : List ℕ) (order : InOrder (rules (meanings-in text))) (placed : Placed (length (meanings-in text)) (rules (meanings-in text))) where
+module _ (text : List ℕ) (order : Ordered (meanings-in text)) (placed : Placed (length (meanings-in text)) (rules (meanings-in text))) where
   -- within the limits, by how the text is parsed
   module _ (a b : ℕ) (limits : WithinLimits text a b) where
     abbrev RightOutcome : Parsing → Type 0
@@ -81,7 +81,7 @@ module _ (text : List ℕ) (order : InOrder (rules (meanings-in text))) (placed 
         go : (x : Answer) → answer ≡ x → (count : ℕ) × (answer ≡ Accepted count)
         go (Accepted count) e = (count, e)
         go (Refused m q) e =
-            let first : FirstBreach text a b m (q .0) = subst (Right text a b) e right-answer in
+            let first : Least text a b m (q .0) = subst (Right text a b) e right-answer in
             absurd (omega (arith, zero, ap number-of e, numbered text a b order m (q .0) (first .broken)))
 
     -- within the limits, 1 and 2 are not answered
@@ -91,11 +91,11 @@ module _ (text : List ℕ) (order : InOrder (rules (meanings-in text))) (placed 
         go : (x : Answer) → answer ≡ x → 2 < number-of answer
         go (Accepted count) e = absurd (omega (arith, ap number-of e))
         go (Refused m q) e =
-            let first : FirstBreach text a b m (q .0) = subst (Right text a b) e right-answer in
+            let first : Least text a b m (q .0) = subst (Right text a b) e right-answer in
             omega (arith, ap number-of e, past-limits text a b order limits m (q .0) (first .broken))
 
     pub refused-exactly : (number place : ℕ) → (answer ≡ Refused number (record { 0 = place })) ↔ FirstBreach text a b number place
-    refused-exactly number place = (λ e. subst (Right text a b) e right-answer, λ first. go first answer refl)
+    refused-exactly number place = (λ e. least-first text a b number place (subst (Right text a b) e right-answer), λ first. go first answer refl)
       where
         go : FirstBreach text a b number place → (x : Answer) → answer ≡ x → answer ≡ Refused number (record { 0 = place })
         go first (Accepted count) e = absurd (subst (Right text a b) e right-answer number place (first .broken))
@@ -112,5 +112,5 @@ module _ (text : List ℕ) (order : InOrder (rules (meanings-in text))) (placed 
         unbroken : ((number place : ℕ) → InBreach text a b number place → ⊥) → (x : Answer) → answer ≡ x → number-of answer ≡ 0
         unbroken none (Accepted count) e = ap number-of e
         unbroken none (Refused m q) e =
-            let first : FirstBreach text a b m (q .0) = subst (Right text a b) e right-answer in
+            let first : Least text a b m (q .0) = subst (Right text a b) e right-answer in
             absurd (none m (q .0) (first .broken))

@@ -1,5 +1,5 @@
--- The rules from 8 on stand in the order of their numbers, and those of one number in the order of their places; so the first that
--- is broken has the smallest number, and its first breach the earliest place. Each place is that of a token.
+-- The rules from 8 on stand in the order of their ranks, and those of one rank in the order of their places; so the first that
+-- is broken has the earliest rank, and its first breach the earliest place. Each place is that of a token.
 -- Assumes nothing.
 use mathlib.Core.Path.{_≡_, refl, ap, _∙_}
 use mathlib.Core.List.{List, [], _∷_, _++_}
@@ -27,9 +27,10 @@ use Rattle.table_check.specs.Refusal.{table-broken}
 use Rattle.access_check.specs.Access.{access-broken}
 use Rattle.access_check.specs.Notification.{notification-broken}
 use Rattle.reader.specs.Reading.{numbered, classed, module-of, oid-rules, object-rules, later-rules, rules}
-use Rattle.statements.specs.Order.{Broken, InOrder, Placed}
+use Rattle.statements.specs.Order.{ranks, is-among, ranks-before, rank}
+use Rattle.statements.proofs.Ordered.{Broken, Placed}
 use Rattle.statements.proofs.RisingHits.{Confined, hits-confined, confined-wider}
-use Rattle.statements.proofs.RisingRun.{Run, run-row, run-then, run-none, run-each, placed-row, placed-each}
+use Rattle.statements.proofs.RisingRun.{Run, run-row, run-one, run-then, run-within, run-each, placed-row, placed-each}
 use Rattle.scope.proofs.Imports as imports
 use Rattle.outline.proofs.Outline.{outline-counted}
 use Rattle.statements.proofs.RisingDefinitions.{name-of, end-of, ends-before, end-inside, syntax-at-home}
@@ -70,16 +71,16 @@ module _ (ms : List Meaning) where
 
   -- ---- the stages keep the definitions where they are
 
-  named-keeps : Keeps (outline (classes-of ms)) (named ms .definitions)
+  pub named-keeps : Keeps (outline (classes-of ms)) (named ms .definitions)
   named-keeps = record { counted = refl; names = λ k. refl; syntaxes = λ k. refl }
 
-  numbered-keeps : Keeps (outline (classes-of ms)) (numbered ms .definitions)
+  pub numbered-keeps : Keeps (outline (classes-of ms)) (numbered ms .definitions)
   numbered-keeps = keeps-then named-keeps (oids-keep (named ms))
 
-  classed-keeps : Keeps (outline (classes-of ms)) (classed ms .definitions)
+  pub classed-keeps : Keeps (outline (classes-of ms)) (classed ms .definitions)
   classed-keeps = keeps-then numbered-keeps (classes-keep (numbered ms .classes) (numbered ms .values) (numbered ms .definitions))
 
-  module-keeps : Keeps (outline (classes-of ms)) (module-of ms .definitions)
+  pub module-keeps : Keeps (outline (classes-of ms)) (module-of ms .definitions)
   module-keeps = keeps-then classed-keeps (parents-keep (classed ms .numbers) (classed ms .definitions))
 
   -- ---- the rules, one by one
@@ -176,12 +177,12 @@ module _ (ms : List Meaning) where
   -- ---- in a row
 
   -- a rule for each definition, its places inside it
-  of-each : (n : ℕ) (rule : ℕ → Rule) → ((k : ℕ) → k < count → Confined n (name-of (classes-of ms) k) (end-of (classes-of ms) k) (rule k))
-      → Run n (suc n) (each rule 0 (length shapes))
+  of-each : (number : ℕ) (rule : ℕ → Rule) → ((k : ℕ) → k < count → Confined number (name-of (classes-of ms) k) (end-of (classes-of ms) k) (rule k))
+      → Run (rank number) (suc (rank number)) (each rule 0 (length shapes))
   unfolding each
-  of-each n rule home =
+  of-each number rule home =
       rw shapes-counted
-      (run-each rule n count (name-of (classes-of ms)) (end-of (classes-of ms)) home (ends-before (classes-of ms)) (count - 0) 0 (omega arith))
+      (run-each rule number count (name-of (classes-of ms)) (end-of (classes-of ms)) home (ends-before (classes-of ms)) (count - 0) 0 (omega arith))
 
   placed-of-each : (n : ℕ) (rule : ℕ → Rule) → ((k : ℕ) → k < count → Confined n (name-of (classes-of ms) k) (end-of (classes-of ms) k) (rule k))
       → Placed (length ms) (each rule 0 (length shapes))
@@ -192,18 +193,19 @@ module _ (ms : List Meaning) where
       (λ k h i p. omega (arith, counted, home k h .inside i p .1, end-inside (classes-of ms) k h))
       (count - 0) 0 (omega arith))
 
-  names-run : Run 8 12 (name-rules ms)
+  names-run : Run (rank 8) (suc (rank 11)) (name-rules ms)
+  unfolding rank ranks-before is-among
   names-run =
-      run-then (omega arith) too-many-rises
-      (run-then (omega arith) introduced-again-rises
-      (run-then (omega arith) not-offered-rises (run-then (omega arith) unknown-name-rises (run-none 12))))
+      run-then (omega arith) (omega arith) too-many-rises
+      (run-then (omega arith) (omega arith) introduced-again-rises
+      (run-then (omega arith) (omega arith) not-offered-rises (run-one unknown-name-rises)))
 
-  oids-run : Run 12 16 (oid-rules (named ms))
-  unfolding oid-rules
+  oids-run : Run (rank 12) (suc (rank 15)) (oid-rules (named ms))
+  unfolding oid-rules rank ranks-before is-among
   oids-run =
-      run-then (omega arith) unreached-rises
-      (run-then (omega arith) too-long-rises
-      (run-then (omega arith) past-room-rises (run-then (omega arith) held-twice-rises (run-none 16))))
+      run-then (omega arith) (omega arith) unreached-rises
+      (run-then (omega arith) (omega arith) too-long-rises
+      (run-then (omega arith) (omega arith) past-room-rises (run-one held-twice-rises)))
 
   abbrev ranges : Demand → ℕ → Rule
   ranges demand = range-rule-of (classed ms .classes) (classed ms .values) shapes demand
@@ -220,30 +222,28 @@ module _ (ms : List Meaning) where
   abbrev of-syntax : List Rule
   of-syntax = rules-over (spelled ms) (classed ms .classes) (classed ms .values) shapes
 
-  syntax-run : Run 16 20 of-syntax
-  unfolding rules-over
+  syntax-run : Run (rank 16) (suc (rank 19)) of-syntax
+  unfolding rules-over rank ranks-before is-among
   syntax-run =
-      run-row (omega arith) (omega arith) (of-each 16 (ranges Order) (ranges-home Order))
-      (run-row (omega arith) (omega arith) (of-each 17 (ranges Limits) (ranges-home Limits))
-      (run-row (omega arith) (omega arith) (of-each 18 items items-home)
-      (run-then (omega arith) indirect-rises (run-none 20))))
+      run-row (omega arith) (omega arith) (omega arith) (of-each 16 (ranges Order) (ranges-home Order))
+      (run-row (omega arith) (omega arith) (omega arith) (of-each 17 (ranges Limits) (ranges-home Limits))
+      (run-row (omega arith) (omega arith) (omega arith) (of-each 18 items items-home) (run-one indirect-rises)))
 
   abbrev of-objects : List Rule
   of-objects = object-rules objects (module-of ms .values) (module-of ms .numbers)
 
-  objects-run : Run 20 23 of-objects
-  unfolding object-rules
+  objects-run : Run (rank 20) (suc (rank 22)) of-objects
+  unfolding object-rules rank ranks-before is-among
   objects-run =
-      run-then (omega arith) table-broken-rises
-      (run-then (omega arith) access-broken-rises (run-then (omega arith) notification-broken-rises (run-none 23)))
+      run-then (omega arith) (omega arith) table-broken-rises
+      (run-then (omega arith) (omega arith) access-broken-rises (run-one notification-broken-rises))
 
-  pub rules-in-order : InOrder (rules ms)
-  unfolding rules later-rules
+  pub rules-in-order : Run (rank 8) (length ranks) (rules ms)
+  unfolding rules later-rules rank ranks-before is-among
   rules-in-order =
-      let all : Run 8 23 (rules ms) =
-      run-row (omega arith) (omega arith) names-run
-      (run-row (omega arith) (omega arith) oids-run (run-row (omega arith) (omega arith) syntax-run objects-run)) in
-      all .in-order
+      run-row (omega arith) (omega arith) (omega arith) names-run
+      (run-row (omega arith) (omega arith) (omega arith) oids-run
+      (run-row (omega arith) (omega arith) (omega arith) syntax-run (run-within (omega arith) objects-run)))
 
   -- ---- places
 

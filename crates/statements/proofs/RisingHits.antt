@@ -8,7 +8,7 @@ use lib.ListN.{length, getD}
 use Rattle.index.specs.First.{hits}
 use Rattle.rule.specs.Rule.{Rule}
 use Rattle.index.proofs.Hits.{hits-rise, hit-inside}
-use Rattle.statements.specs.Order.{Broken, Rises}
+use Rattle.statements.proofs.Ordered.{Broken, Rises}
 
 -- a rule of number n whose breaches rise, each with its place from d on, below e
 pub record Confined (n d e : ℕ) (r : Rule) : Type 0 where

@@ -1,87 +1,90 @@
--- Rules in a row: those of smaller numbers stand before the others, and among those of one number the places rise.
+-- Rules in a row: those of earlier ranks stand before the others, and among those of one rank the places rise.
 -- Assumes nothing.
-use mathlib.Core.Path.{_≡_}
+use mathlib.Core.Path.{_≡_, ap}
 use mathlib.Core.List.{List, [], _∷_, _++_}
 use mathlib.Core.Logic.{inl, inr}
 use Prim.Native.Nat.{ℕ, zero, suc, _+_, _≤_, _<_}
 use native.Mathlib.Omega.{arith}
 use Rattle.rule.specs.Rule.{Rule, each-of}
-use Rattle.statements.specs.Order.{Broken, Before, BeforeAll, InOrder, Placed}
+use Rattle.statements.specs.Order.{rank}
+use Rattle.statements.proofs.Ordered.{Broken, Before, BeforeAll, InOrder, Placed, _listed-in_}
 use Rattle.statements.proofs.RisingHits.{Confined}
 
--- all numbers are from n on, below m
-abbrev Numbered : ℕ → ℕ → List Rule → Type 0
-Numbered n m [] = Unit {0}
-Numbered n m (r ∷ rs) = (n ≤ r .number) × (r .number < m) × Numbered n m rs
+-- all have ranks from n on, below m
+abbrev pub Ranked : ℕ → ℕ → List Rule → Type 0
+Ranked n m [] = Unit {0}
+Ranked n m (r ∷ rs) = (n ≤ rank (r .number)) × (rank (r .number) < m) × Ranked n m rs
 
--- rules in order, with numbers from n on, below m
+-- rules in order, with ranks from n on, below m
 pub record Run (n m : ℕ) (rs : List Rule) : Type 0 where
-  numbered : Numbered n m rs
+  pub ranked : Ranked n m rs
   pub in-order : InOrder rs
 
-numbered-row : (n m o : ℕ) (rs ss : List Rule) → n ≤ m → m ≤ o → Numbered n m rs → Numbered m o ss → Numbered n o (rs ++ ss)
-numbered-row n m o [] [] l h p q = tt
-numbered-row n m o [] (s ∷ ss) l h p q = (omega (arith, q .0), q .1, numbered-row n m o [] ss l h tt (q .2))
-numbered-row n m o (r ∷ rs) ss l h p q = (p .0, omega (arith, p .1), numbered-row n m o rs ss l h (p .2) q)
+-- so has one that is listed
+pub ranked-listed : {n m : ℕ} (rs : List Rule) → Ranked n m rs → (s : Rule) → s listed-in rs → (n ≤ rank (s .number)) × (rank (s .number) < m)
+ranked-listed (r ∷ rs) p s (inl same) = let equal = ap (λ (x : Rule). rank (x .number)) same in (omega (arith, p .0, equal), omega (arith, p .1, equal))
+ranked-listed (r ∷ rs) p s (inr l) = ranked-listed rs (p .2) s l
 
--- a rule comes before those of larger numbers
-before-larger : (m o : ℕ) (r : Rule) (ss : List Rule) → r .number < m → Numbered m o ss → BeforeAll r ss
-before-larger m o r [] l q = tt
-before-larger m o r (s ∷ ss) l q = (inl (omega (arith, q .0)), before-larger m o r ss l (q .2))
+ranked-row : (n m a o : ℕ) (rs ss : List Rule) → n ≤ a → m ≤ o → Ranked n m rs → Ranked a o ss → Ranked n o (rs ++ ss)
+ranked-row n m a o [] [] l h p q = tt
+ranked-row n m a o [] (s ∷ ss) l h p q = (omega (arith, q .0), q .1, ranked-row n m a o [] ss l h tt (q .2))
+ranked-row n m a o (r ∷ rs) ss l h p q = (p .0, omega (arith, p .1), ranked-row n m a o rs ss l h (p .2) q)
+
+-- a rule comes before those of later ranks
+before-later : (m o : ℕ) (r : Rule) (ss : List Rule) → rank (r .number) < m → Ranked m o ss → BeforeAll r ss
+before-later m o r [] l q = tt
+before-later m o r (s ∷ ss) l q = (λ i j x y. inl (omega (arith, q .0)), before-later m o r ss l (q .2))
 
 before-row : (r : Rule) (rs ss : List Rule) → BeforeAll r rs → BeforeAll r ss → BeforeAll r (rs ++ ss)
 before-row r [] ss p q = q
 before-row r (s ∷ rs) ss p q = (p .0, before-row r rs ss (p .1) q)
 
-ordered-row : (n m o : ℕ) (rs ss : List Rule) → Numbered n m rs → Numbered m o ss → InOrder rs → InOrder ss → InOrder (rs ++ ss)
-ordered-row n m o [] ss p q f g = g
-ordered-row n m o (r ∷ rs) ss p q f g =
-    (f .0, before-row r rs ss (f .1) (before-larger m o r ss (p .1) q), ordered-row n m o rs ss (p .2) q (f .2) g)
+ordered-row : (n m a o : ℕ) (rs ss : List Rule) → m ≤ a → Ranked n m rs → Ranked a o ss → InOrder rs → InOrder ss → InOrder (rs ++ ss)
+ordered-row n m a o [] ss l p q f g = g
+ordered-row n m a o (r ∷ rs) ss l p q f g =
+    (f .0, before-row r rs ss (f .1) (before-later a o r ss (omega (arith, p .1)) q), ordered-row n m a o rs ss l (p .2) q (f .2) g)
 
--- one run after the other
-pub run-row : {n m o : ℕ} {rs ss : List Rule} → n ≤ m → m ≤ o → Run n m rs → Run m o ss → Run n o (rs ++ ss)
-run-row {n} {m} {o} {rs} {ss} l h p q = record {
-  numbered = numbered-row n m o rs ss l h (p .numbered) (q .numbered);
-  in-order = ordered-row n m o rs ss (p .numbered) (q .numbered) (p .in-order) (q .in-order);
+-- one run after the other: no rank of the first comes behind one of the second
+pub run-row : {n m a o : ℕ} {rs ss : List Rule} → n ≤ a → m ≤ a → m ≤ o → Run n m rs → Run a o ss → Run n o (rs ++ ss)
+run-row {n} {m} {a} {o} {rs} {ss} l h k p q = record {
+  ranked = ranked-row n m a o rs ss l k (p .ranked) (q .ranked);
+  in-order = ordered-row n m a o rs ss h (p .ranked) (q .ranked) (p .in-order) (q .in-order);
 }
 
+-- ranks that end earlier end before any later one
+pub run-within : {n m o : ℕ} {rs : List Rule} → m ≤ o → Run n m rs → Run n o rs
+run-within {n} {m} {o} {rs} h p = record { ranked = within rs (p .ranked); in-order = p .in-order }
+  where
+    within : (rs : List Rule) → Ranked n m rs → Ranked n o rs
+    within [] q = tt
+    within (r ∷ rs) q = (q .0, omega (arith, q .1), within rs (q .2))
+
 -- a rule alone
-run-one : {n d e : ℕ} {r : Rule} → Confined n d e r → Run n (suc n) (r ∷ [])
-run-one c = record { numbered = (omega (arith, c .numbered), omega (arith, c .numbered), tt); in-order = (c .rises, tt, tt) }
+pub run-one : {number d e : ℕ} {r : Rule} → Confined number d e r → Run (rank number) (suc (rank number)) (r ∷ [])
+run-one c =
+    let at = ap rank (c .numbered) in
+    record { ranked = (omega (arith, at), omega (arith, at), tt); in-order = (c .rises, tt, tt) }
 
--- a rule, and then those of larger numbers
-pub run-then : {n m d e : ℕ} {r : Rule} {rs : List Rule} → n < m → Confined n d e r → Run (suc n) m rs → Run n m (r ∷ rs)
-run-then l c rest = run-row (omega arith) l (run-one c) rest
-
--- no rule
-pub run-none : (n : ℕ) → Run n n []
-run-none n = record { numbered = tt; in-order = tt }
-
--- two rules of one number: no breach of the second has an earlier place
-pub run-two : {n d e f g : ℕ} {r s : Rule} → Confined n d e r → Confined n f g s
-    → ((i j : ℕ) → Broken r i → Broken s j → r .place i ≤ s .place j) → Run n (suc n) (r ∷ s ∷ [])
-run-two {r = r} {s = s} b c apart =
-    let same : r .number ≡ s .number = omega (arith, b .numbered, c .numbered) in
-    record {
-      numbered = (omega (arith, b .numbered), omega (arith, b .numbered), (omega (arith, c .numbered), omega (arith, c .numbered), tt));
-      in-order = (b .rises, (inr (same, apart), tt), (c .rises, tt, tt));
-    }
+-- a rule, and then those of later ranks
+pub run-then : {number a o d e : ℕ} {r : Rule} {rs : List Rule} → rank number < a → a ≤ o → Confined number d e r → Run a o rs → Run (rank number) o (r ∷ rs)
+run-then l h c rest = run-row (omega arith) l (omega arith) (run-one c) rest
 
 -- a rule of one number for each index below c, with bounds for each, of which none passes the next
-module _ (rule : ℕ → Rule) (n c : ℕ) (d e : ℕ → ℕ) (confined : (k : ℕ) → k < c → Confined n (d k) (e k) (rule k))
+module _ (rule : ℕ → Rule) (number c : ℕ) (d e : ℕ → ℕ) (confined : (k : ℕ) → k < c → Confined number (d k) (e k) (rule k))
     (apart : (j k : ℕ) → j < k → k < c → e j ≤ d k) where
-  each-numbered : (m a : ℕ) → a + m ≤ c → Numbered n (suc n) (each-of rule a m)
+  each-ranked : (m a : ℕ) → a + m ≤ c → Ranked (rank number) (suc (rank number)) (each-of rule a m)
   unfolding each-of
-  each-numbered zero a h = tt
-  each-numbered (suc m) a h =
-      let number = confined a (omega arith) .numbered in
-      (omega (arith, number), omega (arith, number), each-numbered m (suc a) (omega arith))
+  each-ranked zero a h = tt
+  each-ranked (suc m) a h =
+      let at = ap rank (confined a (omega arith) .numbered) in
+      (omega (arith, at), omega (arith, at), each-ranked m (suc a) (omega arith))
 
   before : (j k : ℕ) → j < k → k < c → Before (rule j) (rule k)
-  before j k l h =
+  before j k l h x y p q =
       let one = confined j (omega arith) in
       let other = confined k h in
-      inr (omega (arith, one .numbered, other .numbered), λ x y p q. omega (arith, apart j k l h, one .inside x p, other .inside y q))
+      let same : rule j .number ≡ rule k .number = omega (arith, one .numbered, other .numbered) in
+      inr (ap rank same, omega (arith, apart j k l h, one .inside x p, other .inside y q), λ at. same)
 
   before-each : (j m a : ℕ) → j < a → a + m ≤ c → BeforeAll (rule j) (each-of rule a m)
   unfolding each-of
@@ -94,8 +97,8 @@ module _ (rule : ℕ → Rule) (n c : ℕ) (d e : ℕ → ℕ) (confined : (k : 
   each-ordered (suc m) a h =
       (confined a (omega arith) .rises, before-each a m (suc a) (omega arith) (omega arith), each-ordered m (suc a) (omega arith))
 
-  pub run-each : (m a : ℕ) → a + m ≤ c → Run n (suc n) (each-of rule a m)
-  run-each m a h = record { numbered = each-numbered m a h; in-order = each-ordered m a h }
+  pub run-each : (m a : ℕ) → a + m ≤ c → Run (rank number) (suc (rank number)) (each-of rule a m)
+  run-each m a h = record { ranked = each-ranked m a h; in-order = each-ordered m a h }
 
 -- the places of rules in a row, and of a rule for each index below c
 pub placed-row : (n : ℕ) (rs ss : List Rule) → Placed n rs → Placed n ss → Placed n (rs ++ ss)

@@ -1,16 +1,14 @@
 -- What is read fits the working parts: where the rules are kept there are at most 512 definitions and 8,192 sub-identifiers.
 -- Assumes nothing.
-use mathlib.Core.Path.{_≡_, refl, ap}
+use mathlib.Core.Path.{_≡_, refl}
 use mathlib.Core.List.{List, [], _∷_, _++_}
-use Prim.Native.Nat.{ℕ, suc, _-_, _≤_, _<_}
-use native.Mathlib.Decide.{decLt}
+use Prim.Native.Nat.{ℕ, _≤_}
 use native.Mathlib.Omega.{arith}
-use borrow.Author.Tests.{ltb-false}
 use lib.ListN.{length}
 use Rattle.rule.specs.Rule.{Rule, judge}
 use Rattle.rule.specs.declared.Judgement.{Judgement}
 use Rattle.rule.specs.declared.Judgement.the-variants.{Kept, Broken}
-use Rattle.rule.proofs.Judged.{AllKept, NeverBroken, judged-kept}
+use Rattle.rule.proofs.Judged.{AllKept, judged-kept}
 use Rattle.token.specs.Token.{Meaning}
 use Rattle.token.specs.Cut.{cut, meanings-in}
 use Rattle.syntax.specs.declared.Answer.{Answer as Parsing}
@@ -18,10 +16,9 @@ use Rattle.syntax.specs.declared.Answer.the-variants.{Derived, Underived, Uncut
 use Rattle.module_table.specs.Module.{count-of}
 use Rattle.naming.specs.Rules.{name-rules}
 use Rattle.naming.specs.Values.{named}
-use Rattle.oid_head.specs.Oid.{first-number}
-use Rattle.oid_tree.specs.Refusal.{most-numbers, past-room}
+use Rattle.oid_tree.specs.Refusal.{most-numbers}
 use Rattle.oid_tree.specs.Stage.{with-oids}
-use Rattle.oid_tree.proofs.Lengths.{first-none}
+use Rattle.oid_tree.proofs.Counted.{numbers-fit}
 use Rattle.records.proofs.Words.{before-long}
 use Rattle.reader.proofs.Kept.{few-definitions}
 use Rattle.reader.specs.Reading.{rules, later-rules, oid-rules, module-of, starts-of, ends-of, judged, outcome}
@@ -34,17 +31,8 @@ kept-rest (r ∷ rs) ss kept = kept-rest rs ss (kept .1)
 
 -- there are at most 8,192 sub-identifiers where refusal 14 is kept
 numbers-kept : (ms : List Meaning) → AllKept (rules ms) → length (module-of ms .numbers) ≤ most-numbers
-unfolding rules later-rules oid-rules with-oids past-room
-numbers-kept ms kept = go (decLt 0 (count-of (named ms)))
-  where
-    room : NeverBroken (past-room (named ms))
-    room = kept-rest (name-rules ms) (later-rules ms) kept .1 .1 .0
-
-    go : Dec (0 < count-of (named ms)) → first-number (named ms) (count-of (named ms)) ≤ most-numbers
-    go (yes h) =
-        let last : count-of (named ms) ≡ suc (count-of (named ms) - 1) = omega arith in
-        omega (arith, ltb-false most-numbers (first-number (named ms) (suc (count-of (named ms) - 1))) (room (count-of (named ms) - 1) (omega arith) (omega arith)), ap (first-number (named ms)) last)
-    go (no h) = let none : count-of (named ms) ≡ 0 = omega arith in omega (arith, ap (first-number (named ms)) none, first-none (named ms))
+unfolding rules later-rules oid-rules with-oids
+numbers-kept ms kept = numbers-fit (named ms) (kept-rest (name-rules ms) (later-rules ms) kept .1 .1 .0) (count-of (named ms)) (omega arith)
 
 -- the words of an outcome fit
 pub words-fit : (text : List ℕ) (p : Parsing)

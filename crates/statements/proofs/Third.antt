@@ -19,19 +19,19 @@ use Rattle.syntax.proofs.Parsed.{third-demand as parsing-demand}
 use Rattle.reader.specs.Reading.{rules, judged, outcome}
 use Rattle.reader.specs.Buffers.{number-of, answer-to, Reads}
 use Rattle.reader.specs.declared.Answer.{Answer}
-use Rattle.statements.specs.Order.{InOrder}
+use Rattle.statements.specs.Order.{rank}
 use Rattle.statements.specs.Breach.{WithinLimits, Cuts}
 use Rattle.statements.specs.Statements.{ThirdDemand}
 use Rattle.statements.proofs.First.{first-found}
-use Rattle.statements.proofs.Breaches.{from-eight}
+use Rattle.statements.proofs.Breaches.{Ordered, after-grammar}
 
-module _ (text : List ℕ) (order : InOrder (rules (meanings-in text))) where
+module _ (text : List ℕ) (order : Ordered (meanings-in text)) where
   -- an answer to the rules is not refusal 7
   not-seven : (j : Judgement) → judge (rules (meanings-in text)) ≡ j → number-of (answer-to (judged (cut text .tokens) j)) ≡ 7 → ⊥
   not-seven Kept is seven = omega (arith, seven)
   not-seven (Broken f) is seven =
       let x = first-found (judged-broken (rules (meanings-in text)) f is) in
-      omega (arith, seven, x .numbered, from-eight (meanings-in text) order (x .rule) (x .listed))
+      omega (arith, ap rank seven, after-grammar (meanings-in text) order x .0)
 
   demand-of : (v : Verdict) → ParsingDemand text (parsing-of (cut text .tokens) (length text) v)
       → ThirdDemand text (answer-to (outcome text (parsing-of (cut text .tokens) (length text) v)))

@@ -1,37 +1,45 @@
--- The order of rules: where a rule is broken, and that places rise with indices and from rule to rule.
+-- The order of refusals: their ranks.
 -- Assumes nothing.
-use mathlib.Core.Path.{_≡_}
-use mathlib.Core.Logic.{_⊎_}
-use mathlib.Core.Bool.{true}
+use mathlib.Core.Bool.{Bool, false, cond, _||_}
 use mathlib.Core.List.{List, [], _∷_}
-use Prim.Native.Nat.{ℕ, _≤_, _<_}
-use Rattle.rule.specs.Rule.{Rule}
+use Prim.Native.Nat.{ℕ, suc}
+use lib.Dec.{eqb}
 
--- the index is tested by the rule, and the rule is broken there
-pub record Broken (r : Rule) (i : ℕ) : Type 0 where
-  pub from : r .from ≤ i
-  pub below : i < r .to
-  pub breaks : r .breach i ≡ true
+-- The refusals of the reader, rank by rank, the first to be given first. Where several numbers have one rank the place decides: "3 to 6
+-- together: the leftmost token".
+abbrev pub ranks : List (List ℕ)
+ranks =
+    (1 ∷ [])
+    ∷ (2 ∷ [])
+    ∷ (3 ∷ 4 ∷ 5 ∷ 6 ∷ [])
+    ∷ (7 ∷ [])
+    ∷ (8 ∷ [])
+    ∷ (9 ∷ [])
+    ∷ (10 ∷ [])
+    ∷ (11 ∷ [])
+    ∷ (12 ∷ [])
+    ∷ (13 ∷ [])
+    ∷ (14 ∷ [])
+    ∷ (15 ∷ [])
+    ∷ (16 ∷ [])
+    ∷ (17 ∷ [])
+    ∷ (18 ∷ [])
+    ∷ (19 ∷ [])
+    ∷ (20 ∷ [])
+    ∷ (21 ∷ [])
+    ∷ (22 ∷ [])
+    ∷ []
 
--- of two breaches of a rule, the one at the later index has no earlier place
-abbrev pub Rises : Rule → Type 0
-Rises r = (i j : ℕ) → i < j → Broken r i → Broken r j → r .place i ≤ r .place j
+-- the number is one of these
+unfoldable pub is-among : ℕ → List ℕ → Bool
+is-among n [] = false
+is-among n (m ∷ ms) = eqb n m || is-among n ms
 
--- a rule comes before another: its number is smaller, or it is the same and no breach of the other has an earlier place
-abbrev pub Before : Rule → Rule → Type 0
-Before r s = (r .number < s .number) ⊎ ((r .number ≡ s .number) × ((i j : ℕ) → Broken r i → Broken s j → r .place i ≤ s .place j))
+-- how many of these ranks come before the one that has the number
+unfoldable pub ranks-before : ℕ → List (List ℕ) → ℕ
+ranks-before n [] = 0
+ranks-before n (r ∷ rs) = cond (is-among n r) 0 (suc (ranks-before n rs))
 
--- a rule comes before each of these
-abbrev pub BeforeAll : Rule → List Rule → Type 0
-BeforeAll r [] = Unit {0}
-BeforeAll r (s ∷ rs) = Before r s × BeforeAll r rs
-
--- each rule's places rise, and it comes before all that follow it
-abbrev pub InOrder : List Rule → Type 0
-InOrder [] = Unit {0}
-InOrder (r ∷ rs) = Rises r × BeforeAll r rs × InOrder rs
-
--- each place is that of one of the first n tokens
-abbrev pub Placed : ℕ → List Rule → Type 0
-Placed n [] = Unit {0}
-Placed n (r ∷ rs) = ((i : ℕ) → Broken r i → r .place i < n) × Placed n rs
+-- the rank of a number, the first being 0
+unfoldable pub rank : ℕ → ℕ
+rank n = ranks-before n ranks

@@ -2,14 +2,16 @@
 -- of document 01 that it puts into symbols. There is no proof here: `Statements`, the last record, holds them all, and
 -- proofs/Statements.antt has a value of it.
 --
--- Each is about a call's contract, which the call is proved to keep whatever it is given: `Reads` for reader::read, `Answered` for
--- hint::octets and hint::integer, an equation with `row-status` for row_status::set. A name with a prime is what a call leaves.
+-- Each is about a call's contract, which the call's `ensures` cites and which it is proved to keep whatever it is given: `Reads` for
+-- reader::read, `Examines` for reader::examine, `PrintedOctets` for hint::octets, `PrintedInteger` for hint::integer, `Sets` for
+-- row_status::set, and `ReadRaw`, `OctetsRaw`, `IntegerRaw` and `SetRaw` for the exported functions of crates/mib. A name with a prime
+-- is what a call leaves.
 -- Assumes nothing.
 use mathlib.Core.Path.{_≡_}
 use mathlib.Core.Logic.{_⊎_, _↔_}
 use mathlib.Core.Bool.{Bool, true}
 use mathlib.Core.List.{List, [], _∷_, _++_}
-use Prim.Native.Nat.{ℕ, _-_, _*_, _<_, _≤_}
+use Prim.Native.Nat.{ℕ, _+_, _-_, _*_, _<_, _≤_}
 use lib.IntN.{ℤ, negsuc}
 use lib.ListN.{length, getD, take, drop}
 use Rattle.terminal.specs.Terminal.{lower}
@@ -26,15 +28,19 @@ use Rattle.module_table.specs.declared.Lead.the-variants.{Definition}
 use Rattle.naming.specs.Values.{named}
 use Rattle.oid_head.specs.Oid.{HasOid, has-value}
 use Rattle.records.specs.Record.{record-width}
-use Rattle.reader.specs.Reading.{module-of, records-of}
-use Rattle.reader.specs.Buffers.{number-of, place-of, count-of, record-words, number-words, zeros, filled, Reads}
+use Rattle.reader.specs.Reading.{Outcome, module-of, records-of}
+use Rattle.reader.specs.Buffers.{number-of, place-of, count-of, record-words, number-words, zeros, filled, answer-to, examined-to, ReadsAs, Reads}
 use Rattle.reader.specs.declared.Answer.{Answer}
-use Rattle.reader.specs.declared.Answer.the-variants.{Refused}
+use Rattle.reader.specs.declared.Answer.the-variants.{Accepted, Refused}
 use Rattle.hint.specs.Answer as hint
 use Rattle.hint.specs.declared.Answer.{Answer as HintAnswer}
 use Rattle.hint.specs.declared.Answer.the-variants.{Printed, ShortBuffer}
 use Rattle.row_status.specs.RowStatus as row
+use Rattle.mib.specs.Raw as raw
+use Rattle.digit.specs.Digits.{glyph, digits, numeral}
 use Rattle.row_status.specs.declared.Answer.{Answer as RowAnswer}
+use Rattle.statements.specs.Card.{card-text, record-of-t, record-of-a, card-numbers}
+use Rattle.statements.specs.Searches.{Searches}
 use Rattle.statements.specs.Breach.{WithinLimits, Cuts, Derives, InBreach, FirstBreach}
 
 -- ---- Reading a module
@@ -62,7 +68,13 @@ pub record FirstDemand (text : List ℕ) (answer : Answer) (records records′ n
 
 -- Definition k has this OID, and no other, by the relation that follows heads however far they lead.
 abbrev pub OidIs : Module → ℕ → List ℕ → Type 0
-OidIs m k oid = HasOid m (Definition (record { 0 = k })) oid × ((other : List ℕ) → HasOid m (Definition (record { 0 = k })) other → other ≡ oid)
+OidIs m k oid =
+    HasOid m (Definition (record { 0 = k })) oid
+    × ((other : List ℕ) → HasOid m (Definition (record { 0 = k })) other → other ≡ oid)
+
+-- word j of record k, both from 0 on
+abbrev pub record-word : List ℕ → ℕ → ℕ → ℕ
+record-word records k j = getD records (k * record-width + j) 0
 
 -- The second demand: the first broken rule, or the records and sub-identifiers of all definitions.
 pub record SecondDemand (text : List ℕ) (answer : Answer) (records records′ numbers numbers′ : List ℕ) : Type 0 where
@@ -83,8 +95,13 @@ pub record SecondDemand (text : List ℕ) (answer : Answer) (records records′ 
       → numbers′ ≡ filled number-words (module-of (meanings-in text) .numbers) numbers
   -- "An OID is the head's OID followed by the parts' numbers": these are the sub-identifiers of each definition of a kind that has any,
   -- cut out of all of them by where they start and how many they are
-  pub resolved : number-of answer ≡ 0 → (k : ℕ) → k < definitions-in (module-of (meanings-in text)) → has-value (at (named (meanings-in text)) k) ≡ true
+  pub resolved : number-of answer ≡ 0 → (k : ℕ) → k < definitions-in (module-of (meanings-in text))
+      → has-value (at (named (meanings-in text)) k) ≡ true
       → OidIs (named (meanings-in text)) k (oid-of (module-of (meanings-in text)) k)
+  -- "first index and count of its sub-identifiers": words 3 and 4 of record k cut the OID of definition k out of the number buffer as it
+  -- is left
+  pub cut-out : number-of answer ≡ 0 → (k : ℕ) → k < count-of answer → has-value (at (named (meanings-in text)) k) ≡ true
+      → OidIs (named (meanings-in text)) k (take (record-word records′ k 4) (drop (record-word records′ k 3) numbers′))
 
 -- The third demand, of a text within the limits that cuts into tokens: refusal 7 exactly when the grammar derives no such token
 -- sequence; its place is the start of the first token after which no derived sequence, however long, can begin so, or the text's
@@ -95,11 +112,18 @@ pub record ThirdDemand (text : List ℕ) (answer : Answer) : Type 0 where
   pub one-derivation : (d e : Derivation class-of-token smi-module) → tokens-of class-of-token smi-module d ≡ cut text .tokens
       → tokens-of class-of-token smi-module e ≡ cut text .tokens → d ≡ e
 
--- Two calls, of the texts a and b, with equal buffers lent: equal answers, and equal buffers left.
-abbrev pub ReadAlike : List ℕ → List ℕ → Type 0
-ReadAlike a b =
-    (x y : Answer) (records r s numbers m n : List ℕ) → Reads a x records r numbers m → Reads b y records s numbers n
+-- Two calls, of the texts a and b, with equal buffers lent: equal answers, and equal buffers left. `of` says what is answered to an
+-- outcome: `answer-to` for reader::read, `examined-to` for reader::examine.
+abbrev pub AlikeAs : {A : Type 0} → (Outcome → A) → List ℕ → List ℕ → Type 0
+AlikeAs {A} of a b =
+    (x y : A) (records r s numbers m n : List ℕ) → ReadsAs of a x records r numbers m → ReadsAs of b y records s numbers n
     → (x ≡ y) × (r ≡ s) × (m ≡ n)
+
+abbrev pub ReadAlike : List ℕ → List ℕ → Type 0
+ReadAlike = AlikeAs answer-to
+
+abbrev pub ExaminedAlike : List ℕ → List ℕ → Type 0
+ExaminedAlike = AlikeAs examined-to
 
 -- ---- Printing by hint
 
@@ -115,36 +139,39 @@ pub record Prints (part : ℕ) (verdict : hint.Verdict) (answer : HintAnswer) (b
       → (hint.number-of answer ≡ number) × (hint.place-of answer ≡ place) × (hint.length-of answer ≡ 0)
       × (after ≡ zeros part ++ drop part before)
 
--- the contract of hint::octets, and of hint::integer
-abbrev pub PrintedOctets : List ℕ → List ℕ → HintAnswer → List ℕ → List ℕ → Type 0
-PrintedOctets display-hint value answer before after =
-    hint.Answered hint.octets-part (hint.octets-verdict (length before) display-hint value) answer before after
+-- ---- The exported functions
 
-abbrev pub PrintedInteger : List ℕ → ℤ → HintAnswer → List ℕ → List ℕ → Type 0
-PrintedInteger display-hint value answer before after =
-    hint.Answered hint.integer-part (hint.integer-verdict (length before) display-hint value) answer before after
-
--- ---- RowStatus
-
--- the contract of row_status::set
-abbrev pub Sets : ℕ → ℤ → Bool → Bool → RowAnswer → Type 0
-Sets state value complete willing answer = row.outcome state answer ≡ row.row-status state value complete willing
+-- Two calls of one function with equal arguments leave every slice the same.
+pub record Exported : Type 0 where
+  pub read : (text records r s numbers m n answer x y : List ℕ)
+      → raw.ReadRaw text records r numbers m answer x → raw.ReadRaw text records s numbers n answer y → (r ≡ s) × (m ≡ n) × (x ≡ y)
+  pub print-octets : (display-hint octets out o p answer x y : List ℕ)
+      → raw.OctetsRaw display-hint octets out o answer x → raw.OctetsRaw display-hint octets out p answer y → (o ≡ p) × (x ≡ y)
+  pub print-integer : (display-hint : List ℕ) (value : ℤ) (out o p answer x y : List ℕ)
+      → raw.IntegerRaw display-hint value out o answer x → raw.IntegerRaw display-hint value out p answer y → (o ≡ p) × (x ≡ y)
+  pub set-row : (state : ℕ) (value : ℤ) (complete willing : ℕ) (answer x y : List ℕ)
+      → raw.SetRaw state value complete willing answer x → raw.SetRaw state value complete willing answer y → x ≡ y
 
 -- ---- The proved examples
+
+-- every call with this text, and with buffers that are long enough, answers this refusal
+abbrev pub RefusedBy : List ℕ → ℕ → ℕ → Type 0
+RefusedBy text number place =
+    (answer : Answer) (records records′ numbers numbers′ : List ℕ) → Reads text answer records records′ numbers numbers′
+    → record-words ≤ length records → number-words ≤ length numbers → answer ≡ Refused number (record { 0 = place })
 
 -- P1 to P8, from the definitions.
 pub record Examples : Type 0 where
   -- `----` no token
   pub P1 : cut (bytes "----") ≡ record { tokens = []; ending = whole }
   -- `-----` refusal 3 at 4
-  pub P2 : cut (bytes "-----") ≡ record { tokens = []; ending = refused 3 4 }
+  pub P2 : (cut (bytes "-----") ≡ record { tokens = []; ending = refused 3 4 }) × RefusedBy (bytes "-----") 3 4
   -- `a--b` the name a
   pub P3 : cut (bytes "a--b") ≡ record { tokens = tok lower 0 1 (bytes "a") ∷ []; ending = whole }
   -- 4294967296 refusal 6
-  pub P4 : cut (bytes "4294967296") ≡ record { tokens = []; ending = refused 6 0 }
+  pub P4 : (cut (bytes "4294967296") ≡ record { tokens = []; ending = refused 6 0 }) × RefusedBy (bytes "4294967296") 6 0
   -- empty text: 7 at 0
-  pub P5 : (answer : Answer) (records records′ numbers numbers′ : List ℕ) → Reads [] answer records records′ numbers numbers′
-      → record-words ≤ length records → number-words ≤ length numbers → answer ≡ Refused 7 (record { 0 = 0 })
+  pub P5 : RefusedBy [] 7 0
   -- 02 0A 0B 05 under `*1d.:1d`: `10.11:5`
   pub P6 : hint.octets-verdict 4096 (bytes "*1d.:1d") (0x02 ∷ 0x0A ∷ 0x0B ∷ 0x05 ∷ []) ≡ hint.text (bytes "10.11:5")
   -- -5 under d-2: `-0.05`
@@ -152,6 +179,15 @@ pub record Examples : Type 0 where
   -- C3 A9 under 255t prints both; under 255a, 33 at 0
   pub P8 : (hint.octets-verdict 4096 (bytes "255t") (0xC3 ∷ 0xA9 ∷ []) ≡ hint.text (0xC3 ∷ 0xA9 ∷ []))
       × (hint.octets-verdict 4096 (bytes "255a") (0xC3 ∷ 0xA9 ∷ []) ≡ hint.refusal 33 0)
+
+-- The whole case of "The shelf card": every call with it, and with buffers that are long enough, answers `accepted 2`, and leaves these
+-- two records and these sub-identifiers, and then zeros; the words beyond the working parts are as they were.
+abbrev pub WholeCase : Type 0
+WholeCase =
+    (answer : Answer) (records records′ numbers numbers′ : List ℕ) → Reads card-text answer records records′ numbers numbers′
+    → record-words ≤ length records → number-words ≤ length numbers
+    → (answer ≡ Accepted 2) × (records′ ≡ filled record-words (record-of-t ++ record-of-a) records)
+    × (numbers′ ≡ filled number-words card-numbers numbers)
 
 -- ---- All of them
 
@@ -161,30 +197,44 @@ pub record Statements : Type 0 where
   -- two texts that differ only in allowed bytes strictly inside text tokens are answered and written alike
   pub quotes : (a b : List ℕ) → QuotedChange a b → ReadAlike a b
   pub third-demand : OfEveryRead
-      (λ text answer records records′ numbers numbers′. WithinLimits text (length records) (length numbers) → Cuts text → ThirdDemand text answer)
-  -- the contract leaves nothing open: number, place, count and each lent word are settled
+      (λ text answer records records′ numbers numbers′.
+      WithinLimits text (length records) (length numbers) → Cuts text → ThirdDemand text answer)
+  -- the contracts leave nothing open: number, place, count and each lent word are settled; of reader::examine, clause and other place too
   pub read-settled : (text : List ℕ) → ReadAlike text text
+  pub examine-settled : (text : List ℕ) → ExaminedAlike text text
   -- the second demand's printed values, of octets and of integers
-  pub octets : (display-hint value : List ℕ) (answer : HintAnswer) (before after : List ℕ) → PrintedOctets display-hint value answer before after
+  pub octets : (display-hint value : List ℕ) (answer : HintAnswer) (before after : List ℕ)
+      → hint.PrintedOctets display-hint value answer before after
       → Prints hint.octets-part (hint.octets-verdict (length before) display-hint value) answer before after
   pub integer : (display-hint : List ℕ) (value : ℤ) (answer : HintAnswer) (before after : List ℕ)
-      → PrintedInteger display-hint value answer before after
+      → hint.PrintedInteger display-hint value answer before after
       → Prints hint.integer-part (hint.integer-verdict (length before) display-hint value) answer before after
   -- "Output never passes four bytes for each octet"
-  pub four-bytes : (room : ℕ) (display-hint value t : List ℕ) → ((k : ℕ) → getD value k 0 < 256) → hint.octets-verdict room display-hint value ≡ hint.text t
-      → length t ≤ 4 * length value
+  pub four-bytes : (room : ℕ) (display-hint value t : List ℕ) → ((k : ℕ) → getD value k 0 < 256)
+      → hint.octets-verdict room display-hint value ≡ hint.text t → length t ≤ 4 * length value
+  -- "Bases 2, 8, 10, 16 share one fact over the base": the digits of a number read back as it
+  pub digits-back : (base n : ℕ) → 2 ≤ base → base ≤ 16 → numeral base 0 (digits base n) ≡ n
+  -- "no leading zeros": 0 is one digit, and of no other number the first digit is 0
+  pub zero-digits : (base : ℕ) → 2 ≤ base → digits base 0 ≡ glyph 0 ∷ []
+  pub no-leading-zero : (base n : ℕ) → 2 ≤ base → 0 < n → getD (digits base n) 0 0 ≡ glyph 0 → ⊥
   -- the contracts leave nothing open: two calls with equal arguments answer and print the same
   pub octets-settled : (display-hint value : List ℕ) (x y : HintAnswer) (before a b : List ℕ)
-      → PrintedOctets display-hint value x before a → PrintedOctets display-hint value y before b → (x ≡ y) × (a ≡ b)
+      → hint.PrintedOctets display-hint value x before a → hint.PrintedOctets display-hint value y before b → (x ≡ y) × (a ≡ b)
   pub integer-settled : (display-hint : List ℕ) (value : ℤ) (x y : HintAnswer) (before a b : List ℕ)
-      → PrintedInteger display-hint value x before a → PrintedInteger display-hint value y before b → (x ≡ y) × (a ≡ b)
+      → hint.PrintedInteger display-hint value x before a → hint.PrintedInteger display-hint value y before b → (x ≡ y) × (a ≡ b)
   -- the second demand's row answers: number and next state, "unchanged unless 0"
-  pub row-answer : (state : ℕ) (value : ℤ) (complete willing : Bool) (answer : RowAnswer) → Sets state value complete willing answer
+  pub row-answer : (state : ℕ) (value : ℤ) (complete willing : Bool) (answer : RowAnswer) → row.Sets state value complete willing answer
       → (row.number-of answer ≡ row.row-status state value complete willing .number)
       × (row.next-of state answer ≡ row.row-status state value complete willing .next)
       × ((row.number-of answer ≡ 0 → ⊥) → row.next-of state answer ≡ state)
   -- that contract leaves nothing open either
   pub row-settled : (state : ℕ) (value : ℤ) (complete willing : Bool) (x y : RowAnswer)
-      → Sets state value complete willing x → Sets state value complete willing y → x ≡ y
+      → row.Sets state value complete willing x → row.Sets state value complete willing y → x ≡ y
+  -- nor do those of the exported functions: each slice that is lent is settled, the answer's words with the others
+  pub exported : Exported
+  -- searches of the layers in plain words
+  pub searches : Searches
+  -- the whole case
+  pub whole-case : WholeCase
   -- P1 to P8
   pub examples : Examples

@@ -36,7 +36,7 @@ each-terminal : EachTerminal class-of-token
 each-terminal c h = let s = sample c h in (s .token, s .classed)
 
 -- the run of the automaton over the classes of tokens is the right verdict on them
-run-judges : (ts : List Tok) → Judges ts (run module-automaton (map class-of-token ts))
+pub run-judges : (ts : List Tok) → Judges ts (run module-automaton (map class-of-token ts))
 run-judges ts = token-theorem class-of-token each-terminal ts
 
 abbrev starts : List Tok → List ℕ

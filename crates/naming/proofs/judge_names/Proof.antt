@@ -14,7 +14,7 @@ use Rattle.scope.specs.Held.{ImportsHeld}
 use Rattle.scope.proofs.Tokens.{classes-are, said-counted, held-said}
 use Rattle.naming.specs.Rules.{not-offered, unknown-name, after-count}
 use Rattle.naming.specs.Told.{ImportsFilled, UsesFilled}
-use Rattle.naming.proofs.Named.{names-distinct, imports-held, all-values}
+use Rattle.naming.proofs.Named.{names-distinct, all-offered, imports-held, all-values}
 use Rattle.naming.proofs.Reading.{broken-filled}
 use borrow.Author.Needs.{needs}
 use Rattle.naming.proofs.judge_names.Statement.{statement}
@@ -98,7 +98,8 @@ judge-uses-requires c κs =
     let all = long₂ j ∙ s .pre .1 .0 in
     let cs = classes-are _ _ _ _ (s .pre .0) in
     let filled = subst (λ (x : Judgement). ImportsFilled (meanings-in (s .args .text .now)) x (j .judge-offers .last .1 .1 .1 .1 .0)) (c .before .enum-told3 .given .1) (j .judge-offers .ensures .1 .1) in
-    let imports = imports-held _ _ _ (held-said _ _ _ _ (s .pre .0)) _ (all ∙ ap length cs) filled in
+    let offers = all-offered _ (sym (c .before .enum-told3 .given .1) ∙ j .judge-offers .ensures .1 .0) in
+    let imports = imports-held _ _ _ (held-said _ _ _ _ (s .pre .0)) offers _ (all ∙ ap length cs) filled in
     (s .pre .0, (all, (subst (λ (l : List ℕ). ImportsHeld (meanings-in (s .args .text .now)) (take (imports-end l) (j .judge-offers .last .1 .1 .1 .1 .0))) (sym cs) imports, (s .pre .1 .1 .0, (s .pre .1 .1 .1, names-distinct _ (sym (j .before .before .enum-told .given .1) ∙ first-of j .judge-introduced .ensures .1))))))
 
 enum-told-5 : tie.Need-enum-told-5
@@ -139,6 +140,7 @@ returns-4 c =
     let long = f .fill-numbers .ensures .0 ∙ long₃ j₃ in
     let counted = s .pre .1 .0 ∙ sym (said-counted _ _ _ _ (s .pre .0)) in
     let values = all-values _ _ _ (held-said _ _ _ _ (s .pre .0)) _ _ _ (sym kept₁ ∙ j₁ .judge-introduced .ensures .1)
+    (all-offered _ (sym kept₂ ∙ j₂ .judge-offers .ensures .1 .0))
     (subst (λ (x : Judgement). ImportsFilled (meanings-in (s .args .text .now)) x (j₂ .judge-offers .last .1 .1 .1 .1 .0)) kept₂ (j₂ .judge-offers .ensures .1 .1))
     (subst (λ (x : Judgement). UsesFilled (meanings-in (s .args .text .now)) x (j₂ .judge-offers .last .1 .1 .1 .1 .0) (j₃ .judge-uses .last .1 .1 .1 .1 .0)) kept₃ (j₃ .judge-uses .ensures .1 .1))
     (f .fill-numbers .ensures .1) (long₃ j₃ ∙ counted) (long ∙ counted) in

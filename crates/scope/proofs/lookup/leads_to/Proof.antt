@@ -38,7 +38,7 @@ returns-2 : tie.Need-returns-2
 returns-2 c =
     let f = c .before .before in
     let s = start-of f in
-    c .lead-in .ensures ∙ lead-import (meanings-in (s .args .text .now)) _ (sym (f .before .before .names-iso .ensures) ∙ f .before .if1 .left) _ (f .find-import .ensures) (c .before .if2 .taken)
+    c .lead-in .ensures ∙ lead-import (meanings-in (s .args .text .now)) _ (sym (f .before .before .names-iso .ensures) ∙ f .before .if1 .left) _ (f .find-import .ensures) (s .pre .0 .imports .offers) (c .before .if2 .taken)
 
 find-definition-requires : tie.Need-find-definition-requires
 find-definition-requires c κs = search needs
