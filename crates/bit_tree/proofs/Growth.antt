@@ -19,6 +19,10 @@ unfolding place-of
 place-some zero h = absurd (omega arith)
 place-some (suc c) h = refl
 
+pub place-zero : place-of 0 ≡ 0
+unfolding place-of
+place-zero = refl
+
 some-place : (c m : ℕ) → place-of c ≡ suc m → (c ≡ m) × (0 < c)
 unfolding place-of
 some-place zero m e = absurd (omega arith)
@@ -180,6 +184,11 @@ pub record Walking (root : ℕ → ℕ) (turn : ℕ → ℕ → Bool) (test : �
   pub passed : (n j : ℕ) → n < d → place links (root x) (turn x) n ≡ suc j → test j ≡ false
 
 module _ (root : ℕ → ℕ) (turn : ℕ → ℕ → Bool) (test : ℕ → Bool) (x : ℕ) (links : List ℕ) where
+  -- where it has ended before the first turn there is no root
+  pub root-none : Walking root turn test x links 0 0 → root x ≡ 0
+  unfolding place
+  root-none w = w .here
+
   -- it starts at the root
   pub walking-start : (at : ℕ) → at ≡ root x → Walking root turn test x links 0 at
   unfolding place

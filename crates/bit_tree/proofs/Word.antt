@@ -3,7 +3,7 @@
 use mathlib.Core.Path.{_≡_, refl, sym, ap, _∙_}
 use mathlib.Core.Bool.{Bool, true, false, cond}
 use mathlib.Core.List.{List}
-use Prim.Native.Nat.{ℕ, suc, _+_, _-_, _*_, _/_, _%_, _≤_, _<_}
+use Prim.Native.Nat.{ℕ, suc, _+_, _-_, _/_, _%_, _≤_, _<_}
 use native.Mathlib.Decide.{ℕ-discrete}
 use native.Mathlib.Omega.{arith}
 use borrow.Author.Tests.{lt-ltb, le-ltb}
@@ -33,7 +33,7 @@ module _ (text : List ℕ) (start end d : ℕ) (w : Within text start end) where
 -- ---- the word of an entry that gets a child
 
 -- the child on a side, by the word
-abbrev half : ℕ → Bool → ℕ
+abbrev pub half : ℕ → Bool → ℕ
 half word side = cond side (word / 65536) (word % 65536)
 
 -- the word holds the new child, and the other as it was

@@ -3,8 +3,6 @@
 use Rattle.bit_tree.proofs.Word.{word-fits, cleared-word, hung}
 use native.Mathlib.Omega.{arith}
 use lib.ListN.{length-set}
-use mathlib.Core.Path.{_≡_, ap}
-use Prim.Native.Nat.{_+_}
 use borrow.Author.Needs.{needs}
 use Rattle.bit_tree.proofs.hang.Statement.{statement}
 use Rattle.bit_tree.proofs.hang.Tie as tie
@@ -19,7 +17,7 @@ mul-links-2 : tie.Need-mul-links-2
 mul-links-2 c = search needs
 
 slice-read-links : tie.Need-slice-read-links
-slice-read-links c = 
+slice-read-links c =
     let s = c .before .before in
     simp length-set (omega (arith, s .pre .0 .0, s .pre .0 .1))
 
@@ -27,7 +25,7 @@ only-child-requires : tie.Need-only-child-requires
 only-child-requires c κs = search needs
 
 add-links : tie.Need-add-links
-add-links c = 
+add-links c =
     let s = c .before .before .before in
     let old = cleared-word (s .args .links .now) (s .args .j) (s .args .k) (s .args .side) (s .pre .0 .0) (s .pre .0 .1) in
     let fits = word-fits _ (s .args .k) (s .args .side) (s .pre .1) (omega (arith, old, c .before .slice-known2 .given (s .args .j))) (s .pre .0 .2) in
@@ -37,7 +35,7 @@ mul-links-3 : tie.Need-mul-links-3
 mul-links-3 c = search needs
 
 slice-write-links-2 : tie.Need-slice-write-links-2
-slice-write-links-2 c = 
+slice-write-links-2 c =
     let s = c .before .before .before in
     simp length-set (omega (arith, s .pre .0 .0, s .pre .0 .1))
 
@@ -45,7 +43,7 @@ same-length : tie.Need-same-length
 same-length c = search needs
 
 returns : tie.Need-returns
-returns c = 
+returns c =
     let s = c .before .before .before in
     let old = cleared-word (s .args .links .now) (s .args .j) (s .args .k) (s .args .side) (s .pre .0 .0) (s .pre .0 .1) in
     (simp length-set, hung _ _ _ _ (s .pre .0 .0) (s .pre .0 .1) (s .pre .1) (s .pre .0 .2) _ (omega (arith, old, c .only-child .ensures)))

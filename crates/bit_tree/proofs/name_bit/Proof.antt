@@ -20,7 +20,7 @@ shared-slice-read-bit : tie.Need-shared-slice-read-bit
 shared-slice-read-bit c = search needs
 
 cast-bit : tie.Need-cast-bit
-cast-bit c = 
+cast-bit c =
     let s = c .before .before .before in
     omega (arith, c .shared-slice-known2 .given (s .args .end - 1 - s .args .d / 8))
 
@@ -28,12 +28,12 @@ bit-requires : tie.Need-bit-requires
 bit-requires c κs = search needs
 
 returns : tie.Need-returns
-returns c = 
+returns c =
     let s = c .before .before .before .before in
     bit-inside (s .args .text .now) _ _ _ (s .pre) (c .before .before .if1 .taken) _ (c .bit .ensures)
 
 returns-2 : tie.Need-returns-2
-returns-2 c = 
+returns-2 c =
     let s = c .before .before in
     bit-outside (s .args .text .now) _ _ _ (s .pre) (c .if1 .left)
 

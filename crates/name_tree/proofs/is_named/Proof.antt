@@ -1,8 +1,8 @@
 -- `is_named` is right because an entry's name stands between its start and its end.
 -- Assumes nothing.
 use borrow.Author.Needs.{needs}
-use Rattle.name_chain.proofs.is_named.Statement.{statement}
-use Rattle.name_chain.proofs.is_named.Tie as tie
+use Rattle.name_tree.proofs.is_named.Statement.{statement}
+use Rattle.name_tree.proofs.is_named.Tie as tie
 
 mul-wide : tie.Need-mul-wide
 mul-wide c = search needs

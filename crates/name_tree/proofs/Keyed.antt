@@ -8,7 +8,7 @@ use native.Mathlib.Omega.{arith}
 use lib.ListN.{length, getD}
 use lib.Seq.{drop-cons}
 use Rattle.lexicon.specs.Word.{between}
-use Rattle.name_chain.specs.Key.{key-count, key-step, key-after, name-key}
+use Rattle.name_tree.specs.Key.{key-count, key-step, key-after, name-key}
 
 key-after-few : (k : ℕ) (s : List ℕ) → k < key-count → key-after k s < key-count
 unfolding key-after

@@ -4,10 +4,10 @@ use mathlib.Core.Path.{_≡_, refl, sym, ap, _∙_}
 use Prim.Native.Nat.{ℕ, _+_, _-_, _≤_, _<_}
 use native.Mathlib.Omega.{arith}
 use Rattle.lexicon.specs.Word.{between}
-use Rattle.name_chain.specs.Key.{key-count, key-after, name-key}
-use Rattle.name_chain.proofs.Keyed.{key-more, key-end}
-use Rattle.name_chain.proofs.name_key.Statement.{statement}
-use Rattle.name_chain.proofs.name_key.Tie as tie
+use Rattle.name_tree.specs.Key.{key-count, key-after, name-key}
+use Rattle.name_tree.proofs.Keyed.{key-more, key-end}
+use Rattle.name_tree.proofs.name_key.Statement.{statement}
+use Rattle.name_tree.proofs.name_key.Tie as tie
 
 abbrev Inv-loop : tie.InvT-loop
 Inv-loop text start end key₀ i₀ key i =

@@ -1,11 +1,14 @@
-// Names of a text, chained by keys that read all their bytes, the latest first, so that a search for a name passes only names of its own
-// key. An entry is an index: that of a token, by which the name's start and end are found.
+// Names of a text in trees by their bits, a tree for each key, so that a search for a name passes few names and never more than a name
+// has bits. An entry is an index: that of a token, by which the name's start and end are found.
 ghost use mathlib.Core.Path.{_≡_};
-ghost use Prim.Native.Nat.{_+_, _<_};
+ghost use Prim.Native.Nat.{_<_};
 ghost use lib.ListN.{length};
 ghost use Rattle.lexicon.specs.Word.{between, Within};
-ghost use Rattle.name_chain.specs.Chain.{OneMore, Placed, SomeChain, is-named, Finds};
-ghost use Rattle.name_chain.specs.Key.{key-count, key-step, name-key};
+ghost use Rattle.name_tree.specs.Key.{key-count, key-step, name-key};
+ghost use Rattle.name_tree.specs.Tree.{Placed, SomeTree, Admits, is-named};
+use bit_tree::child;
+use bit_tree::hang;
+use bit_tree::name_bit;
 use index::wide;
 use lexicon::word::same_spelling;
 
@@ -21,7 +24,7 @@ fn key_step(key: usize, byte: u8) -> usize
 }
 
 // The key of the name from start to end of the text.
-pub fn name_key(text: &[u8], start: usize, end: usize) -> usize
+fn name_key(text: &[u8], start: usize, end: usize) -> usize
     requires { ⌜ Within (now text) start end ⌝ }
     ensures { λ r. ⌜ r ≡ name-key (between (now (text .entry)) start end) ⌝ }
 {
@@ -34,18 +37,6 @@ pub fn name_key(text: &[u8], start: usize, end: usize) -> usize
     key
 }
 
-// Chains entry k, of this key, before the others of the key.
-pub fn insert(heads: &mut [u32; KEYS], links: &mut [u32], k: usize, key: usize)
-    requires heads { ⌜ length (now heads) ≡ key-count ⌝ }
-    requires entry { ⌜ (k < length (now links)) × (k < 65536) ⌝ }
-    requires key { ⌜ key < key-count ⌝ }
-    ensures long { λ r. ⌜ length (now (links .exit)) ≡ length (now (links .entry)) ⌝ }
-    ensures chained { λ r. ⌜ OneMore k key (now (heads .entry)) (now (links .entry)) (now (heads .exit)) (now (links .exit)) ⌝ }
-{
-    links[k] = heads[key];
-    heads[key] = (k + 1) as u32;
-}
-
 // Whether entry j has the name from start to end of the text.
 fn is_named(text: &[u8], starts: &[u32], ends: &[u32], j: usize, start: usize, end: usize) -> bool
     requires entry { ⌜ Placed (now text) (now starts) (now ends) j ⌝ }
@@ -55,28 +46,41 @@ fn is_named(text: &[u8], starts: &[u32], ends: &[u32], j: usize, start: usize, e
     same_spelling(text, wide(starts[j]), wide(ends[j]), text, start, end)
 }
 
-// The last entry before k that has the name of entry k, counted from 1; 0 where none has.
-pub fn find(
+// An earlier entry that has the name of entry k, counted from 1. Where none has it is 0, and entry k is put into the tree of its key.
+pub fn admit(
     text: &[u8],
     starts: &[u32],
     ends: &[u32],
-    heads: &[u32; KEYS],
-    links: &[u32],
+    heads: &mut [u32; KEYS],
+    links: &mut [u32],
     k: usize,
 ) -> usize
-    requires chain { ⌜ SomeChain (now text) (now starts) (now ends) k (now heads) (now links) ⌝ }
+    requires tree { ⌜ SomeTree (now text) (now starts) (now ends) k (now heads) (now links) ⌝ }
     requires name { ⌜ Placed (now text) (now starts) (now ends) k ⌝ }
-    ensures { λ r. ⌜ Finds (now (text .entry)) (now (starts .entry)) (now (ends .entry)) k (now (heads .entry)) (now (links .entry)) r ⌝ }
+    requires room { ⌜ (k < length (now links)) × (k < 65536) ⌝ }
+    ensures long { λ r. ⌜ length (now (links .exit)) ≡ length (now (links .entry)) ⌝ }
+    ensures admitted { λ r. ⌜ Admits (now (text .entry)) (now (starts .entry)) (now (ends .entry)) k (now (heads .entry)) (now (links .entry)) (now (heads .exit)) (now (links .exit)) r ⌝ }
 {
     let start = wide(starts[k]);
     let end = wide(ends[k]);
-    let mut at = wide(heads[name_key(text, start, end)]);
+    let key = name_key(text, start, end);
+    let mut at = wide(heads[key]);
+    let mut d = 0;
     while 0 < at {
         let j = at - 1;
         if is_named(text, starts, ends, j, start, end) {
             return at;
         }
-        at = wide(links[j]);
+        let side = name_bit(text, start, end, d);
+        let next = child(links, j, side);
+        if next == 0 {
+            hang(links, j, side, k);
+            return 0;
+        }
+        at = next + 1;
+        d += 1;
     }
+    links[k] = 0;
+    heads[key] = (k + 1) as u32;
     0
 }
