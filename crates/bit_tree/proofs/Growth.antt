@@ -1,6 +1,6 @@
 -- The laws of trees: how they start and grow, and the walk of an entry, which passes no earlier entry that is the same.
 -- Assumes nothing.
-use mathlib.Core.Path.{_≡_, refl, sym, ap, _∙_}
+use mathlib.Core.Path.{_≡_, refl, sym, ap, subst, _∙_}
 use mathlib.Core.Bool.{Bool, true, false}
 use mathlib.Core.List.{List}
 use mathlib.Core.Logic.{_⊎_, inl, inr}
@@ -14,12 +14,12 @@ use Rattle.bit_tree.specs.Tree.{child, place-of, step, place, Inside, Tr
 -- ---- places
 
 -- a child as a place, and back
-pub place-some : (c : ℕ) → 0 < c → place-of c ≡ suc c
+place-some : (c : ℕ) → 0 < c → place-of c ≡ suc c
 unfolding place-of
 place-some zero h = absurd (omega arith)
 place-some (suc c) h = refl
 
-pub place-zero : place-of 0 ≡ 0
+place-zero : place-of 0 ≡ 0
 unfolding place-of
 place-zero = refl
 
@@ -36,7 +36,7 @@ same-side false true = no (λ e. true-false refl (sym e))
 same-side false false = yes refl
 
 -- what follows a place that is known
-pub place-next : (links : List ℕ) (root : ℕ) (turn : ℕ → Bool) (d j : ℕ) → place links root turn d ≡ suc j
+place-next : (links : List ℕ) (root : ℕ) (turn : ℕ → Bool) (d j : ℕ) → place links root turn d ≡ suc j
     → place links root turn (suc d) ≡ place-of (child links j (turn d))
 unfolding place step
 place-next links root turn d j e = ap (λ (p : ℕ). step links p (turn d)) e
@@ -65,7 +65,7 @@ place-before links root turn d m e = go (place links root turn d) refl
 
 module _ (chosen : ℕ → Bool) (root : ℕ → ℕ) (turn : ℕ → ℕ → Bool) (k : ℕ) (links : List ℕ) (t : Tree chosen root turn k links) where
   -- a walk stays among the entries
-  pub place-inside : (e d : ℕ) → Inside chosen k (place links (root e) (turn e) d)
+  place-inside : (e d : ℕ) → Inside chosen k (place links (root e) (turn e) d)
   unfolding place
   place-inside e zero m is = t .rooted e m is
   place-inside e (suc d) zero is = absurd (omega (arith, place-before links (root e) (turn e) d 0 is .3))
@@ -83,7 +83,7 @@ module _ (chosen : ℕ → Bool) (root : ℕ → ℕ) (turn : ℕ → ℕ → Bo
       (roots : (e j : ℕ) → root e ≡ suc j → root′ e ≡ suc j)
       (children : (j c : ℕ) (side : Bool) → j < k → chosen j ≡ true → child links j side ≡ suc c → child links′ j side ≡ suc c)
     where
-      pub place-kept : (e d m : ℕ) → place links (root e) (turn e) d ≡ suc m → place links′ (root′ e) (turn e) d ≡ suc m
+      place-kept : (e d m : ℕ) → place links (root e) (turn e) d ≡ suc m → place links′ (root′ e) (turn e) d ≡ suc m
       unfolding place
       place-kept e zero m is = roots e m is
       place-kept e (suc d) zero is = absurd (omega (arith, place-before links (root e) (turn e) d 0 is .3))
@@ -195,7 +195,7 @@ module _ (root : ℕ → ℕ) (turn : ℕ → ℕ → Bool) (test : ℕ → Bool
   walking-start at is = record { here = sym is; passed = λ n j h. absurd (omega arith) }
 
   -- an entry that fails the test is left, to its child on the side of the turn
-  pub walking-next : (d j : ℕ) → Walking root turn test x links d (suc j) → test j ≡ false
+  walking-next : (d j : ℕ) → Walking root turn test x links d (suc j) → test j ≡ false
       → Walking root turn test x links (d + 1) (place-of (child links j (turn x d)))
   walking-next d j w e = rw (add-one d) (record {
     here = place-next links (root x) (turn x) d j (w .here);
@@ -208,7 +208,35 @@ module _ (root : ℕ → ℕ) (turn : ℕ → ℕ → Bool) (test : ℕ → Bool
           ap test one ∙ e
       go n i h is (no other) = w .passed n i (omega arith) is
 
+  -- by what the code reads: the side, and the child in links that are as they were
+  module _
+      (d j : ℕ) (w : Walking root turn test x links d (suc j)) (e : test j ≡ false) (side : Bool) (turned : side ≡ turn x d) (old : List ℕ) (kept : old ≡ links)
+    where
+      on : Walking root turn test x links (d + 1) (place-of (child old j side))
+      on = rw (turned, kept) (walking-next d j w e)
+
+      -- it goes on to the child
+      pub walking-on : (c : ℕ) → c ≡ child old j side → (c ≡ 0 → ⊥) → Walking root turn test x links (d + 1) (c + 1)
+      walking-on c is some = subst (Walking root turn test x links (d + 1)) (ap place-of (sym is) ∙ there c some) on
+        where
+          there : (c : ℕ) → (c ≡ 0 → ⊥) → place-of c ≡ c + 1
+          there zero h = absurd (h refl)
+          there (suc c) h = place-some (suc c) (omega arith) ∙ sym (add-one (suc c))
+
+      -- or ends
+      pub walking-last : child old j side ≡ 0 → Walking root turn test x links (d + 1) 0
+      walking-last is = subst (Walking root turn test x links (d + 1)) (ap place-of is ∙ place-zero) on
+
   module _ (chosen : ℕ → Bool) (k : ℕ) (t : Tree chosen root turn k links) where
+    -- a child is a later entry
+    pub walking-rises : (d j : ℕ) → Walking root turn test x links d (suc j) → (old : List ℕ) → old ≡ links → (side : Bool) (c : ℕ)
+        → c ≡ child old j side → (c ≡ 0 → ⊥) → (j < c) × (c < k)
+    walking-rises d j w old kept side zero is some = absurd (some refl)
+    walking-rises d j w old kept side (suc c) is some =
+        let i = place-inside chosen root turn k links t x d j (w .here) in
+        let l = t .later j c side (i .0) (i .1) (rw (← kept) (sym is)) in
+        (l .0, l .1)
+
     -- where it is at an entry, that is one of the tree
     pub walking-inside : (d j : ℕ) → Walking root turn test x links d (suc j) → (j < k) × (chosen j ≡ true)
     walking-inside d j w = place-inside chosen root turn k links t x d j (w .here)

@@ -1,10 +1,10 @@
 -- The walk of a name through the tree of its key, whichever indices are entries.
 -- Assumes nothing.
-use mathlib.Core.Path.{_≡_, refl, sym, ap, subst, _∙_}
+use mathlib.Core.Path.{_≡_, refl, ap, subst, _∙_}
 use mathlib.Core.Bool.{Bool, true, false}
 use mathlib.Core.Logic.{_⊎_, inl, inr}
 use mathlib.Core.List.{List}
-use Prim.Native.Nat.{ℕ, zero, suc, _+_, _≤_, _<_}
+use Prim.Native.Nat.{ℕ, suc, _+_, _≤_, _<_}
 use native.Mathlib.Decide.{ℕ-discrete}
 use native.Mathlib.Numerals.{add-one}
 use native.Mathlib.Omega.{arith}
@@ -13,10 +13,10 @@ use lib.Seq.{getD-set-same, getD-set-other}
 use Rattle.index.proofs.Search.{true-false}
 use Rattle.lexicon.specs.Word.{same}
 use Rattle.lexicon.proofs.Words.{same-equal}
-use Rattle.bit_tree.specs.Tree.{child, place, place-of, Tree, Hung}
+use Rattle.bit_tree.specs.Tree.{child, place, Tree, Hung}
 use Rattle.bit_tree.specs.Bit.{name-bit}
 use Rattle.bit_tree.proofs.Word.{half, half-none}
-use Rattle.bit_tree.proofs.Growth.{tree-skip, tree-hung, tree-rooted, Walking, walking-start, walking-next, walking-inside, walking-end, root-none, place-some, place-zero}
+use Rattle.bit_tree.proofs.Growth.{tree-skip, tree-hung, tree-rooted, Walking, root-none, walking-start, walking-on, walking-last, walking-rises, walking-inside, walking-end}
 use Rattle.name_tree.specs.Key.{key-count, name-key}
 use Rattle.name_tree.specs.Tree.{part-at, Placed, root-at, turns-at, NameTree, has-name-of, Admitted}
 use Rattle.name_tree.proofs.Both.{both, both-first, both-second, not-second}
@@ -131,9 +131,7 @@ module _ (text starts ends : List ℕ) where
 
         -- a child is a later entry
         pub looking-rises : (old : List ℕ) → old ≡ links → (side : Bool) (c : ℕ) → c ≡ child old j side → (c ≡ 0 → ⊥) → (j < c) × (c < k)
-        looking-rises old kept side zero is some = absurd (some refl)
-        looking-rises old kept side (suc c) is some =
-            let l = n .tree .later j c side (entry-inside .0) (entry-inside .1) (rw (← kept) (sym is)) in (l .0, l .1)
+        looking-rises = walking-rises _ _ _ k links chosen k (n .tree) d j (w chosen n)
 
       -- an entry that is spelled alike has the name of entry k
       pub looking-hit : same (part-at text starts ends j) (part-at text starts ends k) ≡ true → (at : ℕ) → at ≡ suc j → (old : List ℕ)
@@ -145,26 +143,20 @@ module _ (text starts ends : List ℕ) where
         grown = λ is. absurd (omega arith);
       }
 
-      -- from one that is not, the walk goes on, on the side of the turn
-      module _ (other : same (part-at text starts ends j) (part-at text starts ends k) ≡ false) (side : Bool) (turned : side ≡ name-bit (part-at text starts ends k) d) where
-        step-on : Looking (d + 1) (place-of (child links j side))
-        step-on chosen n = rw turned (walking-next _ _ _ k links d j (w chosen n) (not-second (chosen j) _ other))
+      -- from one that is not, the walk goes on
+      module _
+          (other : same (part-at text starts ends j) (part-at text starts ends k) ≡ false)
+          (side : Bool) (turned : side ≡ name-bit (part-at text starts ends k) d) (old : List ℕ) (kept : old ≡ links)
+        where
+          -- to the child
+          pub looking-next : (c : ℕ) → c ≡ child old j side → (c ≡ 0 → ⊥) → Looking (d + 1) (c + 1)
+          looking-next c is some chosen n =
+              walking-on _ _ _ k links d j (w chosen n) (not-second (chosen j) _ other) side turned old kept c is some
 
-        -- to the child
-        pub looking-next : (old : List ℕ) → old ≡ links → (c : ℕ) → c ≡ child old j side → (c ≡ 0 → ⊥) → Looking (d + 1) (c + 1)
-        looking-next old kept c is some =
-            subst (Looking (d + 1)) (ap place-of (rw (← kept) (sym is)) ∙ place-some c (positive c some) ∙ sym (add-one c)) step-on
-          where
-            positive : (c : ℕ) → (c ≡ 0 → ⊥) → 0 < c
-            positive zero h = absurd (h refl)
-            positive (suc c) h = omega arith
-
-        -- or to its end, where the entry becomes the child
-        pub looking-hung : (old : List ℕ) → old ≡ links → child old j side ≡ 0 → Placed text starts ends k → k < length links
-            → (links′ : List ℕ) → length links′ ≡ length old → Hung j side k old links′
-            → (chosen : ℕ → Bool) → NameTree chosen text starts ends k heads links → Admitted chosen text starts ends k heads links′ 0
-        looking-hung old kept is own room links′ long hung chosen n =
-            let none : child links j side ≡ 0 = rw (← kept) is in
-            admitted chosen n own room heads links′ refl (long ∙ ap length kept)
-            (λ e. tree-hung chosen _ _ k links (n .tree) e d j (w chosen n .here) (rw (← turned) none) links′ (rw (← turned, ← kept) hung))
-            (ended (d + 1) (subst (Looking (d + 1)) (ap place-of none ∙ place-zero) step-on) chosen n)
+          -- or to its end, where the entry becomes the child
+          pub looking-hung : child old j side ≡ 0 → Placed text starts ends k → k < length links → (links′ : List ℕ) → length links′ ≡ length old
+              → Hung j side k old links′ → (chosen : ℕ → Bool) → NameTree chosen text starts ends k heads links → Admitted chosen text starts ends k heads links′ 0
+          looking-hung is own room links′ long hung chosen n =
+              admitted chosen n own room heads links′ refl (long ∙ ap length kept)
+              (λ e. tree-hung chosen _ _ k links (n .tree) e d j (w chosen n .here) (rw (← turned, ← kept) is) links′ (rw (← turned, ← kept) hung))
+              (ended (d + 1) (λ c m. walking-last _ _ _ k links d j (w c m) (not-second (c j) _ other) side turned old kept is) chosen n)
