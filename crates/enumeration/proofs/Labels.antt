@@ -1,18 +1,16 @@
--- The spelling of a token as a part of the text, and the sum of its bytes.
+-- The spelling of a token as a part of the text.
 -- Assumes nothing.
 use mathlib.Core.Path.{_≡_, sym, _∙_}
 use mathlib.Core.Bool.{cond}
-use mathlib.Core.List.{List, [], _∷_}
-use Prim.Native.Nat.{ℕ, suc, _+_, _-_, _*_, _%_, _≤_, _<_}
+use mathlib.Core.List.{List, []}
+use Prim.Native.Nat.{ℕ, _-_, _≤_, _<_}
 use native.Mathlib.Decide.{decLt}
-use native.Mathlib.Numerals.{add-one}
 use native.Mathlib.Omega.{arith}
 use borrow.Author.Tests.{lt-ltb, le-ltb}
 use lib.Dec.{ltb}
-use lib.ListN.{length, getD, drop, length-drop}
-use lib.Seq.{drop-cons, take-all}
+use lib.ListN.{length, drop, length-drop}
+use lib.Seq.{take-all}
 use Rattle.lexicon.specs.Word.{between, Within}
-use Rattle.enumeration.specs.Chain.{byte-sum}
 
 -- the smaller of two numbers
 abbrev pub smaller : ℕ → ℕ → ℕ
@@ -65,18 +63,3 @@ module _ (text : List ℕ) (from to : ℕ) where
           rw (smaller-second from (smaller to (length text)) (omega arith))
           (none-taken (smaller to (length text)) (smaller to (length text)) (omega arith)
           ∙ sym (none-taken from (smaller to (length text)) (omega arith)) ∙ ended from)
-
--- a part of which one byte more is read
-pub part-next : (text : List ℕ) (k end : ℕ) → k < end → end ≤ length text → between text k end ≡ getD text k 0 ∷ between text (k + 1) end
-part-next text k end h inside =
-    let n : end - k ≡ suc (end - (k + 1)) = omega arith in
-    rw (n, drop-cons text k 0 (omega arith), add-one k)
-
-pub sum-next : (text : List ℕ) (k end sum byte : ℕ) → k < end → end ≤ length text → byte ≡ getD text k 0
-    → byte-sum ((sum * 31 + byte) % 65536) (between text (k + 1) end) ≡ byte-sum sum (between text k end)
-unfolding byte-sum
-sum-next text k end sum byte h inside is = rw (part-next text k end h inside, is)
-
-pub sum-end : (text : List ℕ) (k end sum : ℕ) → end ≤ k → byte-sum sum (between text k end) ≡ sum
-unfolding byte-sum
-sum-end text k end sum h = rw (none-taken text 0 0 k end h)

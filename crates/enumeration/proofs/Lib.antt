@@ -1,4 +1,3 @@
 pub mod Labels
-pub mod Chaining
-pub mod Keys
+pub mod Placing
 pub mod Items

@@ -1,3 +1,3 @@
 pub mod Item
-pub mod Chain
+pub mod Tree
 pub mod Refusal

@@ -1,25 +1,28 @@
-// The items of an enumeration: refusal 18 on them. Labels and numbers are chained by their keys, so that an item is compared with the
-// few that may be alike and not with all before it.
+// The items of an enumeration: refusal 18 on them. Labels and numbers are in trees by their bits, so that an item is compared with no
+// more of those before it than a label or a number has bits.
 ghost use mathlib.Core.Path.{_≡_};
-ghost use mathlib.Core.Bool.{false};
-ghost use Prim.Native.Nat.{_+_, _-_, _/_, _<_, _≤_};
+ghost use mathlib.Core.Bool.{true};
+ghost use Prim.Native.Nat.{_-_, _<_, _≤_};
 ghost use lib.Dec.{ltb};
 ghost use lib.ListN.{length};
 ghost use Rattle.type_class.specs.Choice.{if_then_else_};
 ghost use Rattle.index.specs.First.{first, any};
 ghost use Rattle.rule.specs.Rule.{judge-one};
-ghost use Rattle.enumeration.specs.Item.{spelling-in, spelled, has-label, has-number, first-alike, label-again, number-misfit};
-ghost use Rattle.enumeration.specs.Chain.{keys-of, label-key, number-key, label-keys, number-keys, Ready, Clear};
+ghost use Rattle.definition.specs.Members.{is-name};
+ghost use Rattle.enumeration.specs.Item.{spelling-in, has-label, has-number, first-alike, label-again, number-misfit};
+ghost use Rattle.enumeration.specs.Tree.{label-turns, number-turns, Ready, Answered, Clear};
 ghost use Rattle.enumeration.specs.Refusal.{item-rule};
 use crate::Enumeration;
 use crate::label::has_label;
-use crate::label::label_key;
 use crate::label::lesser;
-use crate::link::insert;
+use crate::label::part_of;
+use bit_tree::bit;
+use bit_tree::child;
+use bit_tree::hang;
+use bit_tree::name_bit;
 use definition::Span;
 use definition::is_lower;
 use index::TokenIndex;
-use index::wide;
 use rule::Finding;
 use rule::Judgement;
 use sub_type::Limits;
@@ -30,14 +33,10 @@ use sub_type::is_same_number;
 use sub_type::less;
 use sub_type::word_at;
 
-// How many words a chain has: a fifth of them heads, of a prime number of keys, 67 or 16,411, so that numbers in equal steps don't all
-// get the same. Most enumerations are short, and a short chain is sooner cleared.
-const SHORT_CHAIN: usize = 5 * 67;
-
-const LONG_CHAIN: usize = 5 * 16411;
-
-// The most tokens that the short one has room for.
+// How many tokens a tree has room for, a word for each. Most enumerations are short, and a short tree is sooner cleared.
 const SHORT_SPAN: usize = 256;
+
+const LONG_SPAN: usize = 65536;
 
 // The token of an item's label, and the first token of its enumeration.
 pub struct Entry {
@@ -45,96 +44,83 @@ pub struct Entry {
     pub token: usize,
 }
 
-// The same with the key of its label or its number.
-pub struct Keyed {
-    pub base: usize,
-    pub token: usize,
-    pub key: usize,
-}
-
-// Whether an earlier item has the label of this one: those of its key are looked at.
-fn is_label_held(
+// Whether an earlier item has the label of this one; else it is put into the tree.
+fn place_label(
     text: &[u8],
     starts: &[u32],
     ends: &[u32],
     classes: &[u8],
-    chain: &[u32],
-    item: Keyed,
+    links: &mut [u32],
+    item: Entry,
 ) -> bool
-    requires chain { ⌜ Ready (label-keys (spelling-in (now text) (now starts) (now ends)) (now classes) (item .base) (keys-of (now chain))) (item .base) (item .token) (now chain) ⌝ }
-    requires key { ⌜ item .key ≡ label-key (keys-of (now chain)) (spelled (spelling-in (now text) (now starts) (now ends)) (item .token)) ⌝ }
-    requires few { ⌜ item .token ≤ 65536 ⌝ }
-    ensures { λ r. ⌜ r ≡ any (has-label (spelling-in (now (text .entry)) (now (starts .entry)) (now (ends .entry))) (now (classes .entry)) (item .token)) (item .base) (item .token) ⌝ }
+    requires tree { ⌜ Ready (now classes) (label-turns (spelling-in (now text) (now starts) (now ends))) (item .base) (item .token) (now links) ⌝ }
+    requires room { ⌜ (item .token - item .base < length (now links)) × (item .token < 65536) ⌝ }
+    requires label { ⌜ is-name (now classes) (item .token) ≡ true ⌝ }
+    ensures as_long { λ _. ⌜ length (now (links .exit)) ≡ length (now (links .entry)) ⌝ }
+    ensures answer { λ r. ⌜ Answered (any (has-label (spelling-in (now (text .entry)) (now (starts .entry)) (now (ends .entry))) (now (classes .entry)) (item .token)) (item .base) (item .token)) (now (classes .entry)) (label-turns (spelling-in (now (text .entry)) (now (starts .entry)) (now (ends .entry)))) (item .base) (item .token) (now (links .exit)) r ⌝ }
 {
-    let keys = chain.len() / 5;
     let base = item.base;
     let token = item.token;
-    let key = item.key;
-    let mut at = wide(chain[key]);
+    let part = part_of(text, starts, ends, token);
+    let start = part.start;
+    let end = part.end;
+    let mut at = lesser(token - base, 1);
+    let mut d = 0;
     while 0 < at {
         let j = at - 1;
         if has_label(text, starts, ends, classes, token, base + j) {
             return true;
         }
-        at = wide(chain[keys + j]);
+        let side = name_bit(text, start, end, d);
+        let next = child(links, j, side);
+        if next == 0 {
+            hang(links, j, side, token - base);
+            return false;
+        }
+        at = next + 1;
+        d += 1;
     }
     false
 }
 
-// Whether a token is a label that an earlier item has; else it is chained, if it is a label.
+// Whether a token is a label that an earlier item has; else it is put into the tree, if it is a label.
 fn admit_label(
     text: &[u8],
     starts: &[u32],
     ends: &[u32],
     classes: &[u8],
-    chain: &mut [u32],
+    links: &mut [u32],
     item: Entry,
 ) -> bool
-    requires chain { ⌜ Ready (label-keys (spelling-in (now text) (now starts) (now ends)) (now classes) (item .base) (keys-of (now chain))) (item .base) (item .token) (now chain) ⌝ }
-    requires room { ⌜ keys-of (now chain) + (item .token - item .base) < length (now chain) ⌝ }
-    requires few { ⌜ item .token < 65536 ⌝ }
-    ensures answer { λ r. ⌜ r ≡ label-again (spelling-in (now (text .entry)) (now (starts .entry)) (now (ends .entry))) (now (classes .entry)) (item .base) (item .token) ⌝ }
-    ensures chain { λ r. ⌜ (r ≡ false → Ready (label-keys (spelling-in (now (text .entry)) (now (starts .entry)) (now (ends .entry))) (now (classes .entry)) (item .base) (keys-of (now (chain .exit)))) (item .base) (item .token + 1) (now (chain .exit))) ⌝ }
-    ensures as_long { λ _. ⌜ length (now (chain .exit)) ≡ length (now (chain .entry)) ⌝ }
+    requires tree { ⌜ Ready (now classes) (label-turns (spelling-in (now text) (now starts) (now ends))) (item .base) (item .token) (now links) ⌝ }
+    requires room { ⌜ (item .token - item .base < length (now links)) × (item .token < 65536) ⌝ }
+    ensures as_long { λ _. ⌜ length (now (links .exit)) ≡ length (now (links .entry)) ⌝ }
+    ensures answer { λ r. ⌜ Answered (label-again (spelling-in (now (text .entry)) (now (starts .entry)) (now (ends .entry))) (now (classes .entry)) (item .base) (item .token)) (now (classes .entry)) (label-turns (spelling-in (now (text .entry)) (now (starts .entry)) (now (ends .entry)))) (item .base) (item .token) (now (links .exit)) r ⌝ }
 {
-    let base = item.base;
-    let token = item.token;
-    if is_lower(class_at(classes, token)) {
-        let key = label_key(text, starts, ends, token, chain.len() / 5);
-        if is_label_held(
-            text,
-            starts,
-            ends,
-            classes,
-            chain,
-            Keyed { base, token, key },
-        ) {
-            return true;
-        }
-        insert(chain, key, token - base);
-        return false;
+    if is_lower(class_at(classes, item.token)) {
+        return place_label(text, starts, ends, classes, links, item);
     }
     false
 }
 
-// The first label that is there again, in a span that the lent chain has room for.
+// The first label that is there again, in a span that the lent words have room for.
 fn search_labels(
     text: &[u8],
     starts: &[u32],
     ends: &[u32],
     classes: &[u8],
     span: Span,
-    chain: &mut [u32],
+    links: &mut [u32],
 ) -> usize
     requires few { ⌜ span .to ≤ 65536 ⌝ }
-    requires chain { ⌜ Clear (span .from) (span .to) (now chain) ⌝ }
+    requires links { ⌜ Clear (span .from) (span .to) (now links) ⌝ }
     ensures { λ r. ⌜ r ≡ first (label-again (spelling-in (now (text .entry)) (now (starts .entry)) (now (ends .entry))) (now (classes .entry)) (span .from)) (span .from) (span .to) ⌝ }
 {
     let base = span.from;
     let to = span.to;
     let mut token = base;
     while token < to {
-        if admit_label(text, starts, ends, classes, chain, Entry { base, token }) {
+        if admit_label(text, starts, ends, classes, links, Entry { base, token }) {
             return token;
         }
         token += 1;
@@ -148,11 +134,11 @@ fn first_label_again(text: &[u8], starts: &[u32], ends: &[u32], classes: &[u8], 
     ensures { λ r. ⌜ r ≡ first (label-again (spelling-in (now (text .entry)) (now (starts .entry)) (now (ends .entry))) (now (classes .entry)) (span .from)) (span .from) (span .to) ⌝ }
 {
     if less(span.to, span.from) <= SHORT_SPAN {
-        let mut chain = [0u32; SHORT_CHAIN];
-        return search_labels(text, starts, ends, classes, span, &mut chain);
+        let mut links = [0u32; SHORT_SPAN];
+        return search_labels(text, starts, ends, classes, span, &mut links);
     }
-    let mut chain = [0u32; LONG_CHAIN];
-    search_labels(text, starts, ends, classes, span, &mut chain)
+    let mut links = [0u32; LONG_SPAN];
+    search_labels(text, starts, ends, classes, span, &mut links)
 }
 
 // Whether token j is the label of an item with the number of that of token i.
@@ -163,77 +149,76 @@ fn has_number(classes: &[u8], values: &[u32], i: usize, j: usize) -> bool
     is_lower(class_at(classes, j)) & is_same_number(classes, values, j + 2, i + 2)
 }
 
-// Whether an earlier item has the number of this one: those of its key are looked at.
-fn is_number_held(classes: &[u8], values: &[u32], chain: &[u32], item: Keyed) -> bool
-    requires chain { ⌜ Ready (number-keys (now classes) (now values) (item .base) (keys-of (now chain))) (item .base) (item .token) (now chain) ⌝ }
-    requires key { ⌜ item .key ≡ number-key (keys-of (now chain)) (now values) (item .token) ⌝ }
-    requires few { ⌜ item .token ≤ 65536 ⌝ }
-    ensures { λ r. ⌜ r ≡ any (has-number (now (classes .entry)) (now (values .entry)) (item .token)) (item .base) (item .token) ⌝ }
+// Whether an earlier item has the number of this one; else it is put into the tree.
+fn place_number(classes: &[u8], values: &[u32], links: &mut [u32], item: Entry) -> bool
+    requires tree { ⌜ Ready (now classes) (number-turns (now values)) (item .base) (item .token) (now links) ⌝ }
+    requires room { ⌜ (item .token - item .base < length (now links)) × (item .token < 65536) ⌝ }
+    requires label { ⌜ is-name (now classes) (item .token) ≡ true ⌝ }
+    ensures as_long { λ _. ⌜ length (now (links .exit)) ≡ length (now (links .entry)) ⌝ }
+    ensures answer { λ r. ⌜ Answered (any (has-number (now (classes .entry)) (now (values .entry)) (item .token)) (item .base) (item .token)) (now (classes .entry)) (number-turns (now (values .entry))) (item .base) (item .token) (now (links .exit)) r ⌝ }
 {
-    let keys = chain.len() / 5;
     let base = item.base;
     let token = item.token;
-    let key = item.key;
-    let mut at = wide(chain[key]);
+    let magnitude = word_at(values, token + 2);
+    let mut at = lesser(token - base, 1);
+    let mut d = 0;
     while 0 < at {
         let j = at - 1;
         if has_number(classes, values, token, base + j) {
             return true;
         }
-        at = wide(chain[keys + j]);
+        let side = bit(magnitude, d);
+        let next = child(links, j, side);
+        if next == 0 {
+            hang(links, j, side, token - base);
+            return false;
+        }
+        at = next + 1;
+        d += 1;
     }
     false
 }
 
-// Whether a token is the label of an item whose number an earlier item has, or is outside the limits; else it is chained, if it is
-// a label.
+// Whether a token is the label of an item whose number an earlier item has, or is outside the limits; else it is put into the tree, if
+// it is a label.
 fn admit_number(
     classes: &[u8],
     values: &[u32],
     limits: Limits,
-    chain: &mut [u32],
+    links: &mut [u32],
     item: Entry,
 ) -> bool
-    requires chain { ⌜ Ready (number-keys (now classes) (now values) (item .base) (keys-of (now chain))) (item .base) (item .token) (now chain) ⌝ }
-    requires room { ⌜ keys-of (now chain) + (item .token - item .base) < length (now chain) ⌝ }
-    requires few { ⌜ item .token < 65536 ⌝ }
-    ensures answer { λ r. ⌜ r ≡ number-misfit (now (classes .entry)) (now (values .entry)) limits (item .base) (item .token) ⌝ }
-    ensures chain { λ r. ⌜ (r ≡ false → Ready (number-keys (now (classes .entry)) (now (values .entry)) (item .base) (keys-of (now (chain .exit)))) (item .base) (item .token + 1) (now (chain .exit))) ⌝ }
-    ensures as_long { λ _. ⌜ length (now (chain .exit)) ≡ length (now (chain .entry)) ⌝ }
+    requires tree { ⌜ Ready (now classes) (number-turns (now values)) (item .base) (item .token) (now links) ⌝ }
+    requires room { ⌜ (item .token - item .base < length (now links)) × (item .token < 65536) ⌝ }
+    ensures as_long { λ _. ⌜ length (now (links .exit)) ≡ length (now (links .entry)) ⌝ }
+    ensures answer { λ r. ⌜ Answered (number-misfit (now (classes .entry)) (now (values .entry)) limits (item .base) (item .token)) (now (classes .entry)) (number-turns (now (values .entry))) (item .base) (item .token) (now (links .exit)) r ⌝ }
 {
-    let base = item.base;
-    let token = item.token;
-    if is_lower(class_at(classes, token)) {
-        if is_outside(classes, values, limits, token + 2) {
+    if is_lower(class_at(classes, item.token)) {
+        if is_outside(classes, values, limits, item.token + 2) {
             return true;
         }
-        let key = wide(word_at(values, token + 2)) % (chain.len() / 5);
-        if is_number_held(classes, values, chain, Keyed { base, token, key }) {
-            return true;
-        }
-        insert(chain, key, token - base);
-        return false;
+        return place_number(classes, values, links, item);
     }
     false
 }
 
-// The first item whose number is there again or outside the limits, in a span that the lent chain has room for.
+// The first item whose number is there again or outside the limits, in a span that the lent words have room for.
 fn search_numbers(
     classes: &[u8],
     values: &[u32],
     limits: Limits,
     span: Span,
-    chain: &mut [u32],
+    links: &mut [u32],
 ) -> usize
     requires few { ⌜ span .to ≤ 65536 ⌝ }
-    requires chain { ⌜ Clear (span .from) (span .to) (now chain) ⌝ }
+    requires links { ⌜ Clear (span .from) (span .to) (now links) ⌝ }
     ensures { λ r. ⌜ r ≡ first (number-misfit (now (classes .entry)) (now (values .entry)) limits (span .from)) (span .from) (span .to) ⌝ }
 {
     let base = span.from;
     let to = span.to;
     let mut token = base;
     while token < to {
-        if admit_number(classes, values, limits, chain, Entry { base, token }) {
+        if admit_number(classes, values, limits, links, Entry { base, token }) {
             return token;
         }
         token += 1;
@@ -247,11 +232,11 @@ fn first_number_misfit(classes: &[u8], values: &[u32], limits: Limits, span: Spa
     ensures { λ r. ⌜ r ≡ first (number-misfit (now (classes .entry)) (now (values .entry)) limits (span .from)) (span .from) (span .to) ⌝ }
 {
     if less(span.to, span.from) <= SHORT_SPAN {
-        let mut chain = [0u32; SHORT_CHAIN];
-        return search_numbers(classes, values, limits, span, &mut chain);
+        let mut links = [0u32; SHORT_SPAN];
+        return search_numbers(classes, values, limits, span, &mut links);
     }
-    let mut chain = [0u32; LONG_CHAIN];
-    search_numbers(classes, values, limits, span, &mut chain)
+    let mut links = [0u32; LONG_SPAN];
+    search_numbers(classes, values, limits, span, &mut links)
 }
 
 // The first label with the spelling of the token at which the span ends; that token where there is none.

@@ -1,7 +1,6 @@
 // The enumerations of a syntax: refusal 18 on one of them.
 mod item;
 mod label;
-mod link;
 
 use definition::Span;
 pub use item::judge_items;

@@ -25,7 +25,7 @@ use Rattle.symbol.specs.Symbol.{iso-name, symbol-of}
 use Rattle.definition.specs.Landmark.{class-at, begins, last, definitions}
 use Rattle.module_table.specs.Lead.{word-of}
 use Rattle.module_table.specs.declared.Lead.the-variants.{Import}
-use Rattle.name_chain.proofs.Chain.{both}
+use Rattle.name_tree.proofs.Both.{both}
 use Rattle.scope.specs.Token.{classes-of, spelled, TokensHeld}
 use Rattle.scope.specs.Import.{imports-end, is-import, offered}
 use Rattle.scope.specs.Lead.{introduces, imports-name, is-imported, defines-name, leads-to}

@@ -1,14 +1,14 @@
--- Refusal 9: what the chain of names tells of a token decides whether it breaks the rule, and what it stands against.
+-- Refusal 9: what the trees of names tell of a token decides whether it breaks the rule, and what it stands against.
 -- Assumes nothing.
 use mathlib.Core.Path.{_≡_, refl, sym, _∙_}
 use mathlib.Core.Bool.{Bool, true, false, _&&_, _||_}
 use mathlib.Core.Logic.{inl, inr}
 use mathlib.Core.List.{List}
-use Prim.Native.Nat.{ℕ, zero, suc, _+_, _≤_, _<_}
+use Prim.Native.Nat.{ℕ, suc, _+_, _≤_, _<_}
 use native.Mathlib.Omega.{arith}
 use lib.ListN.{length, replicate}
 use Rattle.index.specs.First.{any}
-use Rattle.index.proofs.Search.{true-false, answers, first-from, first-passed, first-end, any-at, none-any}
+use Rattle.index.proofs.Search.{true-false, answers, first-from, first-passed, first-is, first-end, any-at, none-any}
 use Rattle.rule.specs.Rule.{judge-one}
 use Rattle.rule.specs.declared.Judgement.the-variants.{Kept, Broken}
 use Rattle.rule.proofs.Judged.{Judging, judging-start, judging-next, judging-broken, judging-kept}
@@ -16,12 +16,13 @@ use Rattle.lexicon.specs.Word.{same}
 use Rattle.lexicon.proofs.Words.{same-equal}
 use Rattle.token.specs.Token.{Meaning}
 use Rattle.symbol.specs.Symbol.{iso-name}
-use Rattle.name_chain.specs.Chain.{last-before, Chained, OneMore, Placed, NameChain, is-named, part-at}
-use Rattle.name_chain.specs.Key.{key-count, name-key}
-use Rattle.name_chain.proofs.Chain.{both, both-first, both-second, not-first, last-hit, last-miss, chained-none, chained-skip, last-holds, last-inside, last-passed, last-is-first}
+use Rattle.name_tree.specs.Tree.{NameTree, has-name-of, part-at, Admitted}
+use Rattle.name_tree.specs.Key.{key-count}
+use Rattle.name_tree.proofs.Both.{both, both-first, both-second, not-first}
+use Rattle.name_tree.proofs.Naming.{names-none, names-skip}
 use Rattle.scope.specs.Token.{classes-of, spelled, TokensHeld}
 use Rattle.token.specs.Cut.{meanings-in}
-use Rattle.scope.proofs.Tokens.{said-counted, placed, placed-name}
+use Rattle.scope.proofs.Tokens.{said-counted, placed-name}
 use Rattle.scope.proofs.Imports.{introduces-named}
 use Rattle.scope.specs.Lead.{introduces}
 use Rattle.naming.specs.Rules.{introduces-name, is-again, first-name, introduced-again}
@@ -49,9 +50,7 @@ module _ (ms : List Meaning) where
 
     pub new-kept : Introduces ms i New → is-again ms i ≡ false
     new-kept (other, none) =
-        let t = introduces-name ms (spelled ms i) in
-        let no : any t 0 i ≡ false = none-any t 0 i (omega arith) (λ j l h. last-passed t i j (omega (arith, none)) h) in
-        neither (introduces (classes-of ms) i) (same (spelled ms i) iso-name) (any t 0 i) other no
+        neither (introduces (classes-of ms) i) (same (spelled ms i) iso-name) (any (introduces-name ms (spelled ms i)) 0 i) other none
       where
         neither : (a b c : Bool) → b ≡ false → c ≡ false → (a && (b || c)) ≡ false
         neither true b c p q = rw (p, q)
@@ -60,9 +59,7 @@ module _ (ms : List Meaning) where
     module _ (own : introduces (classes-of ms) i ≡ true) (j : ℕ) where
       pub again-broken : Introduces ms i (Again j) → is-again ms i ≡ true
       again-broken (inl (iso, is)) = iso-again i own iso
-      again-broken (inr is) =
-          let t = introduces-name ms (spelled ms i) in
-          name-again i j own (omega (arith, is, last-inside t i)) (last-holds t i j is)
+      again-broken (inr (h, there)) = name-again i j own h there
 
       -- where no token before it breaks the rule, only one introduces the name
       pub again-other : ((k : ℕ) → k < i → is-again ms k ≡ false) → Introduces ms i (Again j) → j ≡ first-name ms i
@@ -73,17 +70,15 @@ module _ (ms : List Meaning) where
           two k h e =
               let name : spelled ms k ≡ spelled ms i = same-equal (spelled ms k) (spelled ms i) (both-second (introduces (classes-of ms) k) _ e) in
               true-false (iso-again k (both-first (introduces (classes-of ms) k) _ e) (rw name iso)) (kept k h)
-      again-other kept (inr is) =
+      again-other kept (inr (h, there)) =
           let t = introduces-name ms (spelled ms i) in
-          sym (last-is-first t i j is (λ k h. answers (t k) (λ e. absurd (two k h e)) (λ e. e)))
+          sym (first-is t 0 i j (omega arith) h there (λ k l m. answers (t k) (λ e. absurd (two k m e)) (λ e. e)))
         where
           two : (k : ℕ) → k < j → introduces-name ms (spelled ms i) k ≡ true → ⊥
-          two k h e =
-              let t = introduces-name ms (spelled ms i) in
-              let there = last-holds t i j is in
+          two k m e =
               let name : spelled ms j ≡ spelled ms i = same-equal (spelled ms j) (spelled ms i) (both-second (introduces (classes-of ms) j) _ there) in
               let earlier : introduces-name ms (spelled ms j) k ≡ true = rw name e in
-              true-false (name-again j k (both-first (introduces (classes-of ms) j) _ there) h earlier) (kept j (omega (arith, is, last-inside t i)))
+              true-false (name-again j k (both-first (introduces (classes-of ms) j) _ there) m earlier) (kept j h)
 
   -- ---- the loop that judges
 
@@ -107,16 +102,7 @@ module _ (ms : List Meaning) where
           judging-broken g h {test = true} (sym (again-broken i own j told)) refl _
           (rw (again-other i own j passed-kept told))
 
--- ---- the loop, by the slices of tokens and the chain of names
-
--- the same tests find the same last index
-last-same : (p q : ℕ → Bool) (k : ℕ) → ((j : ℕ) → j < k → p j ≡ q j) → last-before p k ≡ last-before q k
-unfolding last-before
-last-same p q zero e = refl
-last-same p q (suc k) e =
-    answers (p k)
-    (λ h. last-hit p k h ∙ sym (last-hit q k (sym (e k (omega arith)) ∙ h)))
-    (λ h. last-miss p k h ∙ last-same p q k (λ j l. e j (omega arith)) ∙ sym (last-miss q k (sym (e k (omega arith)) ∙ h)))
+-- ---- the loop, by the slices of tokens and the trees of names
 
 module _ (text starts ends : List ℕ) (t : TokensHeld text (classes-of (meanings-in text)) starts ends) where
   abbrev cs : List ℕ
@@ -129,67 +115,62 @@ module _ (text starts ends : List ℕ) (t : TokensHeld text (classes-of (meaning
     pub iso-told : (r : Bool) → r ≡ same (part-at text starts ends i) iso-name → r ≡ same (spelled (meanings-in text) i) iso-name
     iso-told r e = rw (name-there i h own) e
 
-    -- what the chain tells is said of the names that tokens introduce
-    pub last-told : (r : ℕ) → r ≡ last-before (λ j. introduces cs j && is-named text starts ends (part-at text starts ends i) j) i
-        → r ≡ last-before (introduces-name (meanings-in text) (spelled (meanings-in text) i)) i
-    last-told r e = e ∙ last-same _ _ i (λ j l. alike j l (introduces cs j) refl)
-      where
-        alike : (j : ℕ) → j < i → (b : Bool) → introduces cs j ≡ b
-            → (introduces cs j && is-named text starts ends (part-at text starts ends i) j) ≡ introduces-name (meanings-in text) (spelled (meanings-in text) i) j
-        alike j l true q = rw (name-there i h own, name-there j (omega arith) q)
-        alike j l false q = rw q
+    -- what the trees tell is said of the names that tokens introduce
+    alike : (j : ℕ) → j < i → (b : Bool) → introduces cs j ≡ b
+        → has-name-of (introduces cs) text starts ends i j ≡ introduces-name (meanings-in text) (spelled (meanings-in text) i) j
+    alike j l true q = rw (name-there i h own, name-there j (omega arith) q)
+    alike j l false q = rw q
 
-  -- the loop is at token i: the tokens before it keep the rule, and those that introduce names are chained
-  pub record Chaining (i : ℕ) (heads links : List ℕ) : Type 0 where
+    module _ (heads links : List ℕ) (r : ℕ) (a : Admitted (introduces cs) text starts ends i heads links r) where
+      pub told-new : r ≡ 0 → any (introduces-name (meanings-in text) (spelled (meanings-in text) i)) 0 i ≡ false
+      told-new is =
+          none-any (introduces-name (meanings-in text) (spelled (meanings-in text) i)) 0 i (omega arith)
+          (λ j m l. sym (alike j l (introduces cs j) refl) ∙ a .fresh is j l)
+
+      pub told-again : (j : ℕ) → r ≡ suc j → (j < i) × (introduces-name (meanings-in text) (spelled (meanings-in text) i) j ≡ true)
+      told-again j is = let there = a .again j is in (there .0, sym (alike j (there .0) (introduces cs j) refl) ∙ there .1)
+
+  -- the loop is at token i: the tokens before it keep the rule, and the names that they introduce are in trees
+  pub record Naming (i : ℕ) (heads links : List ℕ) : Type 0 where
     pub inside : i ≤ length cs
     pub long : length links ≡ length cs
     pub judging : Judging (introduced-again (meanings-in text)) (length cs) i
-    pub chained : Chained (introduces cs) (λ (j : ℕ). name-key (part-at text starts ends j)) i heads links
+    pub names : NameTree (introduces cs) text starts ends i heads links
 
-  pub chaining-start : (links : List ℕ) → length links ≡ length cs → Chaining 0 (replicate key-count 0) links
+  pub naming-start : (links : List ℕ) → length links ≡ length cs → Naming 0 (replicate key-count 0) links
   unfolding introduced-again
-  chaining-start links long = record {
+  naming-start links long = record {
     inside = omega arith;
     long = long;
     judging = judging-start (introduced-again (meanings-in text)) refl (said-counted text cs starts ends t);
-    chained = chained-none (introduces cs) (λ (j : ℕ). name-key (part-at text starts ends j)) links;
+    names = names-none text starts ends (introduces cs) links;
   }
 
-  module _ (i : ℕ) (heads links : List ℕ) (c : Chaining i heads links) where
-    pub names-chained : NameChain (introduces cs) text starts ends i heads links
-    names-chained = record {
-      chained = c .chained;
-      placed = λ j l e. placed text cs starts ends t j (omega (arith, c .inside));
-      room = omega (arith, c .inside, c .long);
-    }
-
+  module _ (i : ℕ) (heads links : List ℕ) (c : Naming i heads links) where
     module _ (h : i < length cs) where
-      pub name-placed : Placed text starts ends i
-      name-placed = placed text cs starts ends t i h
-
       -- a token that introduces no name is passed
-      pub chaining-skip : introduces cs i ≡ false → Chaining (i + 1) heads links
-      chaining-skip e = record {
+      pub naming-skip : introduces cs i ≡ false → Naming (i + 1) heads links
+      naming-skip e = record {
         inside = omega arith;
         long = c .long;
         judging = again-next (meanings-in text) (length cs) i (c .judging) h (skip-kept (meanings-in text) i e);
-        chained = chained-skip (introduces cs) (λ (j : ℕ). name-key (part-at text starts ends j)) i heads links (c .chained) e;
+        names = names-skip text starts ends (introduces cs) i heads links (c .names) (omega (arith, c .long)) e;
       }
 
       module _ (own : introduces cs i ≡ true) where
-        -- one whose name is new is chained
-        pub chaining-new : Introduces (meanings-in text) i New → (key : ℕ) → key ≡ name-key (part-at text starts ends i) → (heads′ links′ : List ℕ)
-            → length links′ ≡ length links → OneMore i key heads links heads′ links′ → Chaining (i + 1) heads′ links′
-        chaining-new told key is heads′ links′ long more = record {
+        -- the name of one that is new is put into the trees
+        pub naming-new : Introduces (meanings-in text) i New → (heads′ links′ : List ℕ) → length links′ ≡ length links
+            → NameTree (introduces cs) text starts ends (i + 1) heads′ links′ → Naming (i + 1) heads′ links′
+        naming-new told heads′ links′ long names = record {
           inside = omega arith;
           long = long ∙ c .long;
           judging = again-next (meanings-in text) (length cs) i (c .judging) h (new-kept (meanings-in text) i told);
-          chained = more (introduces cs) (λ (j : ℕ). name-key (part-at text starts ends j)) own (sym is) (c .chained);
+          names = names;
         }
 
-        pub chaining-again : (j : ℕ) → Introduces (meanings-in text) i (Again j)
+        pub naming-again : (j : ℕ) → Introduces (meanings-in text) i (Again j)
             → Broken (record { number = 9; clause = 0; token = record { 0 = i }; other = record { 0 = j } }) ≡ judge-one (introduced-again (meanings-in text))
-        chaining-again j told = again-judged (meanings-in text) (length cs) i (c .judging) h own j told
+        naming-again j told = again-judged (meanings-in text) (length cs) i (c .judging) h own j told
 
-    pub chaining-end : length cs ≤ i → Kept ≡ judge-one (introduced-again (meanings-in text))
-    chaining-end h = judging-kept (c .judging) h
+    pub naming-end : length cs ≤ i → Kept ≡ judge-one (introduced-again (meanings-in text))
+    naming-end h = judging-kept (c .judging) h

@@ -4,8 +4,9 @@ use mathlib.Core.Path.{_≡_}
 use mathlib.Core.Logic.{_⊎_}
 use mathlib.Core.Bool.{true, false, cond, not, _&&_}
 use mathlib.Core.List.{List}
-use Prim.Native.Nat.{ℕ, suc, _*_, _≤_, _<_}
+use Prim.Native.Nat.{ℕ, _*_, _≤_, _<_}
 use lib.ListN.{length, getD, take}
+use Rattle.index.specs.First.{any}
 use Rattle.rule.specs.declared.Finding.{Finding}
 use Rattle.rule.specs.declared.Judgement.{Judgement}
 use Rattle.lexicon.specs.Word.{same, is-name}
@@ -16,7 +17,6 @@ use Rattle.token.specs.Token.{Meaning}
 use Rattle.symbol.specs.Symbol.{iso-name}
 use Rattle.module_table.specs.Definition.{width, definitions-in}
 use Rattle.outline.specs.Outline.{outline}
-use Rattle.name_chain.specs.Chain.{last-before}
 use Rattle.scope.specs.Token.{classes-of, spelled}
 use Rattle.scope.specs.Import.{imports-end, is-import, offered}
 use Rattle.scope.specs.Held.{import-word}
@@ -29,12 +29,12 @@ use Rattle.naming.specs.declared.again.Introduced.the-variants.{New, Aga
 use Rattle.naming.specs.declared.offer.Offer.{Offer}
 use Rattle.naming.specs.declared.offer.Offer.the-variants.{Word, Missing}
 
--- how token i, which introduces a name, stands to those before it: the name is new; or it is `iso`, or the last before that introduces
--- it is told
+-- how token i, which introduces a name, stands to those before it: the name is new; or it is `iso`, or a token before it that
+-- introduces it is told
 abbrev pub Introduces : List Meaning → ℕ → Introduced → Type 0
-Introduces ms i New = (same (spelled ms i) iso-name ≡ false) × (last-before (introduces-name ms (spelled ms i)) i ≡ 0)
+Introduces ms i New = (same (spelled ms i) iso-name ≡ false) × (any (introduces-name ms (spelled ms i)) 0 i ≡ false)
 Introduces ms i (Again j) =
-    ((same (spelled ms i) iso-name ≡ true) × (j ≡ i)) ⊎ (last-before (introduces-name ms (spelled ms i)) i ≡ suc j)
+    ((same (spelled ms i) iso-name ≡ true) × (j ≡ i)) ⊎ ((j < i) × (introduces-name ms (spelled ms i) j ≡ true))
 
 -- token i of the imports: its value, or that its module doesn't offer it
 abbrev pub offer-at : List Meaning → ℕ → Offer

@@ -16,7 +16,7 @@ use Rattle.lexicon.specs.Word.{bytes, same, is-name}
 use Rattle.token.specs.Token.{Meaning, meaning, spelling-of, no-meaning}
 use Rattle.symbol.specs.Symbol.{symbol-of, symbol-count, symbol-names, symbols, symbol, of-smi, of-tc, module-name, modules}
 use Rattle.symbol.proofs.Symbols.{counted}
-use Rattle.name_chain.proofs.Chain.{both-first, both-second}
+use Rattle.name_tree.proofs.Both.{both-first, both-second}
 use Rattle.definition.specs.Landmark.{class-at, is-lower, is-defining, is-macro, before-object-identifier, begins}
 use Rattle.definition.specs.Fields.{find}
 use Rattle.scope.specs.Token.{classes-of, spelled}

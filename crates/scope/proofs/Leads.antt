@@ -21,9 +21,9 @@ use Rattle.module_table.specs.declared.Lead.the-variants.{Import, Definition, N
 use Rattle.module_table.proofs.Words.{word-read}
 use Rattle.outline.specs.Outline.{outline}
 use Rattle.outline.proofs.Outline.{outline-counted, outline-entry}
-use Rattle.name_chain.proofs.Chain.{both-first, both-second}
+use Rattle.name_tree.proofs.Both.{both-first, both-second}
 use Rattle.token.specs.Cut.{meanings-in}
-use Rattle.name_chain.specs.Chain.{Placed, part-at}
+use Rattle.name_tree.specs.Tree.{Placed, part-at}
 use Rattle.scope.specs.Token.{classes-of, spelled, TokensHeld}
 use Rattle.scope.specs.Import.{imports-end, is-import, offered}
 use Rattle.scope.specs.Lead.{imports-name, is-imported, is-offered, defines-name, defined-as, leads-to}

@@ -14,7 +14,7 @@ use Rattle.token.specs.Law.{Sound}
 use Rattle.token.specs.Table.{TokenTable}
 use Rattle.token.proofs.Laws.{rising, sound-at}
 use Rattle.token.proofs.Entries.{class-at, start-at, end-at}
-use Rattle.name_chain.specs.Chain.{Placed, part-at}
+use Rattle.name_tree.specs.Tree.{Placed, part-at}
 use Rattle.scope.specs.declared.Name.{Name}
 use Rattle.scope.specs.Token.{classes-of, spelled, TokensHeld, name-in}
 

@@ -8,7 +8,7 @@ ghost use Rattle.token.specs.Cut.{meanings-in};
 ghost use Rattle.module_table.specs.Definition.{definitions-in};
 ghost use Rattle.module_table.specs.Module.{most-definitions};
 ghost use Rattle.outline.specs.Outline.{outline};
-ghost use Rattle.name_chain.specs.Chain.{Placed, part-at};
+ghost use Rattle.name_tree.specs.Tree.{Placed, part-at};
 ghost use Rattle.scope.specs.Token.{classes-of, TokensHeld};
 ghost use Rattle.scope.specs.Tag.{name-words, name-tag, NamesHeld};
 use crate::Name;

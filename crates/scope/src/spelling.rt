@@ -3,7 +3,7 @@ ghost use mathlib.Core.Path.{_≡_};
 ghost use Prim.Native.Nat.{_<_};
 ghost use lib.ListN.{length};
 ghost use Rattle.lexicon.specs.Word.{between, Within};
-ghost use Rattle.name_chain.specs.Chain.{Placed, is-named};
+ghost use Rattle.name_tree.specs.Tree.{Placed, is-named};
 ghost use Rattle.scope.specs.Token.{name-in};
 use crate::Name;
 use index::TokenIndex;

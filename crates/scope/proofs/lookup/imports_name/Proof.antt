@@ -3,7 +3,7 @@
 use mathlib.Core.Path.{_≡_, sym, _∙_}
 use mathlib.Core.Bool.{true}
 use Rattle.token.specs.Cut.{meanings-in}
-use Rattle.name_chain.proofs.Chain.{not-first}
+use Rattle.name_tree.proofs.Both.{not-first}
 use Rattle.scope.specs.Token.{classes-of}
 use Rattle.scope.specs.Import.{is-import}
 use Rattle.scope.proofs.Leads.{no-import, some-import, import-placed, import-compared}
