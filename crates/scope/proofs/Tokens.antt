@@ -19,7 +19,7 @@ use Rattle.scope.specs.declared.Name.{Name}
 use Rattle.scope.specs.Token.{classes-of, spelled, TokensHeld, name-in}
 
 -- the classes of tokens are those of what they say
-map-said : (ts : List Tok) → map class-of-token ts ≡ classes-of (meanings ts)
+pub map-said : (ts : List Tok) → map class-of-token ts ≡ classes-of (meanings ts)
 map-said [] = refl
 map-said (t ∷ ts) = ap (λ (cs : List ℕ). class-of-token t ∷ cs) (map-said ts)
 

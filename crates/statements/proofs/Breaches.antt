@@ -1,14 +1,13 @@
 -- Which breaches a text has, by what it is: within the limits, one that does not cut and one that is not derived have one breach
 -- alone, and one that is derived has those of the rules. So each has its first, if it has any.
 -- Assumes nothing.
-use mathlib.Core.Path.{_≡_, refl, sym, ap, subst, _∙_}
+use mathlib.Core.Path.{_≡_, refl, sym, ap}
 use mathlib.Core.Logic.{_⊎_, inl, inr, ⊎-elim}
-use mathlib.Core.List.{List, [], _∷_}
+use mathlib.Core.List.{List}
 use Prim.Native.Nat.{ℕ, zero, suc, _≤_, _<_}
 use native.Mathlib.Decide.{decLt}
 use native.Mathlib.Omega.{arith}
 use lib.ListN.{length, length-map}
-use Rattle.rule.specs.Rule.{Rule}
 use Rattle.rule.proofs.Judged.{AllKept, FirstBroken}
 use Rattle.token.specs.Token.{Tok, Meaning}
 use Rattle.token.specs.Cut.{cut, refused, meanings-in}
@@ -18,7 +17,7 @@ use Rattle.rule.specs.declared.Finding.{Finding}
 use Rattle.reader.specs.Reading.{rules, start-of}
 use Rattle.reader.specs.Buffers.{record-words, number-words}
 use Rattle.statements.specs.Order.{ranks, is-among, ranks-before, rank}
-use Rattle.statements.proofs.Ordered.{NoLater, Placed, _listed-in_, BrokenIn}
+use Rattle.statements.proofs.Ordered.{NoLater, Placed, BrokenIn}
 use Rattle.statements.specs.Breach.{WithinLimits, Cuts, Derives, InBreach, short-buffer, long-text, not-cut, not-derived, in-module, FirstBreach}
 use Rattle.statements.proofs.ModuleBreaches.{row-of-rule, rule-of-row}
 use Rattle.statements.proofs.First.{first-found, kept-none, placed-listed, first-least}

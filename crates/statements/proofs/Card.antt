@@ -37,7 +37,6 @@ use Rattle.type_class.specs.Class as type-class-Class
 use Rattle.type_class.specs.Stage as type-class-Stage
 use Rattle.sub_type.specs.Range as sub-type-Range
 use Rattle.sub_type.specs.Refusal as sub-type-Refusal
-use Rattle.enumeration.specs.Chain as enumeration-Chain
 use Rattle.enumeration.specs.Item as enumeration-Item
 use Rattle.enumeration.specs.Refusal as enumeration-Refusal
 use Rattle.syntax_check.specs.Refusal as syntax-check-Refusal
@@ -65,9 +64,9 @@ unfolding card-tokens tok meaning spelling-of value-of
     rule-Rule.judge-one rule-Rule.judge rule-Rule.each-of rule-Rule.each index-First.first-of index-First.first index-First.any index-First.all
     index-First.hits-of index-First.hits index-Walk.after symbol-Symbol.modules symbol-Symbol.iso-name symbol-Symbol.iso-oid symbol-Symbol.of-smi symbol-Symbol.of-tc
     symbol-Symbol.internet symbol-Symbol.below-internet symbol-Symbol.symbols symbol-Symbol.symbol-names symbol-Symbol.symbol-of symbol-Symbol.no-symbol symbol-Symbol.symbol symbol-Symbol.module-name
-    symbol-Symbol.what-is symbol-Symbol.numbers symbol-Symbol.numbers-of symbol-Symbol.sort-of symbol-Symbol.type-class symbol-Symbol.is-smi-type symbol-Symbol.start-in definition-Fields.braced-after
-    definition-Fields.word-after definition-Fields.syntax-span definition-Fields.columns-span definition-Fields.oid-span definition-Fields.fields-of definition-Fields.fields-at definition-Fields.restriction-at definition-Fields.syntax-at
-    definition-Landmark.is-defining definition-Landmark.is-macro definition-Landmark.before-object-identifier definition-Landmark.begins definition-Landmark.definitions definition-Landmark.definition-end definition-Landmark.kind-at definition-Landmark.macro-word
+    symbol-Symbol.what-is symbol-Symbol.numbers symbol-Symbol.numbers-of symbol-Symbol.sort-of symbol-Symbol.type-class symbol-Symbol.is-smi-type symbol-Symbol.start-in definition-Fields.braced-at
+    definition-Fields.word-at definition-Fields.syntax-behind definition-Fields.columns-span definition-Fields.oid-span definition-Fields.fields-of definition-Fields.fields-at definition-Fields.restriction-at definition-Fields.syntax-at
+    definition-Landmark.is-defining definition-Landmark.is-macro definition-Landmark.before-object-identifier definition-Landmark.begins definition-Landmark.closes definition-Landmark.definitions definition-Landmark.definition-end definition-Landmark.kind-at definition-Landmark.macro-word
     definition-Landmark.has-oid definition-Members.names-in definition-Members.is-implied definition-Members.oid-numbers module-table-Definition.words module-table-Definition.absent module-table-Definition.definitions-from module-table-Definition.definitions-in
     module-table-Definition.changed-from module-table-Lead.lead-in outline-Outline.outline scope-Import.imports-end scope-Import.can-be-imported scope-Import.is-symbol scope-Import.is-import scope-Import.source
     scope-Import.offered scope-Lead.introduces scope-Lead.leads-to name-kind-Need.enclosing name-kind-Need.upper-need name-kind-Need.lists-objects name-kind-Need.lower-need name-kind-Need.need-at
@@ -75,7 +74,7 @@ unfolding card-tokens tok meaning spelling-of value-of
     oid-number-Number.number-tokens oid-number-Number.parts-in oid-head-Oid.reaches oid-head-Oid.definition-numbers oid-head-Oid.resolved-oid oid-head-Oid.numbers-before oid-head-Unreached.unreached oid-tree-Refusal.too-long
     oid-tree-Refusal.past-room oid-tree-Refusal.counts-before oid-tree-Refusal.long-by-count oid-tree-Refusal.room-by-count oid-tree-Stage.with-oid oid-tree-Stage.with-oids oid-run-Run.is-below oid-holder-Holder.held-twice
     type-class-Class.syntax-in type-class-Class.convention-class type-class-Class.object-class type-class-Class.sequence-number type-class-Stage.convention-classed type-class-Stage.object-classed sub-type-Range.starts-range sub-type-Range.is-backward
-    sub-type-Range.is-overlapping sub-type-Range.order-clause sub-type-Range.exceeds sub-type-Range.limit-clause sub-type-Refusal.range-rule enumeration-Chain.byte-sum enumeration-Item.item-clause enumeration-Item.label-again
+    sub-type-Range.is-overlapping sub-type-Range.order-clause sub-type-Range.exceeds sub-type-Range.limit-clause sub-type-Refusal.range-rule enumeration-Item.item-clause enumeration-Item.label-again
     enumeration-Item.number-misfit enumeration-Refusal.item-rule syntax-check-Refusal.is-untested syntax-check-Refusal.range-test syntax-check-Refusal.items-of syntax-check-Refusal.rules-over object-tree-Tree.is-parent object-tree-Tree.parents-added
     sequence-list-Named.named-at sequence-list-Named.lists sequence-list-Named.is-repeated sequence-list-Named.repeats sequence-list-Named.is-stranger sequence-list-Named.names-stranger clause-table-Clause.is-of clause-table-Clause.is-first-under
     clause-table-Clause.rowless-table clause-table-Clause.is-row-in clause-table-Clause.stray-row clause-table-Clause.repeating-row clause-table-Clause.misnaming-row clause-table-Clause.unlisted-column clause-table-Clause.unfounded-augments table-check-Refusal.clause-of
@@ -92,9 +91,9 @@ unfolding card-tokens tok meaning spelling-of value-of
     rule-Rule.judge-one rule-Rule.judge rule-Rule.each-of rule-Rule.each index-First.first-of index-First.first index-First.any index-First.all
     index-First.hits-of index-First.hits index-Walk.after symbol-Symbol.modules symbol-Symbol.iso-name symbol-Symbol.iso-oid symbol-Symbol.of-smi symbol-Symbol.of-tc
     symbol-Symbol.internet symbol-Symbol.below-internet symbol-Symbol.symbols symbol-Symbol.symbol-names symbol-Symbol.symbol-of symbol-Symbol.no-symbol symbol-Symbol.symbol symbol-Symbol.module-name
-    symbol-Symbol.what-is symbol-Symbol.numbers symbol-Symbol.numbers-of symbol-Symbol.sort-of symbol-Symbol.type-class symbol-Symbol.is-smi-type symbol-Symbol.start-in definition-Fields.braced-after
-    definition-Fields.word-after definition-Fields.syntax-span definition-Fields.columns-span definition-Fields.oid-span definition-Fields.fields-of definition-Fields.fields-at definition-Fields.restriction-at definition-Fields.syntax-at
-    definition-Landmark.is-defining definition-Landmark.is-macro definition-Landmark.before-object-identifier definition-Landmark.begins definition-Landmark.definitions definition-Landmark.definition-end definition-Landmark.kind-at definition-Landmark.macro-word
+    symbol-Symbol.what-is symbol-Symbol.numbers symbol-Symbol.numbers-of symbol-Symbol.sort-of symbol-Symbol.type-class symbol-Symbol.is-smi-type symbol-Symbol.start-in definition-Fields.braced-at
+    definition-Fields.word-at definition-Fields.syntax-behind definition-Fields.columns-span definition-Fields.oid-span definition-Fields.fields-of definition-Fields.fields-at definition-Fields.restriction-at definition-Fields.syntax-at
+    definition-Landmark.is-defining definition-Landmark.is-macro definition-Landmark.before-object-identifier definition-Landmark.begins definition-Landmark.closes definition-Landmark.definitions definition-Landmark.definition-end definition-Landmark.kind-at definition-Landmark.macro-word
     definition-Landmark.has-oid definition-Members.names-in definition-Members.is-implied definition-Members.oid-numbers module-table-Definition.words module-table-Definition.absent module-table-Definition.definitions-from module-table-Definition.definitions-in
     module-table-Definition.changed-from module-table-Lead.lead-in outline-Outline.outline scope-Import.imports-end scope-Import.can-be-imported scope-Import.is-symbol scope-Import.is-import scope-Import.source
     scope-Import.offered scope-Lead.introduces scope-Lead.leads-to name-kind-Need.enclosing name-kind-Need.upper-need name-kind-Need.lists-objects name-kind-Need.lower-need name-kind-Need.need-at
@@ -102,7 +101,7 @@ unfolding card-tokens tok meaning spelling-of value-of
     oid-number-Number.number-tokens oid-number-Number.parts-in oid-head-Oid.reaches oid-head-Oid.definition-numbers oid-head-Oid.resolved-oid oid-head-Oid.numbers-before oid-head-Unreached.unreached oid-tree-Refusal.too-long
     oid-tree-Refusal.past-room oid-tree-Refusal.counts-before oid-tree-Refusal.long-by-count oid-tree-Refusal.room-by-count oid-tree-Stage.with-oid oid-tree-Stage.with-oids oid-run-Run.is-below oid-holder-Holder.held-twice
     type-class-Class.syntax-in type-class-Class.convention-class type-class-Class.object-class type-class-Class.sequence-number type-class-Stage.convention-classed type-class-Stage.object-classed sub-type-Range.starts-range sub-type-Range.is-backward
-    sub-type-Range.is-overlapping sub-type-Range.order-clause sub-type-Range.exceeds sub-type-Range.limit-clause sub-type-Refusal.range-rule enumeration-Chain.byte-sum enumeration-Item.item-clause enumeration-Item.label-again
+    sub-type-Range.is-overlapping sub-type-Range.order-clause sub-type-Range.exceeds sub-type-Range.limit-clause sub-type-Refusal.range-rule enumeration-Item.item-clause enumeration-Item.label-again
     enumeration-Item.number-misfit enumeration-Refusal.item-rule syntax-check-Refusal.is-untested syntax-check-Refusal.range-test syntax-check-Refusal.items-of syntax-check-Refusal.rules-over object-tree-Tree.is-parent object-tree-Tree.parents-added
     sequence-list-Named.named-at sequence-list-Named.lists sequence-list-Named.is-repeated sequence-list-Named.repeats sequence-list-Named.is-stranger sequence-list-Named.names-stranger clause-table-Clause.is-of clause-table-Clause.is-first-under
     clause-table-Clause.rowless-table clause-table-Clause.is-row-in clause-table-Clause.stray-row clause-table-Clause.repeating-row clause-table-Clause.misnaming-row clause-table-Clause.unlisted-column clause-table-Clause.unfounded-augments table-check-Refusal.clause-of

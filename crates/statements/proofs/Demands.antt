@@ -173,7 +173,7 @@ module _ (text : List ℕ) (order : Ordered (meanings-in text)) (placed : Placed
         → take (record-word records′ k 4) (drop (record-word records′ k 3) numbers′) ≡ resolved-oid (named (meanings-in text)) k
     cut-of k h =
         ap₂ (λ (r n : List ℕ). take (record-word r k 4) (drop (record-word r k 3) n)) records-are numbers-are
-        ∙ words-cut (meanings-in text) (starts-of (cut text .tokens)) (ends-of (cut text .tokens)) records numbers rules-kept k (omega (arith, module-counted (meanings-in text))) h
+        ∙ words-cut (meanings-in text) (starts-of (cut text .tokens)) (ends-of (cut text .tokens)) records numbers k h
 
   pub second-demand : SecondDemand text answer records records′ numbers numbers′
   second-demand = record {

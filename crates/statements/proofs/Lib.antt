@@ -33,4 +33,5 @@ pub mod Breaches
 pub mod RangesRising
 pub mod Parents
 pub mod Searching
+pub mod Derived
 pub mod Statements

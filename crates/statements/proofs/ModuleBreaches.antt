@@ -1,15 +1,13 @@
 -- The rows from 8 on are the rules of the reader: a rule of the list is broken at a token exactly where its row says so.
 -- Assumes nothing.
-use mathlib.Core.Path.{_≡_, refl, sym, ap, subst, _∙_}
-use mathlib.Core.Logic.{_⊎_, inl, inr}
-use mathlib.Core.Bool.{true}
+use mathlib.Core.Path.{_≡_, refl, sym, subst}
+use mathlib.Core.Logic.{inl, inr}
 use mathlib.Core.List.{List, [], _∷_, _++_}
 use Prim.Native.Nat.{ℕ, zero, suc, _+_, _-_, _≤_, _<_}
 use native.Mathlib.Omega.{arith}
 use lib.ListN.{length}
 use Rattle.rule.specs.Rule.{Rule, each, each-of}
 use Rattle.token.specs.Token.{Meaning}
-use Rattle.module_table.specs.declared.Definition.{Definition}
 use Rattle.module_table.specs.Module.{Module, most-definitions}
 use Rattle.scope.specs.Token.{spelled}
 use Rattle.naming.specs.Rules.{too-many, introduced-again, not-offered, unknown-name, name-rules}
@@ -21,13 +19,12 @@ use Rattle.syntax_check.specs.Refusal.{demand-number, range-rule-of, item-rule-
 use Rattle.syntax_check.specs.declared.Demand.{Demand}
 use Rattle.syntax_check.specs.declared.Demand.the-variants.{Order, Limits}
 use Rattle.syntax_check.proofs.Places.{range-rule-inside, item-rule-inside}
-use Rattle.object_tree.specs.Words.{is-notification}
 use Rattle.table_check.specs.Refusal.{table-broken}
 use Rattle.access_check.specs.Access.{access-broken}
 use Rattle.access_check.specs.Notification.{notification-broken}
 use Rattle.reader.specs.Reading.{numbered, classed, module-of, oid-rules, object-rules, later-rules, rules}
-use Rattle.statements.specs.Breach.{definition-count, name-token, ModuleBreach, definition-513, iso-introduced, introduced-twice, unoffered, unknown, unreached, long-oid, many-numbers, held-twice, unordered, misfit, misnumbered, indirect, table-rules, access-rules, notification-rules}
-use Rattle.statements.proofs.Ordered.{Broken, BrokenBy, _listed-in_, BrokenIn, broken-in, listed-before, listed-after, listed-each}
+use Rattle.statements.specs.Breach.{definition-count, ModuleBreach, definition-513, iso-introduced, introduced-twice, unoffered, unknown, unreached, long-oid, many-numbers, held-twice, unordered, misfit, misnumbered, indirect, table-rules, access-rules, notification-rules}
+use Rattle.statements.proofs.Ordered.{Broken, _listed-in_, BrokenIn, broken-in, listed-before, listed-after, listed-each}
 use Rattle.statements.proofs.Rising.{classed-keeps, module-keeps}
 use Rattle.statements.proofs.NameBreaches.{many-told, many-broken, again-told, iso-broken, twice-broken, offer-told, offer-broken, use-told, use-broken}
 use Rattle.statements.proofs.OidBreaches.{all-there, definition-broken, definition-told, unreached-told, unreached-broken, long-told, long-broken, room-told, room-broken, held-told, held-broken}

@@ -1,22 +1,21 @@
 -- What the parent of a definition is, where no OID is held twice: the object whose OID is its own less the last number.
 -- Assumes nothing.
-use mathlib.Core.Path.{_≡_, refl, sym, ap, subst, _∙_}
+use mathlib.Core.Path.{_≡_, refl, sym, ap, _∙_}
 use mathlib.Core.Logic.{_↔_}
-use mathlib.Core.Bool.{Bool, true, false}
+use mathlib.Core.Bool.{Bool, true}
 use mathlib.Core.List.{List, [], _∷_, _++_}
-use Prim.Native.Nat.{ℕ, zero, suc, _+_, _-_, _≤_, _<_}
+use Prim.Native.Nat.{ℕ, zero, suc, _+_, _-_, _<_}
 use native.Mathlib.Decide.{decLt}
 use native.Mathlib.Omega.{arith}
 use lib.Dec.{eqb}
 use lib.ListN.{length, getD, take, length-append}
 use lib.Seq.{take-at, getD-append-add}
-use Rattle.lexicon.specs.Word.{same}
 use Rattle.lexicon.proofs.Words.{same-equal}
 use Rattle.index.proofs.Search.{true-false}
 use Rattle.chain.specs.Chain.{last-before}
 use Rattle.chain.proofs.Chain.{last-inside, last-holds, last-passed}
 use Rattle.token.specs.Token.{Meaning}
-use Rattle.definition.specs.Landmark.{identity, object-identity, object, notification}
+use Rattle.definition.specs.Landmark.{identity, object-identity}
 use Rattle.module_table.specs.declared.Definition.{Definition}
 use Rattle.module_table.specs.Definition.{entry}
 use Rattle.module_table.specs.Module.{Module, at, oid-in, oid-of}

@@ -1,15 +1,14 @@
 -- Ranges that stand as the grammar has them keep rule 16 exactly where they rise: each pair's low is below its high, and of any two
 -- ranges the later lies above the earlier.
 -- Assumes nothing.
-use mathlib.Core.Path.{_≡_, refl, sym, ap, subst, _∙_}
+use mathlib.Core.Path.{_≡_, refl, sym, ap, _∙_}
 use mathlib.Core.Logic.{_↔_, _⊎_, inl, inr, ⊎-elim}
-use mathlib.Core.Bool.{Bool, true, false, not, _&&_}
+use mathlib.Core.Bool.{true, false}
 use mathlib.Core.List.{List}
-use Prim.Native.Nat.{ℕ, zero, suc, _+_, _-_, _≤_, _<_}
+use Prim.Native.Nat.{ℕ, _+_, _-_, _≤_, _<_}
 use native.Mathlib.Decide.{decLt}
 use native.Mathlib.Omega.{arith}
-use borrow.Author.Tests.{ltb-true, lt-ltb, eqb-true, eqb-false, eq-eqb, ne-eqb}
-use lib.Dec.{eqb}
+use borrow.Author.Tests.{ltb-true, lt-ltb, eqb-false, eq-eqb, ne-eqb}
 use lib.IntN.{ℤ, pos, negsuc}
 use lib.Signed.{ltZ}
 use Rattle.index.proofs.Search.{true-false, answers}
@@ -20,7 +19,7 @@ use Rattle.sub_type.specs.Number.{number-at}
 use Rattle.sub_type.specs.Range.{is-number, starts-range, is-pair, high-token}
 use Rattle.statements.specs.Breach.{Unordered, backward, overlapping}
 use Rattle.statements.specs.Searches.{RangeStands, alone, pair, RangesStand, final, parted, Rising}
-use Rattle.statements.proofs.Tests.{both, joined, denied, deny, fails, never}
+use Rattle.statements.proofs.Tests.{both, joined, denied, deny}
 
 -- one number is below another, and that below a third
 less-less : (x y z : ℤ) → ltZ x y ≡ true → ltZ y z ≡ true → ltZ x z ≡ true

@@ -8,8 +8,8 @@ use Prim.Native.Nat.{ℕ, _≤_, _<_}
 use native.Mathlib.Decide.{decLt}
 use native.Mathlib.Omega.{arith}
 use lib.Dec.{ltb}
-use lib.ListN.{length, getD, length-map, List·getD-eq-default}
-use borrow.Author.Tests.{eqb-true, ltb-true, lt-ltb}
+use lib.ListN.{length, length-map, List·getD-eq-default}
+use borrow.Author.Tests.{ltb-true}
 use Rattle.index.specs.First.{any}
 use Rattle.index.proofs.Search.{true-false, answers, any-at, first-holds}
 use Rattle.index.proofs.Hits.{hit-holds, hit-inside, hits-rise}
@@ -27,15 +27,14 @@ use Rattle.scope.specs.Held.{AllOffered}
 use Rattle.scope.proofs.Leads.{import-offered}
 use Rattle.scope.specs.Lead.{introduces, imports-name, is-imported, is-offered, defines-name, defined-as, leads-to}
 use Rattle.scope.proofs.Imports.{end-inside, import-before}
-use Rattle.oid_head.specs.Oid.{HasOid, of-symbol, has-value, name-of, symbol-has-oid, Reaches}
-use Rattle.oid_head.specs.Unreached.{unreached}
+use Rattle.oid_head.specs.Oid.{HasOid, of-symbol}
 use Rattle.oid_head.proofs.Meaning.{oid-reaches, reaches-oid}
 use Rattle.oid_head.proofs.Unreached.{broken-never, never-broken}
 use Rattle.clause_table.specs.Clause.{has-one-row}
 use Rattle.clause_table.proofs.OneRow.{exactly-one, one-is-all}
 use Rattle.statements.specs.Breach.{definition-count, name-token, Offers, OneRow, ModuleBreach, iso-introduced, introduced-twice, unoffered}
 use Rattle.statements.specs.Searches.{Imported, Named, LeadsPlainly, Searches}
-use Rattle.statements.proofs.Tests.{both, joined, left, right, fails, never, found}
+use Rattle.statements.proofs.Tests.{both, joined, left, right, never, found}
 use Rattle.statements.proofs.NameBreaches.{spelled-same, offers-is, is-offers}
 use Rattle.statements.proofs.RangesRising.{rising-exactly}
 use Rattle.statements.proofs.Parents.{parents}

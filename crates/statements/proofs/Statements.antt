@@ -12,6 +12,7 @@ use Rattle.statements.proofs.Breaches.{Ordered}
 use Rattle.statements.proofs.Rising.{rules-in-order, rules-placed}
 use Rattle.statements.proofs.Demands.{first-demand, second-demand}
 use Rattle.statements.proofs.Third.{third-demand}
+use Rattle.statements.proofs.Derived.{of-derivation}
 use Rattle.statements.proofs.Alike.{quotes-alike, read-once}
 use Rattle.statements.proofs.Printing.{prints, printed-alike, octets-bound}
 use Rattle.statements.proofs.Rows.{state-kept, same-answer}
@@ -30,6 +31,7 @@ statements = record {
   second-demand = λ text. second-demand text (order text) (rules-placed (meanings-in text));
   quotes = quotes-alike answer-to;
   third-demand = λ text. third-demand text (order text);
+  of-derivation = of-derivation;
   read-settled = read-once answer-to;
   examine-settled = read-once examined-to;
   octets = λ hint value answer before after a. prints _ _ before answer after a;

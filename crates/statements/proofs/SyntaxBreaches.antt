@@ -1,18 +1,15 @@
 -- The rows 16 to 19 are the rules on syntaxes.
 -- Assumes nothing.
-use mathlib.Core.Path.{_≡_, refl, sym, ap, subst, _∙_}
+use mathlib.Core.Path.{_≡_, refl, ap}
 use mathlib.Core.Logic.{_⊎_, inl, inr, ⊎-elim}
 use mathlib.Core.Bool.{Bool, true, false, cond, not, _&&_, _||_}
 use mathlib.Core.List.{List}
-use Prim.Native.Nat.{ℕ, _+_, _-_, _≤_, _<_}
+use Prim.Native.Nat.{ℕ, _-_, _<_}
 use native.Mathlib.Omega.{arith}
 use lib.Dec.{eqb, ltb}
-use lib.Signed.{ltZ}
-use lib.ListN.{length}
 use borrow.Author.Tests.{eqb-true, eq-eqb}
-use Rattle.index.specs.First.{first, any}
-use Rattle.index.proofs.Search.{true-false, answers, any-at}
-use Rattle.lexicon.specs.Word.{same}
+use Rattle.index.specs.First.{any}
+use Rattle.index.proofs.Search.{any-at}
 use Rattle.lexicon.proofs.Words.{same-equal}
 use Rattle.rule.specs.Rule.{Rule}
 use Rattle.terminal.specs.Terminal.{bar}
@@ -28,12 +25,12 @@ use Rattle.module_table.specs.declared.Definition.{Definition}
 use Rattle.module_table.specs.Module.{Module, at}
 use Rattle.scope.specs.Token.{spelled}
 use Rattle.type_class.specs.Class.{has-syntax, is-named, is-smi-lead, lead-of}
-use Rattle.sub_type.specs.Number.{number-at, same-number, is-outside, range-limits, size-limits, end-in}
-use Rattle.sub_type.specs.Range.{starts-range, is-pair, high-token, is-backward, is-overlapping, order-clause, exceeds, limit-kind, limit-clause}
+use Rattle.sub_type.specs.Number.{number-at, is-outside, range-limits, size-limits}
+use Rattle.sub_type.specs.Range.{starts-range, is-pair, is-backward, is-overlapping, order-clause, exceeds, limit-kind, limit-clause}
 use Rattle.sub_type.specs.Refusal.{range-rule}
 use Rattle.sub_type.specs.declared.Limits.{Limits}
 use Rattle.sub_type.specs.declared.Limits.the-variants as limits
-use Rattle.enumeration.specs.Item.{item-number, has-label, has-number, first-alike, item-clause}
+use Rattle.enumeration.specs.Item.{item-number, has-label, has-number, item-clause}
 use Rattle.enumeration.specs.Refusal.{item-rule}
 use Rattle.syntax_check.specs.Refusal.{restriction-of, order-test, limit-test, enumeration-test, item-test, is-untested, range-test, items-of, range-test-rule, item-test-rule, range-rule-of, item-rule-of, indirect-convention}
 use Rattle.syntax_check.specs.declared.Demand.the-variants as demand

@@ -1,20 +1,20 @@
 -- The rows 20 to 22 are the rules on tables, access and notifications.
 -- Assumes nothing.
-use mathlib.Core.Path.{_≡_, refl, sym, ap, _∙_}
+use mathlib.Core.Path.{_≡_}
 use mathlib.Core.Logic.{_⊎_, inl, inr, ⊎-elim}
-use mathlib.Core.Bool.{Bool, true, false, not, _&&_, _||_}
+use mathlib.Core.Bool.{Bool, true, false, not, _||_}
 use mathlib.Core.List.{List}
 use Prim.Native.Nat.{ℕ, _+_, _-_, _≤_, _<_}
 use native.Mathlib.Omega.{arith}
 use lib.Dec.{eqb, ltb}
 use lib.ListN.{length, getD}
 use borrow.Author.Tests.{eqb-true, eqb-false, eq-eqb, ne-eqb, ltb-true, lt-ltb}
-use Rattle.index.proofs.Search.{true-false, any-at}
+use Rattle.index.proofs.Search.{any-at}
 use Rattle.module_table.specs.declared.Definition.{Definition}
 use Rattle.module_table.specs.Module.{Module, at, oid-of}
 use Rattle.object_tree.specs.Words.{row, counter32, counter64, not-accessible, accessible-for-notify, read-only, read-write, read-create, is-object, is-notification, is-table, is-row, is-given, is-indexed, numbered, number-at}
-use Rattle.sequence_list.specs.Named.{type-of, columns-of, named-at, names-object, names, lists, is-repeated, repeats, is-stranger, names-stranger}
-use Rattle.clause_table.specs.Clause.{is-of, rows-of, has-one-row, ends-in-one, is-first-under, has-its-row, rowless-table, is-row-in, stray-row, unindexed-row, indexed-object, repeating-row, misnaming-row, unlisted-column, is-index-row, unfounded-augments}
+use Rattle.sequence_list.specs.Named.{type-of, columns-of, names-object, names, lists, is-repeated, repeats, is-stranger, names-stranger}
+use Rattle.clause_table.specs.Clause.{is-of, rows-of, is-first-under, has-its-row, rowless-table, is-row-in, stray-row, unindexed-row, indexed-object, repeating-row, misnaming-row, unlisted-column, is-index-row, unfounded-augments}
 use Rattle.clause_table.proofs.OneRow.{exactly-one, one-is-all}
 use Rattle.table_check.specs.Refusal.{clause-of}
 use Rattle.access_check.specs.Access.{has-access, creates, is-written-column, clashes, open-table, created-alone, is-counter, is-counter-access, unfit-counter, access-clause}

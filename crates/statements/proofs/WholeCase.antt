@@ -1,16 +1,15 @@
 -- The whole case of "The shelf card" is accepted, with its count, its records and its sub-identifiers.
 -- Assumes nothing.
-use mathlib.Core.Path.{_≡_, refl, sym, ap, _∙_}
-use mathlib.Core.List.{List, _++_, map}
-use Prim.Native.Nat.{ℕ, _≤_}
+use mathlib.Core.Path.{_≡_, ap, _∙_}
+use mathlib.Core.List.{_++_, map}
+use Prim.Native.Nat.{_≤_}
 use native.Mathlib.Omega.{arith}
 use lib.ListN.{length}
 use Rattle.rule.specs.Rule.{judge}
-use Rattle.rule.specs.declared.Judgement.{Judgement}
-use Rattle.token.specs.Token.{Tok, class-of-token, meanings}
-use Rattle.token.specs.Cut.{Cut, whole, cut}
+use Rattle.token.specs.Token.{class-of-token, meanings}
+use Rattle.token.specs.Cut.{Cut, cut}
 use Rattle.token.specs.Table.{longest-text}
-use Rattle.grammar.specs.Answer.{Verdict, derived}
+use Rattle.grammar.specs.Answer.{derived}
 use Rattle.grammar.specs.Automaton.{run}
 use Rattle.grammar.specs.Table.{module-automaton}
 use Rattle.grammar.proofs.Derivation.{one-token-verdict}
@@ -20,9 +19,7 @@ use Rattle.syntax.specs.declared.Answer.the-variants.{Derived}
 use Rattle.syntax.proofs.Parsed.{run-judges}
 use Rattle.lexicon.specs.Word.{bytes}
 use Rattle.reader.specs.Reading.{Outcome, accepted, rules, judged, outcome}
-use Rattle.reader.specs.Buffers.{record-words, number-words, answer-to, records-in, numbers-in, filled, Reads}
-use Rattle.reader.specs.declared.Answer.{Answer}
-use Rattle.reader.specs.declared.Answer.the-variants.{Accepted}
+use Rattle.reader.specs.Buffers.{record-words, number-words, answer-to, records-in, numbers-in, filled}
 use Rattle.statements.specs.Card.{card-text, record-of-t, record-of-a, card-numbers}
 use Rattle.statements.specs.Statements.{WholeCase}
 use Rattle.statements.proofs.CardTokens.{card-tokens, card-cut}

@@ -11,7 +11,6 @@ use mathlib.Core.List.{List, []}
 use Prim.Native.Nat.{ℕ, suc, _+_, _-_, _≤_, _<_}
 use lib.ListN.{length, getD}
 use lib.Signed.{ltZ}
-use Rattle.lexicon.specs.Word.{same}
 use Rattle.token.specs.Token.{Meaning, class-of-token}
 use Rattle.token.specs.Cut.{cut, whole, refused, meanings-in}
 use Rattle.token.specs.Table.{longest-text}

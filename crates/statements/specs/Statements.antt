@@ -20,11 +20,13 @@ use Rattle.token.specs.Token.{class-of-token, tok}
 use Rattle.token.specs.Cut.{cut, whole, refused, meanings-in}
 use Rattle.token.specs.Law.{QuotedChange}
 use Rattle.grammar.specs.Grammar.{smi-module}
-use Rattle.grammar.specs.Derivation.{Derivation, tokens-of}
+use Rattle.grammar.specs.Derivation.{Derivation, tokens-of, tree-of}
 use Rattle.syntax.specs.Parsing.{Fault}
 use Rattle.module_table.specs.Module.{Module, at, oid-of}
 use Rattle.module_table.specs.Module.{count-of as definitions-in}
 use Rattle.module_table.specs.declared.Lead.the-variants.{Definition}
+use Rattle.scope.specs.Token.{classes-of}
+use Rattle.module_tree.specs.OfTree.{OfTree}
 use Rattle.naming.specs.Values.{named}
 use Rattle.oid_head.specs.Oid.{HasOid, has-value}
 use Rattle.records.specs.Record.{record-width}
@@ -199,6 +201,10 @@ pub record Statements : Type 0 where
   pub third-demand : OfEveryRead
       (λ text answer records records′ numbers numbers′.
       WithinLimits text (length records) (length numbers) → Cuts text → ThirdDemand text answer)
+  -- the module that the rules are stated over is that of the text's derivation: its definitions with their kinds and fields are those of
+  -- the identity and of the defs, its imports those of the groups, and each name that is used stands where the grammar has one of that sort
+  pub of-derivation : (text : List ℕ) (d : Derivation class-of-token smi-module) → tokens-of class-of-token smi-module d ≡ cut text .tokens
+      → OfTree (classes-of (meanings-in text)) (tree-of class-of-token smi-module d)
   -- the contracts leave nothing open: number, place, count and each lent word are settled; of reader::examine, clause and other place too
   pub read-settled : (text : List ℕ) → ReadAlike text text
   pub examine-settled : (text : List ℕ) → ExaminedAlike text text
