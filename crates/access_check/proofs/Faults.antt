@@ -19,7 +19,8 @@ use Rattle.module_table.specs.Definition.{entry}
 use Rattle.module_table.specs.declared.Definition.{Definition}
 use Rattle.oid_run.specs.Run.{run}
 use Rattle.oid_run.proofs.Runs.{run-length, run-number}
-use Rattle.object_tree.specs.Words.{is-object, if_then_else_}
+use Rattle.object_tree.specs.Words.{is-object}
+use Rattle.index.specs.Choice.{if_then_else_}
 use Rattle.object_tree.proofs.Parents.{both}
 use Rattle.access_check.specs.Access.{clashes, is-written-column, access-clause}
 use Rattle.access_check.specs.Notification.{is-short, is-not-zeroed}

@@ -10,7 +10,8 @@ use Rattle.rule.specs.Rule.{Rule}
 use Rattle.module_table.specs.Definition.{entry}
 use Rattle.module_table.specs.Module.{rule-of-definitions}
 use Rattle.module_table.specs.declared.Definition.{Definition}
-use Rattle.object_tree.specs.Words.{counter32, counter64, not-accessible, accessible-for-notify, read-only, read-write, read-create, is-object, is-table, is-row, numbered, if_then_else_}
+use Rattle.object_tree.specs.Words.{counter32, counter64, not-accessible, accessible-for-notify, read-only, read-write, read-create, is-object, is-table, is-row, numbered}
+use Rattle.index.specs.Choice.{if_then_else_}
 use Rattle.sequence_list.specs.Named.{type-of, columns-of, named-at}
 
 -- token i names an object of this access

@@ -7,7 +7,8 @@ use lib.Dec.{ltb}
 use Rattle.rule.specs.declared.Finding.{Finding}
 use Rattle.module_table.specs.Definition.{entry}
 use Rattle.module_table.specs.declared.Definition.{Definition}
-use Rattle.object_tree.specs.Words.{is-object, numbered, if_then_else_}
+use Rattle.object_tree.specs.Words.{is-object, numbered}
+use Rattle.index.specs.Choice.{if_then_else_}
 use Rattle.sequence_list.specs.Named.{type-of}
 use Rattle.access_check.specs.Access.{is-written-column, open-table, created-alone, unfit-counter}
 use Rattle.access_check.specs.Notification.{notification-clause}

@@ -10,7 +10,8 @@ use Rattle.rule.specs.Rule.{Rule}
 use Rattle.module_table.specs.Definition.{entry}
 use Rattle.module_table.specs.Module.{oid-in, rule-of-definitions}
 use Rattle.module_table.specs.declared.Definition.{Definition}
-use Rattle.object_tree.specs.Words.{not-accessible, is-notification, if_then_else_}
+use Rattle.object_tree.specs.Words.{not-accessible, is-notification}
+use Rattle.index.specs.Choice.{if_then_else_}
 use Rattle.access_check.specs.Access.{has-access}
 
 -- 1: its OID has fewer than two numbers

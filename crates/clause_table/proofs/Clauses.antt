@@ -11,7 +11,8 @@ use borrow.Author.Tests.{eq-eqb, ne-eqb}
 use Rattle.module_table.specs.Definition.{entry}
 use Rattle.module_table.specs.Module.{most-definitions, oid-in}
 use Rattle.module_table.specs.declared.Definition.{Definition}
-use Rattle.object_tree.specs.Words.{is-table, is-row, numbered, if_then_else_}
+use Rattle.object_tree.specs.Words.{is-table, is-row, numbered}
+use Rattle.index.specs.Choice.{if_then_else_}
 use Rattle.sequence_list.specs.Named.{type-of, lists, repeats, names-stranger}
 use Rattle.sequence_list.specs.Held.{places, parent-named, verdict-of, VerdictTable, ListedTable}
 use Rattle.sequence_list.proofs.Verdicts.{strange-by-verdict, repeats-by-verdict}

@@ -10,7 +10,7 @@ use Rattle.index.specs.First.{hits}
 use Rattle.module_table.specs.Definition.{entry}
 use Rattle.module_table.specs.Module.{most-definitions}
 use Rattle.module_table.specs.declared.Definition.{Definition}
-use Rattle.object_tree.specs.Words.{if_then_else_}
+use Rattle.index.specs.Choice.{if_then_else_}
 use Rattle.sequence_list.specs.Held.{places}
 use Rattle.clause_table.specs.Clause.{is-of, rowless-table, stray-row, unindexed-row, indexed-object, repeating-row, misnaming-row, unlisted-column, unfounded-augments}
 

@@ -5,6 +5,7 @@ use mathlib.Core.List.{List}
 use mathlib.Core.Path.{_≡_}
 use Prim.Native.Nat.{ℕ, _+_, _-_, _<_}
 use lib.Dec.{ltb, eqb}
+use Rattle.index.specs.Choice.{if_then_else_}
 use Rattle.index.specs.First.{first}
 use Rattle.terminal.specs.Terminal.{terminals, left-brace, right-brace, left-paren, right-paren, Upper, assign, current, not-accessible, AUGMENTS, BITS, DEFVAL, INDEX, INTEGER, MAX-ACCESS, OBJECT, OBJECTS, OCTET, SEQUENCE, SIZE, STATUS, SYNTAX, UNITS}
 use lib.ListN.{length, getD}
@@ -92,15 +93,17 @@ fields-at cs k = fields-of cs (getD (definitions cs) k 0) (definition-end cs (ge
 -- enumeration { .. }; each with what stands between its brackets
 unfoldable pub restriction-at : List ℕ → ℕ → ℕ → Restriction
 restriction-at cs r e =
-    cond (eqb (class-at cs r) left-brace) (Enumeration (span (r + 1) (find cs right-brace (r + 1) e)))
-    (cond (eqb (class-at cs r) left-paren && eqb (class-at cs (r + 1)) SIZE) (Sizes (span (r + 3) (find cs right-paren (r + 3) e)))
-    (cond (eqb (class-at cs r) left-paren) (Ranges (span (r + 1) (find cs right-paren (r + 1) e))) Free))
+    if eqb (class-at cs r) left-brace then Enumeration (span (r + 1) (find cs right-brace (r + 1) e))
+    else if eqb (class-at cs r) left-paren && eqb (class-at cs (r + 1)) SIZE then Sizes (span (r + 3) (find cs right-paren (r + 3) e))
+    else if eqb (class-at cs r) left-paren then Ranges (span (r + 1) (find cs right-paren (r + 1) e))
+    else Free
 
 -- the syntax that starts at token s, in a definition that ends at e, by its first word
 unfoldable pub syntax-at : List ℕ → ℕ → ℕ → Syntax
 syntax-at cs s e =
-    cond (eqb (class-at cs s) INTEGER) (Integer (restriction-at cs (s + 1) e))
-    (cond (eqb (class-at cs s) Upper) (Named (record { 0 = s }) (restriction-at cs (s + 1) e))
-    (cond (eqb (class-at cs s) OCTET) (Octets (restriction-at cs (s + 2) e))
-    (cond (eqb (class-at cs s) OBJECT) ObjectIdentifier
-    (cond (eqb (class-at cs s) BITS) (Bits (restriction-at cs (s + 1) e)) (SequenceOf (record { 0 = s + 2 }))))))
+    if eqb (class-at cs s) INTEGER then Integer (restriction-at cs (s + 1) e)
+    else if eqb (class-at cs s) Upper then Named (record { 0 = s }) (restriction-at cs (s + 1) e)
+    else if eqb (class-at cs s) OCTET then Octets (restriction-at cs (s + 2) e)
+    else if eqb (class-at cs s) OBJECT then ObjectIdentifier
+    else if eqb (class-at cs s) BITS then Bits (restriction-at cs (s + 1) e)
+    else SequenceOf (record { 0 = s + 2 })

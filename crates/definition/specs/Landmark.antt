@@ -1,11 +1,12 @@
--- Where definitions stand. Capital words are landmarks: each stands in one place of the grammar, so that the classes of the tokens
--- show what a derivation would. All is said of `cs`, the classes of a module's tokens in order.
+-- Where definitions stand. Capital words are landmarks: within one definition each stands in one place of the grammar, so that the
+-- classes of the tokens show what a derivation says; that they do is proved in crates/module_tree. All is said of `cs`, the classes of a module's tokens in order.
 -- Assumes nothing.
-use mathlib.Core.Bool.{Bool, cond, _&&_, _||_}
+use mathlib.Core.Bool.{Bool, _&&_, _||_}
 use mathlib.Core.List.{List}
 use Prim.Native.Nat.{ℕ, _+_, _-_}
 use lib.Dec.{leb, eqb}
 use lib.ListN.{length, getD}
+use Rattle.index.specs.Choice.{if_then_else_}
 use Rattle.index.specs.First.{first, hits}
 use Rattle.terminal.specs.Terminal.{lower, Upper, current, read-create, assign, MODULE-IDENTITY, NOTIFICATION-TYPE, OBJECT, IDENTIFIER, OBJECT-IDENTITY, OBJECT-TYPE, TEXTUAL-CONVENTION, END}
 
@@ -39,12 +40,12 @@ begins cs i =
     || (eqb (class-at cs i) Upper && eqb (class-at cs (i + 1)) assign)
 
 -- the last token: no definition starts there
-abbrev pub last : List ℕ → ℕ
-last cs = length cs - 1
+abbrev pub last-token : List ℕ → ℕ
+last-token cs = length cs - 1
 
 -- the definitions in text order, each by the index of its name
 unfoldable pub definitions : List ℕ → List ℕ
-definitions cs = hits (begins cs) 0 (last cs)
+definitions cs = hits (begins cs) 0 (last-token cs)
 
 -- a definition that started before token i ends there: the token is END, or the next definition starts
 unfoldable pub closes : List ℕ → ℕ → Bool
@@ -52,7 +53,7 @@ closes cs i = eqb (class-at cs i) END || begins cs i
 
 -- a definition ends at END or where the next one starts, whichever comes first; at the last token where neither comes
 unfoldable pub definition-end : List ℕ → ℕ → ℕ
-definition-end cs d = first (closes cs) (d + 1) (last cs)
+definition-end cs d = first (closes cs) (d + 1) (last-token cs)
 
 -- The kinds of definitions, from "Records".
 
@@ -80,12 +81,13 @@ notification = 7
 -- the kind of the definition whose name is token d, by the words after the name
 unfoldable pub kind-at : List ℕ → ℕ → ℕ
 kind-at cs d =
-    cond (eqb (class-at cs (d + 1)) MODULE-IDENTITY) identity
-    (cond (eqb (class-at cs (d + 1)) OBJECT) plain
-    (cond (eqb (class-at cs (d + 1)) OBJECT-IDENTITY) object-identity
-    (cond (eqb (class-at cs (d + 1)) OBJECT-TYPE) object
-    (cond (eqb (class-at cs (d + 1)) NOTIFICATION-TYPE) notification
-    (cond (eqb (class-at cs (d + 2)) TEXTUAL-CONVENTION) convention sequence-type)))))
+    if eqb (class-at cs (d + 1)) MODULE-IDENTITY then identity
+    else if eqb (class-at cs (d + 1)) OBJECT then plain
+    else if eqb (class-at cs (d + 1)) OBJECT-IDENTITY then object-identity
+    else if eqb (class-at cs (d + 1)) OBJECT-TYPE then object
+    else if eqb (class-at cs (d + 1)) NOTIFICATION-TYPE then notification
+    else if eqb (class-at cs (d + 2)) TEXTUAL-CONVENTION then convention
+    else sequence-type
 
 -- the macro word of the definition whose name is token d: one of the two tokens after the name; d + 3 where it has none
 unfoldable pub macro-word : List ℕ → ℕ → ℕ

@@ -2,7 +2,7 @@
 -- Assumes nothing.
 use mathlib.Core.Bool.{Bool}
 use mathlib.Core.List.{List}
-use Prim.Native.Nat.{ℕ, _+_, _-_}
+use Prim.Native.Nat.{ℕ, _-_}
 use lib.Dec.{eqb}
 use Rattle.index.specs.First.{hits}
 use Rattle.terminal.specs.Terminal.{number, IMPLIED}
@@ -20,14 +20,6 @@ names-in cs s = hits (is-name cs) (s .from) (s .to)
 -- IMPLIED stands directly before the name at token i
 unfoldable pub is-implied : List ℕ → ℕ → Bool
 is-implied cs i = eqb (class-at cs (i - 1)) IMPLIED
-
--- the type of the column whose name is token i starts directly behind the name
-abbrev pub column-type : ℕ → ℕ
-column-type i = i + 1
-
--- an OID's head comes first
-abbrev pub oid-head : Span → ℕ
-oid-head s = s .from
 
 -- an OID's own numbers, in text order: those in brackets after a label too, the label not
 unfoldable pub oid-numbers : List ℕ → Span → List ℕ

@@ -10,7 +10,7 @@ use lib.ListN.{getD}
 use Rattle.index.specs.First.{first, any}
 use Rattle.lexicon.specs.Word.{same, between}
 use Rattle.definition.specs.Members.{is-name}
-use Rattle.type_class.specs.Choice.{if_then_else_}
+use Rattle.index.specs.Choice.{if_then_else_}
 use Rattle.sub_type.specs.Number.{number-at, same-number, is-outside}
 use Rattle.sub_type.specs.declared.Limits.{Limits}
 

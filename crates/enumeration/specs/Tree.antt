@@ -10,7 +10,7 @@ use lib.ListN.{length, getD}
 use Rattle.bit_tree.specs.Bit.{bit, name-bit}
 use Rattle.bit_tree.specs.Tree.{Tree}
 use Rattle.definition.specs.Members.{is-name}
-use Rattle.type_class.specs.Choice.{if_then_else_}
+use Rattle.index.specs.Choice.{if_then_else_}
 use Rattle.enumeration.specs.Item.{Spelling, spelled}
 
 -- entry j of the tree

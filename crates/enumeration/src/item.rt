@@ -5,7 +5,7 @@ ghost use mathlib.Core.Bool.{true};
 ghost use Prim.Native.Nat.{_-_, _<_, _≤_};
 ghost use lib.Dec.{ltb};
 ghost use lib.ListN.{length};
-ghost use Rattle.type_class.specs.Choice.{if_then_else_};
+ghost use Rattle.index.specs.Choice.{if_then_else_};
 ghost use Rattle.index.specs.First.{first, any};
 ghost use Rattle.rule.specs.Rule.{judge-one};
 ghost use Rattle.definition.specs.Members.{is-name};
@@ -32,11 +32,12 @@ use sub_type::is_outside;
 use sub_type::is_same_number;
 use sub_type::less;
 use sub_type::word_at;
+use token::LONGEST_TEXT;
 
 // How many tokens a tree has room for, a word for each. Most enumerations are short, and a short tree is sooner cleared.
 const SHORT_SPAN: usize = 256;
 
-const LONG_SPAN: usize = 65536;
+const LONG_SPAN: usize = LONGEST_TEXT;
 
 // The token of an item's label, and the first token of its enumeration.
 pub struct Entry {

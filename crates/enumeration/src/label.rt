@@ -2,7 +2,7 @@
 ghost use mathlib.Core.Path.{_≡_};
 ghost use lib.Dec.{ltb};
 ghost use Rattle.lexicon.specs.Word.{between, same, Within};
-ghost use Rattle.type_class.specs.Choice.{if_then_else_};
+ghost use Rattle.index.specs.Choice.{if_then_else_};
 ghost use Rattle.enumeration.specs.Item.{spelling-in, spelled, has-label};
 use definition::is_lower;
 use index::wide;

@@ -2,16 +2,14 @@
 -- exists; where it refuses at a token, some derived sequence begins with the tokens before and none with them and it; where
 -- it refuses at the end, some derived sequence begins with all of them and none is them; and no sequence has two derivations.
 -- Assumes nothing.
-use mathlib.Core.Path.{_≡_, refl, _∙_}
+use mathlib.Core.Path.{_≡_, refl}
 use mathlib.Core.List.{List, []}
 use Prim.Native.Nat.{ℕ}
-use Rattle.grammar.specs.Answer.{Verdict, refused, Answers}
+use Rattle.grammar.specs.Answer.{refused, Answers}
 use Rattle.grammar.specs.Automaton.{run, run-from}
-use Rattle.grammar.specs.Rule.{yield}
 use Rattle.grammar.specs.Grammar.{smi-module}
 use Rattle.grammar.specs.Table.{module-automaton}
 use Rattle.grammar.proofs.Run.{run-answers}
-use Rattle.grammar.proofs.OneVerdict.{one-verdict}
 use Rattle.grammar.proofs.States.{module-passes}
 
 pub grammar-theorem : (ts : List ℕ) → Answers smi-module ts (run module-automaton ts)
@@ -21,7 +19,3 @@ grammar-theorem ts = run-answers module-passes ts
 pub no-tokens : run module-automaton [] ≡ refused 0
 unfolding run-from module-automaton
 no-tokens = refl
-
--- P5: the one right verdict on the sequence without tokens is that it is refused at token 0
-pub empty-refused : (v : Verdict) → Answers smi-module [] v → v ≡ refused 0
-empty-refused v a = one-verdict (yield smi-module) [] v (run module-automaton []) a (grammar-theorem []) ∙ no-tokens

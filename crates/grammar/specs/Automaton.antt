@@ -19,14 +19,14 @@ pub record Automaton : Type 0 where
   pub accepting : ℕ
 
 -- the state that class c leads to, of the pairs of a class and a state: 0 where none has it
-abbrev pub entry : ℕ → List (ℕ × ℕ) → ℕ
-entry c [] = 0
-entry c (p ∷ more) = elim (eqb (p .0) c) [ true ↦ p .1 | false ↦ entry c more ]
+abbrev pub row-entry : ℕ → List (ℕ × ℕ) → ℕ
+row-entry c [] = 0
+row-entry c (p ∷ more) = elim (eqb (p .0) c) [ true ↦ p .1 | false ↦ row-entry c more ]
 
 -- the states that n classes lead to, from class c on
 abbrev pub row : ℕ → ℕ → List (ℕ × ℕ) → List ℕ
 row zero c pairs = []
-row (suc n) c pairs = entry c pairs ∷ row n (suc c) pairs
+row (suc n) c pairs = row-entry c pairs ∷ row n (suc c) pairs
 
 -- the table of n classes whose rows have these pairs
 abbrev pub dense : ℕ → List (List (ℕ × ℕ)) → List ℕ

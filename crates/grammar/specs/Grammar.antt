@@ -1,7 +1,7 @@
 -- The grammar of document 01, "Grammar": its thirteen lines, in its order and in its words. A line that names others, which the
 -- paper prints further down, takes them as parameters; the end of the file gives each line those it names.
 -- Assumes nothing.
-use Rattle.grammar.specs.Rule.{Rule, token, _⨾_, _or_, repeated, optional, any, parted}
+use Rattle.grammar.specs.Rule.{Rule, token, _⨾_, _or_, repeated, optional, zero-or-more, parted}
 use Rattle.terminal.specs.Terminal.{AUGMENTS, BEGIN, BITS, CONTACT-INFO, DEFINITIONS, DEFVAL, DESCRIPTION, DISPLAY-HINT, END, FROM, IDENTIFIER, IMPLIED, IMPORTS, INDEX, INTEGER, LAST-UPDATED, MAX-ACCESS, MODULE-IDENTITY, NOTIFICATION-TYPE, OBJECT, OBJECT-IDENTITY, OBJECT-TYPE, OBJECTS, OCTET, OF, ORGANIZATION, REFERENCE, REVISION, SEQUENCE, SIZE, STATUS, STRING, SYNTAX, TEXTUAL-CONVENTION, UNITS, current, deprecated, obsolete, not-accessible, accessible-for-notify, read-only, read-write, read-create, assign, dots, left-brace, right-brace, left-paren, right-paren, comma, semicolon, bar}
 use Rattle.terminal.specs.Terminal.{lower as other-lower, Upper as upper-name, number as non-negative, negative, text as text-token, hex as hex-token}
 
@@ -36,7 +36,7 @@ text = token text-token
 abbrev pub hex : Rule
 hex = token hex-token
 
--- What the lines are written with: `[ ]` and `*` are `optional` and `any`.
+-- What the lines are written with: `[ ]` and `*` are `optional` and `zero-or-more`.
 
 -- `list x` is x parted by commas, at least one
 abbrev pub list : Rule → Rule
@@ -66,9 +66,9 @@ module-line group identity def =
     ⨾ token DEFINITIONS
     ⨾ token assign
     ⨾ token BEGIN
-    ⨾ optional (token IMPORTS ⨾ group ⨾ any group ⨾ token semicolon)
+    ⨾ optional (token IMPORTS ⨾ group ⨾ zero-or-more group ⨾ token semicolon)
     ⨾ identity
-    ⨾ any def
+    ⨾ zero-or-more def
     ⨾ token END
 
 -- 2. group: list (lower, Upper or macro word) FROM Upper
@@ -89,7 +89,7 @@ identity-line oid =
     ⨾ text
     ⨾ token DESCRIPTION
     ⨾ text
-    ⨾ any (token REVISION ⨾ text ⨾ token DESCRIPTION ⨾ text)
+    ⨾ zero-or-more (token REVISION ⨾ text ⨾ token DESCRIPTION ⨾ text)
     ⨾ token assign
     ⨾ oid
 
@@ -191,7 +191,7 @@ value =
 
 -- 12. oid: { lower part part* }, part being a number or lower ( number ); the numbers not negative
 abbrev pub oid-line : (part : Rule) → Rule
-oid-line part = braced (lower ⨾ part ⨾ any part)
+oid-line part = braced (lower ⨾ part ⨾ zero-or-more part)
 
 abbrev pub part : Rule
 part = token non-negative or lower ⨾ bracketed (token non-negative)

@@ -28,12 +28,12 @@ abbrev pub optional : Rule → Rule
 optional x = empty or x
 
 -- `x*`: any number of x
-abbrev pub any : Rule → Rule
-any x = repeated x empty
+abbrev pub zero-or-more : Rule → Rule
+zero-or-more x = repeated x empty
 
 -- x parted by a separator, at least one
 abbrev pub parted : Rule → Rule → Rule
-parted separator x = x ⨾ any (separator ⨾ x)
+parted separator x = x ⨾ zero-or-more (separator ⨾ x)
 
 -- A repeated part: some steps, one after the other, and then the last part.
 pub data Steps (S L : Type 0) : Type 0 where

@@ -6,12 +6,9 @@ use mathlib.Core.Path.{_≡_, refl, sym, ap, _∙_, subst}
 use mathlib.Core.Bool.{Bool, true, false}
 use mathlib.Core.List.{List, [], _∷_}
 use lib.Dec.{leb}
-use lib.IntN.{ℤ, pos, negsuc}
 use lib.ListN.{length}
 use Rattle.hint_form.specs.Hint.{pieces, read-hint, is-pieces, pieces-in}
-use Rattle.hint_integer.specs.Form.{read-form}
 use Rattle.hint_piece.specs.Use.{piece-text, printed, repeats, uses-start, uses-end}
-use Rattle.hint_integer.specs.Signed.{in-range, signed}
 use Rattle.hint_form.specs.declared.Piece.{Piece}
 use Rattle.hint.specs.Print.{turn, printing, printing-within}
 use Rattle.hint_piece.proofs.Outcomes.{size-of, joined-size}
@@ -19,8 +16,6 @@ use Rattle.digit.proofs.Sizes.{Octets}
 use Rattle.hint_piece.proofs.Bounds.{uses-size}
 use Rattle.hint_form.proofs.PieceLaws.{AllAllowed, pieces-from, pieces-allowed, hint-pieces}
 use Rattle.hint_piece.proofs.UsesLaws.{uses-start-near, uses-end-is}
-use Rattle.hint_integer.proofs.SignedLaws.{magnitude-small, magnitude-size}
-use Rattle.hint_integer.proofs.FormLaws.{form-usable}
 use Rattle.hint.proofs.PrintingLaws.{turn-allowed}
 
 -- printing from an octet on prints four bytes at most for each octet left
@@ -55,10 +50,3 @@ output-bound hint value ps t h r e =
     let allowed : AllAllowed ps = subst AllAllowed (sym these) (pieces-allowed hint 0) in
     let size = within-size (length value) ps value 0 allowed h in
     omega (arith, size, ap size-of e)
-
--- the text of an integer in the range fits the part of 64 bytes
-pub integer-bound : (hint : List ℕ) (value : ℤ) → in-range value ≡ true → length (signed (read-form hint) value) ≤ 64
-unfolding signed
-integer-bound hint (pos n) h = omega (arith, magnitude-size (read-form hint) n (form-usable hint) (magnitude-small (pos n) h))
-integer-bound hint (negsuc n) h =
-    omega (arith, magnitude-size (read-form hint) (suc n) (form-usable hint) (magnitude-small (negsuc n) h))

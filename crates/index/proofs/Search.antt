@@ -189,19 +189,9 @@ not-false true e = refl
 not-false false e = absurd (true-false refl e)
 
 module _ (test : ℕ → Bool) where
-  pub all-at : (a b i : ℕ) → all test a b ≡ true → a ≤ i → i < b → test i ≡ true
-  unfolding all
-  all-at a b i e l h = not-false (test i) (any-none (λ (j : ℕ). not (test j)) a b i (not-true _ e) l h)
-
   pub at-all : (a b : ℕ) → a ≤ b → ((i : ℕ) → a ≤ i → i < b → test i ≡ true) → all test a b ≡ true
   unfolding all
   at-all a b l each = ap not (none-any (λ (j : ℕ). not (test j)) a b l (λ i m h. ap not (each i m h)))
-
-  pub not-all : (a b : ℕ) → a ≤ b → all test a b ≡ false → (i : ℕ) × (a ≤ i) × (i < b) × (test i ≡ false)
-  unfolding all
-  not-all a b l e =
-      let found = any-index (λ (j : ℕ). not (test j)) a b l (not-false _ e) in
-      (found .0, found .1, found .2, not-true (test (found .0)) (found .3))
 
 -- tests that agree wherever they are asked find the same
 module _ (p q : ℕ → Bool) where

@@ -11,11 +11,6 @@ use Rattle.index.proofs.Search.{true-false, answers}
 use Rattle.index.proofs.Pigeonhole.{Twice, pigeonhole}
 
 module _ {A : Type 0} (step : A → A) where
-  -- one step more, at the end or at the start
-  pub after-more : (n : ℕ) (x : A) → after step (suc n) x ≡ step (after step n x)
-  unfolding after
-  after-more n x = refl
-
   pub after-first : (n : ℕ) (x : A) → after step (suc n) x ≡ after step n (step x)
   unfolding after
   after-first zero x = refl

@@ -1,19 +1,20 @@
 -- What names lead to, as words: the value of a token that is used as a name.
 -- Assumes nothing.
-use mathlib.Core.Bool.{cond}
 use mathlib.Core.List.{List}
 use Prim.Native.Nat.{ℕ, _+_, _-_, _<_}
 use lib.Dec.{eqb, ltb}
 use lib.ListN.{getD}
+use Rattle.index.specs.Choice.{if_then_else_}
 use Rattle.module_table.specs.declared.Lead.{Lead}
 use Rattle.module_table.specs.declared.Lead.the-variants.{Iso, Import, Definition, Nothing}
 
 -- what a word says: 0 nothing, 1 `iso`, then a number for each of 512 definitions, then one for each symbol
 unfoldable pub lead-in : ℕ → Lead
 lead-in word =
-    cond (eqb word 0) Nothing
-    (cond (eqb word 1) Iso
-    (cond (ltb word 514) (Definition (record { 0 = word - 2 })) (Import (word - 514))))
+    if eqb word 0 then Nothing
+    else if eqb word 1 then Iso
+    else if ltb word 514 then Definition (record { 0 = word - 2 })
+    else Import (word - 514)
 
 -- the word that says where a name leads
 abbrev pub word-of : Lead → ℕ

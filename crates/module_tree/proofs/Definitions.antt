@@ -85,7 +85,7 @@ module _ (brought first others : Marked) (quiet : T (absent start brought)) (bar
   at-others = at-right cs first (many others then mark start the-end (word END)) first-at w at-body
 
   -- END is the last token
-  ends-last : landmark.last cs ≡ end-at
+  ends-last : landmark.last-token cs ≡ end-at
   ends-last =
       let a = length-append (yield (unmarked brought) (u .0)) (yield (unmarked (body first others)) w) in
       let b = length-append (yield (unmarked first) (w .0)) (yield (unmarked (many others then mark start the-end (word END))) (w .1)) in
@@ -115,7 +115,7 @@ module _ (brought first others : Marked) (quiet : T (absent start brought)) (bar
   module _ {X : Type 0} (f : ℕ → X) (make : ℕ → (m : Marked) → ℕ → Tree (unmarked m) → X)
       (agree : (k : ℕ) (m : Marked) (d : ℕ) (v : Tree (unmarked m)) → Node cs k m d v → f d ≡ make k m d v) where
     abbrev from : ℕ → List X
-    from d = map f (hits (begins cs) d (landmark.last cs))
+    from d = map f (hits (begins cs) d (landmark.last-token cs))
 
     rest-row : Row cs f make agree (many others) others-at (w .1 .0)
     rest-row =
@@ -131,13 +131,13 @@ module _ (brought first others : Marked) (quiet : T (absent start brought)) (bar
     pub all-definitions : map f (landmark.definitions cs) ≡ parts definition make (heading-then (brought then body first others)) 0 t
     unfolding landmark.definitions
     all-definitions =
-        ap (map f) (hits-skip (begins cs) first-at 0 (landmark.last cs) (omega (arith, ends-last))
+        ap (map f) (hits-skip (begins cs) first-at 0 (landmark.last-token cs) (omega (arith, ends-last))
         (λ i l h. none-starts cs i (none-before i (omega arith)) .0))
         ∙ ap from (let on : 0 + first-at ≡ first-at = omega arith in on)
         ∙ first-row .row
         ∙ ap (λ l. parts definition make first first-at (w .0) ++ l)
         (rest-row .row ∙ ap (λ l. parts definition make (many others) others-at (w .1 .0) ++ l)
-        (ap (map f) (hits-none (begins cs) end-at (landmark.last cs) (omega (arith, ends-last)))))
+        (ap (map f) (hits-none (begins cs) end-at (landmark.last-token cs) (omega (arith, ends-last)))))
         ∙ sym (ap (λ l. l ++ parts definition make (body first others) first-at w) (no-parts definition make brought bare 4 (u .0)))
 
   -- the first definition starts where the imports have ended

@@ -48,7 +48,7 @@ module _ (cs : List ℕ) where
     pub some-start : 0 < start-at cs d
     some-start = omega (arith, first-starts, its-kind k m p t cs d (at .classes) .0)
 
-    module _ (inside : d + size m t ≤ landmark.last cs) (closed : 0 < start-at cs (d + size m t)) where
+    module _ (inside : d + size m t ≤ landmark.last-token cs) (closed : 0 < start-at cs (d + size m t)) where
       pub node : Node k m d t
       node =
           let limits = its-kind k m p t cs d (at .classes) in
@@ -64,21 +64,21 @@ module _ (cs : List ℕ) where
           }
 
       -- the search goes on behind it
-      pub next-hits : hits (begins cs) d (landmark.last cs) ≡ d ∷ hits (begins cs) (d + size m t) (landmark.last cs)
+      pub next-hits : hits (begins cs) d (landmark.last-token cs) ≡ d ∷ hits (begins cs) (d + size m t) (landmark.last-token cs)
       next-hits =
           let some = names .some in
           let on : suc d + (size m t - 1) ≡ d + size m t = omega arith in
-          hits-hit (begins cs) d (landmark.last cs) (omega arith) (node .begun)
+          hits-hit (begins cs) d (landmark.last-token cs) (omega arith) (node .begun)
           ∙ ap (λ l. d ∷ l)
-          (hits-skip (begins cs) (size m t - 1) (suc d) (landmark.last cs) (omega arith)
+          (hits-skip (begins cs) (size m t - 1) (suc d) (landmark.last-token cs) (omega arith)
           (λ i l h. none-starts cs i (none-later i (omega arith) (omega arith)) .0)
-          ∙ ap (λ i. hits (begins cs) i (landmark.last cs)) on)
+          ∙ ap (λ i. hits (begins cs) i (landmark.last-token cs)) on)
 
   -- What is made of a token is what is made of the definition of the tree that starts there.
   module _ {X : Type 0} (f : ℕ → X) (make : ℕ → (m : Marked) → ℕ → Tree (unmarked m) → X)
       (agree : (k : ℕ) (m : Marked) (d : ℕ) (t : Tree (unmarked m)) → Node k m d t → f d ≡ make k m d t) where
     abbrev from : ℕ → List X
-    from d = map f (hits (begins cs) d (landmark.last cs))
+    from d = map f (hits (begins cs) d (landmark.last-token cs))
 
     -- the part is a row of definitions
     pub record Row (m : Marked) (d : ℕ) (t : Tree (unmarked m)) : Type 0 where
@@ -86,7 +86,7 @@ module _ (cs : List ℕ) where
       pub row : from d ≡ parts definition make m d t ++ from (d + size m t)
 
     abbrev Rows : Marked → Type 0
-    Rows m = (d : ℕ) (t : Tree (unmarked m)) → At cs m d t → d + size m t ≤ landmark.last cs → 0 < start-at cs (d + size m t) → Row m d t
+    Rows m = (d : ℕ) (t : Tree (unmarked m)) → At cs m d t → d + size m t ≤ landmark.last-token cs → 0 < start-at cs (d + size m t) → Row m d t
 
     line-row : (k : ℕ) (m : Marked) → T (line-passes k m) → Rows (mark definition k m)
     line-row k m p d t at inside closed = record {

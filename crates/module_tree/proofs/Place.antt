@@ -13,7 +13,7 @@ use Rattle.index.specs.First.{first, hits}
 use Rattle.index.proofs.Search.{first-is, first-end}
 use Rattle.index.proofs.Hits.{hits-miss}
 use Rattle.terminal.specs.Terminal.{END, MODULE-IDENTITY, NOTIFICATION-TYPE, OBJECT, OBJECT-IDENTITY, OBJECT-TYPE, TEXTUAL-CONVENTION}
-use Rattle.definition.specs.Landmark.{class-at, begins, closes, last, definition-end, kind-at}
+use Rattle.definition.specs.Landmark.{class-at, begins, closes, last-token, definition-end, kind-at}
 use Rattle.module_tree.specs.Marked.{Marked, _then_, steps, unmarked, leaves, marks, size}
 use Rattle.module_tree.specs.Grammar.{start, the-end}
 use Rattle.module_tree.proofs.Machine.{class-of, mark-of, classed}
@@ -121,16 +121,16 @@ module _ (cs : List ℕ) (i : ℕ) where
       go false p false z = absurd (omega arith)
 
 -- a definition ends at the next token where something starts
-pub ends-there : (cs : List ℕ) (d e : ℕ) → d < e → e ≤ last cs → ((i : ℕ) → d < i → i < e → closes cs i ≡ false) → closes cs e ≡ true
+pub ends-there : (cs : List ℕ) (d e : ℕ) → d < e → e ≤ last-token cs → ((i : ℕ) → d < i → i < e → closes cs i ≡ false) → closes cs e ≡ true
     → definition-end cs d ≡ e
 unfolding definition-end
-ends-there cs d e l m none there = go (decLt e (last cs))
+ends-there cs d e l m none there = go (decLt e (last-token cs))
   where
-    go : Dec (e < last cs) → first (closes cs) (d + 1) (last cs) ≡ e
-    go (yes h) = first-is (closes cs) (d + 1) (last cs) e (omega arith) h there (λ i p q. none i (omega arith) q)
+    go : Dec (e < last-token cs) → first (closes cs) (d + 1) (last-token cs) ≡ e
+    go (yes h) = first-is (closes cs) (d + 1) (last-token cs) e (omega arith) h there (λ i p q. none i (omega arith) q)
     go (no h) =
-        let same : e ≡ last cs = omega arith in
-        rw same (first-end (closes cs) (d + 1) (last cs) (omega arith) (λ i p q. none i (omega arith) (omega arith)))
+        let same : e ≡ last-token cs = omega arith in
+        rw same (first-end (closes cs) (d + 1) (last-token cs) (omega arith) (λ i p q. none i (omega arith) (omega arith)))
 
 -- tokens at which the test fails are passed
 pub hits-skip : (test : ℕ → Bool) (n a b : ℕ) → a + n ≤ b → ((i : ℕ) → a ≤ i → i < a + n → test i ≡ false)

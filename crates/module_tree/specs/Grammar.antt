@@ -4,7 +4,7 @@
 use mathlib.Core.List.{[], _∷_}
 use Prim.Native.Nat.{ℕ}
 use lib.ListN.{getD}
-use Rattle.grammar.specs.Rule.{Rule, token, _⨾_, _or_, optional, any}
+use Rattle.grammar.specs.Rule.{Rule, token, _⨾_, _or_, optional, zero-or-more}
 use Rattle.grammar.specs.Grammar.{lower, Upper, text, macro-word, enum, ranges, sizes, braced, value}
 use Rattle.terminal.specs.Terminal.{number, left-paren, right-paren, comma, semicolon, assign, current, deprecated, obsolete, not-accessible, accessible-for-notify, read-only, read-write, read-create, AUGMENTS, BEGIN, BITS, CONTACT-INFO, DEFINITIONS, DEFVAL, DESCRIPTION, DISPLAY-HINT, END, FROM, IDENTIFIER, IMPLIED, IMPORTS, INDEX, INTEGER, LAST-UPDATED, MAX-ACCESS, MODULE-IDENTITY, NOTIFICATION-TYPE, OBJECT, OBJECT-IDENTITY, OBJECT-TYPE, OBJECTS, OCTET, OF, ORGANIZATION, REFERENCE, REVISION, SEQUENCE, STATUS, STRING, SYNTAX, TEXTUAL-CONVENTION, UNITS}
 use Rattle.definition.specs.Landmark as kind
@@ -220,7 +220,7 @@ identity =
     then plain text
     then word DESCRIPTION
     then plain text
-    then plain (any (token REVISION ⨾ text ⨾ token DESCRIPTION ⨾ text))
+    then plain (zero-or-more (token REVISION ⨾ text ⨾ token DESCRIPTION ⨾ text))
     then word assign
     then oid-braces)
 

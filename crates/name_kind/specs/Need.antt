@@ -1,28 +1,32 @@
 -- The uses of names in a module, and the kind that each needs: document 01, refusal 11.
 -- Assumes nothing.
-use mathlib.Core.Bool.{Bool, cond, _&&_, _||_}
+use mathlib.Core.Bool.{Bool, _&&_, _||_}
 use mathlib.Core.List.{List}
 use Prim.Native.Nat.{ℕ, zero, suc, _-_}
 use lib.Dec.{eqb}
+use Rattle.index.specs.Choice.{if_then_else_}
 use Rattle.terminal.specs.Terminal.{terminals, Upper, left-brace, right-brace, assign, AUGMENTS, INDEX, OBJECT-TYPE, OBJECTS, OF, SEQUENCE, SYNTAX}
 use Rattle.definition.specs.Landmark.{class-at, is-lower, is-macro}
 use Rattle.name_kind.specs.declared.need.Need.{Need}
 use Rattle.name_kind.specs.declared.need.Need.the-variants.{NoName, Macro, TypeName, ObjectType, Head, Object, Sequence}
 
--- the class of the word directly before the braces that token i stands in; no terminal where it stands in none
+-- the class of the word directly before the braces that token i stands in, the innermost that are open; no terminal where it stands in
+-- none, and behind inner braces that are closed, as they are in DEFVAL alone, where no name is looked up
 unfoldable pub enclosing : List ℕ → ℕ → ℕ
 enclosing cs zero = terminals
 enclosing cs (suc i) =
-    cond (eqb (class-at cs i) left-brace) (class-at cs (i - 1))
-    (cond (eqb (class-at cs i) right-brace) terminals (enclosing cs i))
+    if eqb (class-at cs i) left-brace then class-at cs (i - 1)
+    else if eqb (class-at cs i) right-brace then terminals
+    else enclosing cs i
 
 -- what an Upper at token i is used as: after OF a SEQUENCE type; after SYNTAX a type, in an object, where SYNTAX stands after
 -- OBJECT-TYPE, or in a convention; after a lower the type of a column. Elsewhere it is no use: a definition's own name
 unfoldable pub upper-need : List ℕ → ℕ → Need
 upper-need cs i =
-    cond (eqb (class-at cs (i - 1)) OF) Sequence
-    (cond (eqb (class-at cs (i - 1)) SYNTAX) (cond (eqb (class-at cs (i - 2)) OBJECT-TYPE) ObjectType TypeName)
-    (cond (is-lower (class-at cs (i - 1))) TypeName NoName))
+    if eqb (class-at cs (i - 1)) OF then Sequence
+    else if eqb (class-at cs (i - 1)) SYNTAX then (if eqb (class-at cs (i - 2)) OBJECT-TYPE then ObjectType else TypeName)
+    else if is-lower (class-at cs (i - 1)) then TypeName
+    else NoName
 
 -- the braces after these words hold names of objects: INDEX, AUGMENTS, OBJECTS, SEQUENCE
 unfoldable pub lists-objects : ℕ → Bool
@@ -32,12 +36,14 @@ lists-objects word = eqb word INDEX || eqb word AUGMENTS || eqb word OBJECTS || 
 -- Elsewhere it is no use: a definition's own name, a label, a value
 unfoldable pub lower-need : List ℕ → ℕ → ℕ → Need
 lower-need cs word i =
-    cond (lists-objects word) Object
-    (cond (eqb word assign && eqb (class-at cs (i - 1)) left-brace) Head NoName)
+    if lists-objects word then Object
+    else if eqb word assign && eqb (class-at cs (i - 1)) left-brace then Head
+    else NoName
 
 -- what token i is used as
 unfoldable pub need-at : List ℕ → ℕ → Need
 need-at cs i =
-    cond (is-macro (class-at cs i)) Macro
-    (cond (eqb (class-at cs i) Upper) (upper-need cs i)
-    (cond (is-lower (class-at cs i)) (lower-need cs (enclosing cs i) i) NoName))
+    if is-macro (class-at cs i) then Macro
+    else if eqb (class-at cs i) Upper then upper-need cs i
+    else if is-lower (class-at cs i) then lower-need cs (enclosing cs i) i
+    else NoName

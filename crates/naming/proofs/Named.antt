@@ -22,7 +22,7 @@ use Rattle.token.specs.Token.{Meaning, meaning}
 use Rattle.token.specs.Cut.{said, meanings-in}
 use Rattle.token.proofs.Laws.{other-value}
 use Rattle.symbol.specs.Symbol.{iso-name, symbol-of}
-use Rattle.definition.specs.Landmark.{class-at, begins, last, definitions}
+use Rattle.definition.specs.Landmark.{class-at, begins, last-token, definitions}
 use Rattle.module_table.specs.Lead.{word-of}
 use Rattle.module_table.specs.declared.Lead.the-variants.{Import}
 use Rattle.name_tree.proofs.Both.{both}
@@ -74,7 +74,7 @@ module _ (ms : List Meaning) (kept : Kept ≡ judge-one (introduced-again ms)) w
   not-twice s i j l h p q =
       let cs = classes-of ms in
       let test = begins (classes-of ms) in
-      let end = last (classes-of ms) in
+      let end = last-token (classes-of ms) in
       let d = getD (definitions (classes-of ms)) i 0 in
       let e = getD (definitions (classes-of ms)) j 0 in
       let names : spelled ms d ≡ spelled ms e = same-equal (spelled ms d) s p ∙ sym (same-equal (spelled ms e) s q) in

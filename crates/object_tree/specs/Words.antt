@@ -73,8 +73,3 @@ numbered ds number = cond (eqb number 0) absent (entry ds (number - 1))
 -- the number, counted from 1, of the definition that the name at token i leads to; 0 where it leads to none
 abbrev pub number-at : List ℕ → ℕ → ℕ
 number-at values i = definition-number (lead-at values i)
-
--- the number a where the test holds, and b where it does not
-infixr 1 if_then_else_
-abbrev pub if_then_else_ : Bool → ℕ → ℕ → ℕ
-if test then a else b = cond test a b

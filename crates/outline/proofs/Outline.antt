@@ -11,7 +11,7 @@ use lib.ListN.{length, getD, set, take, length-map, List·getD-eq-default}
 use lib.Seq.{getD-take, getD-set-same, getD-set-other, length-take-le, ext-getD}
 use Rattle.index.specs.First.{first}
 use Rattle.index.proofs.Hits.{inside-same, hit-inside, first-hit-is, next-hit}
-use Rattle.definition.specs.Landmark.{begins, last, definitions, definition-end}
+use Rattle.definition.specs.Landmark.{begins, last-token, definitions, definition-end}
 use Rattle.definition.specs.Fields.{fields-of}
 use Rattle.definition.proofs.Next.{next-from-end}
 use Rattle.module_table.specs.declared.Definition.{Definition}
@@ -61,53 +61,53 @@ pub record Collecting (cs words : List ℕ) (count d : ℕ) : Type 0 where
   pub long : length words ≡ most-definitions * width
   pub few : count ≤ most-definitions
   pub within : count ≤ length (definitions cs)
-  pub at : d ≡ getD (definitions cs) count (last cs)
+  pub at : d ≡ getD (definitions cs) count (last-token cs)
   pub held : (j : ℕ) → j < count → entry (definitions-in words) j ≡ outlined-at cs (getD (definitions cs) j 0)
 
-pub collecting-start : (cs words : List ℕ) (d : ℕ) → length words ≡ most-definitions * width → d ≡ first (begins cs) 0 (last cs)
+pub collecting-start : (cs words : List ℕ) (d : ℕ) → length words ≡ most-definitions * width → d ≡ first (begins cs) 0 (last-token cs)
     → Collecting cs words 0 d
 unfolding definitions
 collecting-start cs words d long is = record {
   long = long;
   few = omega arith;
   within = omega arith;
-  at = is ∙ sym (first-hit-is (begins cs) 0 (last cs) (omega arith));
+  at = is ∙ sym (first-hit-is (begins cs) 0 (last-token cs) (omega arith));
   held = λ j h. absurd (omega arith);
 }
 
 module _ (cs words : List ℕ) (count d : ℕ) (c : Collecting cs words count d) where
   -- before the last token there is one more
-  pub one-more : d < last cs → count < length (definitions cs)
+  pub one-more : d < last-token cs → count < length (definitions cs)
   one-more h = go (decLt count (length (definitions cs)))
     where
       go : Dec (count < length (definitions cs)) → count < length (definitions cs)
       go (yes l) = l
-      go (no l) = absurd (omega (arith, c .at, List·getD-eq-default (definitions cs) (last cs) (let m : length (definitions cs) ≤ count = omega arith in m)))
+      go (no l) = absurd (omega (arith, c .at, List·getD-eq-default (definitions cs) (last-token cs) (let m : length (definitions cs) ≤ count = omega arith in m)))
 
   -- which is at d
-  pub its-name : d < last cs → getD (definitions cs) count 0 ≡ d
-  its-name h = inside-same (definitions cs) count 0 (last cs) (one-more h) ∙ sym (c .at)
+  pub its-name : d < last-token cs → getD (definitions cs) count 0 ≡ d
+  its-name h = inside-same (definitions cs) count 0 (last-token cs) (one-more h) ∙ sym (c .at)
 
   pub room-left : (count ≡ most-definitions → ⊥) → count < length (definitions-in words)
   room-left other = omega (arith, table-counted words, c .long, c .few)
 
   -- the definition at d is stored
-  pub collecting-more : d < last cs → (count ≡ most-definitions → ⊥) → (e : ℕ) → e ≡ definition-end cs d → (next : List ℕ)
-      → Stored words count (outlined d (fields-of cs d e)) next → (following : ℕ) → following ≡ first (begins cs) e (last cs)
+  pub collecting-more : d < last-token cs → (count ≡ most-definitions → ⊥) → (e : ℕ) → e ≡ definition-end cs d → (next : List ℕ)
+      → Stored words count (outlined d (fields-of cs d e)) next → (following : ℕ) → following ≡ first (begins cs) e (last-token cs)
       → Collecting cs next (count + 1) following
   unfolding definitions
   collecting-more h other e is next stored following begun = record {
     long = stored .as-long ∙ c .long;
     few = omega (arith, c .few);
     within = omega (arith, one-more h);
-    at = begun ∙ ap (λ (x : ℕ). first (begins cs) x (last cs)) is ∙ next-from-end cs d h ∙ at;
+    at = begun ∙ ap (λ (x : ℕ). first (begins cs) x (last-token cs)) is ∙ next-from-end cs d h ∙ at;
     held = λ j l. held j l (ℕ-discrete j count);
   }
     where
-      at : first (begins cs) (d + 1) (last cs) ≡ getD (definitions cs) (count + 1) (last cs)
+      at : first (begins cs) (d + 1) (last-token cs) ≡ getD (definitions cs) (count + 1) (last-token cs)
       at =
           rw (add-one d, add-one count, ← its-name h)
-          (sym (next-hit (begins cs) 0 (last cs) count (omega arith) (one-more h)))
+          (sym (next-hit (begins cs) 0 (last-token cs) count (omega arith) (one-more h)))
 
       stored-at : (j : ℕ) → entry (definitions-in next) j ≡ entry (set (definitions-in words) count (outlined d (fields-of cs d e))) j
       stored-at j = ap (λ (ds : List Definition). entry ds j) (stored .held)
@@ -121,16 +121,16 @@ module _ (cs words : List ℕ) (count d : ℕ) (c : Collecting cs words count d)
           stored-at j ∙ getD-set-other (definitions-in words) count j (outlined d (fields-of cs d e)) absent q ∙ c .held j (omega arith)
 
   -- at the last token all are stored
-  pub all-stored : last cs ≤ d → count ≡ length (definitions cs)
+  pub all-stored : last-token cs ≤ d → count ≡ length (definitions cs)
   unfolding definitions
   all-stored h = go (decLt count (length (definitions cs)))
     where
       go : Dec (count < length (definitions cs)) → count ≡ length (definitions cs)
       go (yes l) =
-          absurd (omega (arith, c .at, inside-same (definitions cs) count 0 (last cs) l, hit-inside (begins cs) 0 (last cs) count l .1))
+          absurd (omega (arith, c .at, inside-same (definitions cs) count 0 (last-token cs) l, hit-inside (begins cs) 0 (last-token cs) count l .1))
       go (no l) = omega (arith, c .within)
 
-  pub collecting-end : last cs ≤ d → definitions-in (take (count * width) words) ≡ outline cs
+  pub collecting-end : last-token cs ≤ d → definitions-in (take (count * width) words) ≡ outline cs
   collecting-end h =
       let room : count * width ≤ length words = omega (arith, c .long, c .few) in
       ext-getD absent (definitions-in (take (count * width) words)) (outline cs)

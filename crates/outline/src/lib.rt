@@ -4,7 +4,7 @@ ghost use mathlib.Core.Path.{_≡_};
 ghost use Prim.Native.Nat.{_*_, _≤_, _<_};
 ghost use lib.ListN.{length};
 ghost use Rattle.index.specs.First.{first};
-ghost use Rattle.definition.specs.Landmark.{begins, last};
+ghost use Rattle.definition.specs.Landmark.{begins, last-token};
 ghost use Rattle.definition.specs.Fields.{fields-of};
 ghost use Rattle.module_table.specs.Definition.{width};
 ghost use Rattle.module_table.specs.Module.{most-definitions};
@@ -66,8 +66,8 @@ fn outlined(name: usize, f: Fields) -> Definition
 // Where the first definition from token a on begins; the last token where none does.
 fn next_beginning(classes: &[u8], a: usize) -> usize
     requires few { ⌜ length (now classes) ≤ 65536 ⌝ }
-    requires inside { ⌜ a ≤ last (now classes) ⌝ }
-    ensures { λ r. ⌜ r ≡ first (begins (now (classes .entry))) a (last (now (classes .entry))) ⌝ }
+    requires inside { ⌜ a ≤ last-token (now classes) ⌝ }
+    ensures { λ r. ⌜ r ≡ first (begins (now (classes .entry))) a (last-token (now (classes .entry))) ⌝ }
 {
     let mut i = a;
     while i + 1 < classes.len() {

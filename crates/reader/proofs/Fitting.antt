@@ -32,7 +32,7 @@ use Rattle.naming.specs.Values.{named, values-of}
 use Rattle.oid_head.specs.Oid.{has-value, first-number}
 use Rattle.oid_tree.specs.Stage.{with-oid, with-oids}
 use Rattle.oid_tree.proofs.Lengths.{first-more}
-use Rattle.type_class.specs.Choice.{if_then_else_}
+use Rattle.index.specs.Choice.{if_then_else_}
 use Rattle.type_class.specs.Class.{row, syntax-in, lead-of, names-another, integer-class, syntax-class, built-in-class, convention-class, lead-class, object-class}
 use Rattle.type_class.specs.Stage.{with-class, convention-classed, conventions-classed, object-classed}
 use Rattle.object_tree.specs.Tree.{parent-of, with-parent, parents-added}

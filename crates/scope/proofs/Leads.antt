@@ -14,7 +14,7 @@ use Rattle.lexicon.specs.Word.{same, is-name}
 use Rattle.lexicon.proofs.Words.{same-equal}
 use Rattle.token.specs.Token.{Meaning}
 use Rattle.symbol.specs.Symbol.{iso-name, symbol-of, symbol-count, symbol-names}
-use Rattle.definition.specs.Landmark.{class-at, begins, last, definitions}
+use Rattle.definition.specs.Landmark.{class-at, begins, last-token, definitions}
 use Rattle.module_table.specs.Definition.{definitions-in, entry}
 use Rattle.module_table.specs.Lead.{lead-in, word-of}
 use Rattle.module_table.specs.declared.Lead.the-variants.{Import, Definition, Nothing}
@@ -109,11 +109,11 @@ module _ (cs : List ℕ) (k : ℕ) (h : k < length (definitions cs)) where
   -- a definition's name is a token, and a name
   pub name-inside : getD (definitions cs) k 0 < length cs
   unfolding definitions
-  name-inside = omega (arith, hit-inside (begins cs) 0 (last cs) k h)
+  name-inside = omega (arith, hit-inside (begins cs) 0 (last-token cs) k h)
 
   pub name-named : is-name (class-at cs (getD (definitions cs) k 0)) ≡ true
   unfolding definitions
-  name-named = begins-named cs _ (hit-holds (begins cs) 0 (last cs) k h)
+  name-named = begins-named cs _ (hit-holds (begins cs) 0 (last-token cs) k h)
 
 module _ (cs : List ℕ) (words : List ℕ) (held : definitions-in words ≡ outline cs) where
   pub defined-counted : length (definitions-in words) ≡ length (definitions cs)

@@ -1,10 +1,11 @@
 -- Where names are introduced, and what a name leads to.
 -- Assumes nothing.
-use mathlib.Core.Bool.{Bool, cond, _&&_, _||_}
+use mathlib.Core.Bool.{Bool, _&&_, _||_}
 use mathlib.Core.List.{List}
 use Prim.Native.Nat.{ℕ}
 use lib.Dec.{ltb}
 use lib.ListN.{length, getD}
+use Rattle.index.specs.Choice.{if_then_else_}
 use Rattle.index.specs.First.{first, any}
 use Rattle.lexicon.specs.Word.{same}
 use Rattle.token.specs.Token.{Meaning}
@@ -43,6 +44,7 @@ defined-as ms s = first (defines-name ms s) 0 (length (definitions (classes-of m
 -- definition of that name; or to nothing
 unfoldable pub leads-to : List Meaning → List ℕ → Lead
 leads-to ms s =
-    cond (same s iso-name) Iso
-    (cond (is-imported ms s) (cond (is-offered ms s) (Import (symbol-of s)) Nothing)
-    (cond (ltb (defined-as ms s) (length (definitions (classes-of ms)))) (Definition (record { 0 = defined-as ms s })) Nothing))
+    if same s iso-name then Iso
+    else if is-imported ms s then (if is-offered ms s then Import (symbol-of s) else Nothing)
+    else if ltb (defined-as ms s) (length (definitions (classes-of ms))) then Definition (record { 0 = defined-as ms s })
+    else Nothing

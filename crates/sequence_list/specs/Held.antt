@@ -1,11 +1,12 @@
 -- What is noted of each SEQUENCE list when it is walked, once for each type, so that the rules on rows compare numbers.
 -- Assumes nothing.
 use mathlib.Core.Path.{_≡_}
-use mathlib.Core.Bool.{Bool, cond, not, _&&_, _||_}
+use mathlib.Core.Bool.{Bool, not, _&&_, _||_}
 use mathlib.Core.List.{List}
 use Prim.Native.Nat.{ℕ, suc, _<_}
 use lib.Dec.{eqb}
 use lib.ListN.{length, getD, set}
+use Rattle.index.specs.Choice.{if_then_else_}
 use Rattle.index.specs.First.{first, any}
 use Rattle.module_table.specs.Module.{most-definitions}
 use Rattle.module_table.specs.declared.Definition.{Definition}
@@ -31,9 +32,10 @@ parent-named ds values type = numbered ds (named-at ds values (first-named ds va
 -- what is noted of a list: 3 it names an object twice; else 0 it names none, 1 all that it names have one parent, 2 they have several
 unfoldable pub verdict-of : List Definition → List ℕ → ℕ → ℕ
 verdict-of ds values type =
-    cond (repeats ds values type) 3
-    (cond (not (names-some ds values type)) 0
-    (cond (names-stranger ds values type (parent-named ds values type)) 2 1))
+    if repeats ds values type then 3
+    else if not (names-some ds values type) then 0
+    else if names-stranger ds values type (parent-named ds values type) then 2
+    else 1
 
 -- the verdicts and those parents, by types
 pub record VerdictTable (ds : List Definition) (values verdicts parents : List ℕ) : Type 0 where

@@ -8,7 +8,7 @@ use native.Mathlib.Omega.{arith}
 use lib.ListN.{length, getD, length-map}
 use Rattle.rule.specs.Rule.{Rule, each}
 use Rattle.token.specs.Token.{Meaning}
-use Rattle.definition.specs.Landmark.{begins, last, definitions}
+use Rattle.definition.specs.Landmark.{begins, last-token, definitions}
 use Rattle.definition.specs.declared.Span.{Span}
 use Rattle.module_table.specs.declared.Definition.{Definition}
 use Rattle.module_table.specs.Definition.{entry}
@@ -53,7 +53,7 @@ module _ (ms : List Meaning) where
   unfolding definitions
   of-names r to at =
       confined-wider (λ p l h. (l, omega (arith, counted)))
-      (hits-confined (begins (classes-of ms)) 0 (last (classes-of ms)) r to (λ k h. at k))
+      (hits-confined (begins (classes-of ms)) 0 (last-token (classes-of ms)) r to (λ k h. at k))
 
   -- the same of the definitions of a stage
   of-definitions : {ds : List Definition} → Keeps (outline (classes-of ms)) ds → (r : Rule) → r .to ≡ length ds → ((k : ℕ) → r .place k ≡ entry ds k .name .0)

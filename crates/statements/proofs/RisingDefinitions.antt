@@ -7,7 +7,7 @@ use native.Mathlib.Decide.{decLt}
 use native.Mathlib.Omega.{arith}
 use lib.ListN.{length, getD}
 use Rattle.index.proofs.Hits.{hit-inside, inside-same}
-use Rattle.definition.specs.Landmark.{begins, last, definitions, definition-end}
+use Rattle.definition.specs.Landmark.{begins, last-token, definitions, definition-end}
 use Rattle.definition.specs.Fields.{fields-of, fields-at}
 use Rattle.definition.proofs.Inside.{Inside, syntax-inside}
 use Rattle.definition.proofs.Next.{end-inside as ends-inside, definition-next}
@@ -24,14 +24,14 @@ module _ (cs : List ℕ) where
   -- the names rise
   names-rise : (j k : ℕ) → j < k → k < length (definitions cs) → name-of j < name-of k
   unfolding definitions
-  names-rise j k l h = hits-rise (begins cs) 0 (last cs) j k l h
+  names-rise j k l h = hits-rise (begins cs) 0 (last-token cs) j k l h
 
   -- a definition ends before a later one begins
   pub ends-before : (j k : ℕ) → j < k → k < length (definitions cs) → end-of j ≤ name-of k
   ends-before j k l h = go (decLt (suc j) k)
     where
       next : end-of j ≤ name-of (suc j)
-      next = omega (arith, definition-next cs j (omega arith), inside-same (definitions cs) (suc j) (last cs) 0 (omega arith))
+      next = omega (arith, definition-next cs j (omega arith), inside-same (definitions cs) (suc j) (last-token cs) 0 (omega arith))
 
       go : Dec (suc j < k) → end-of j ≤ name-of k
       go (yes m) = omega (arith, next, names-rise (suc j) k m h)
@@ -39,9 +39,9 @@ module _ (cs : List ℕ) where
 
   module _ (k : ℕ) (h : k < length (definitions cs)) where
     -- it ends after its name, and not after the module's last token
-    pub end-inside : (name-of k < end-of k) × (end-of k ≤ last cs)
+    pub end-inside : (name-of k < end-of k) × (end-of k ≤ last-token cs)
     unfolding definitions
-    end-inside = ends-inside cs (name-of k) (hit-inside (begins cs) 0 (last cs) k h .1)
+    end-inside = ends-inside cs (name-of k) (hit-inside (begins cs) 0 (last-token cs) k h .1)
 
     -- its syntax lies inside it
     pub syntax-at-home : Inside (name-of k) (end-of k) (fields-at cs k .syntax)

@@ -17,7 +17,7 @@ use Rattle.lexicon.specs.Word.{same}
 use Rattle.lexicon.proofs.Words.{same-equal}
 use Rattle.token.specs.Token.{Meaning}
 use Rattle.symbol.specs.Symbol.{iso-name, symbol-of, symbol-count, symbols, symbol, no-symbol, what-is, numbers, numbers-of}
-use Rattle.definition.specs.Landmark.{begins, last, definitions}
+use Rattle.definition.specs.Landmark.{begins, last-token, definitions}
 use Rattle.module_table.specs.Module.{Module, at}
 use Rattle.module_table.specs.declared.Lead.{Lead}
 use Rattle.module_table.specs.declared.Lead.the-variants.{Iso, Import, Definition, Nothing}
@@ -60,13 +60,13 @@ module _ (ms : List Meaning) (kept : (i : ℕ) → ModuleBreach ms 9 i → ⊥) 
   name-introduces : (k : ℕ) → k < definition-count ms → (introduces (classes-of ms) (name-token ms k) ≡ true) × (name-token ms k < length ms)
   unfolding introduces definitions
   name-introduces k h = (
-    right (is-import (classes-of ms) (name-token ms k)) (hit-holds (begins (classes-of ms)) 0 (last (classes-of ms)) k h),
-    omega (arith, hit-inside (begins (classes-of ms)) 0 (last (classes-of ms)) k h, counted),
+    right (is-import (classes-of ms) (name-token ms k)) (hit-holds (begins (classes-of ms)) 0 (last-token (classes-of ms)) k h),
+    omega (arith, hit-inside (begins (classes-of ms)) 0 (last-token (classes-of ms)) k h, counted),
   )
 
   names-rise : (j k : ℕ) → j < k → k < definition-count ms → name-token ms j < name-token ms k
   unfolding definitions
-  names-rise j k l h = hits-rise (begins (classes-of ms)) 0 (last (classes-of ms)) j k l h
+  names-rise j k l h = hits-rise (begins (classes-of ms)) 0 (last-token (classes-of ms)) j k l h
 
   module _ (s : List ℕ) where
     import-not-iso : s ≡ iso-name → Imported ms s → ⊥

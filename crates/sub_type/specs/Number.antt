@@ -11,7 +11,7 @@ use Rattle.terminal.specs.Terminal.{negative}
 use Rattle.symbol.specs.Symbol.{integer, octets, gauge32, unsigned32}
 use Rattle.definition.specs.Landmark.{class-at}
 use Rattle.definition.specs.declared.Span.{Span}
-use Rattle.type_class.specs.Choice.{if_then_else_}
+use Rattle.index.specs.Choice.{if_then_else_}
 use Rattle.sub_type.specs.declared.Limits.{Limits}
 use Rattle.sub_type.specs.declared.Limits.the-variants.{Nothing, Integer, Unsigned, Sizes}
 

@@ -8,7 +8,7 @@ use lib.Dec.{eqb}
 use lib.Signed.{ltZ}
 use Rattle.terminal.specs.Terminal.{number, negative, dots, bar}
 use Rattle.definition.specs.Landmark.{class-at}
-use Rattle.type_class.specs.Choice.{if_then_else_}
+use Rattle.index.specs.Choice.{if_then_else_}
 use Rattle.sub_type.specs.Number.{number-at, is-outside}
 use Rattle.sub_type.specs.declared.Limits.{Limits}
 use Rattle.sub_type.specs.declared.Limits.the-variants.{Nothing, Integer, Unsigned, Sizes}

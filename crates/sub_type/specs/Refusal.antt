@@ -5,7 +5,7 @@ use Prim.Native.Nat.{ℕ}
 use lib.Dec.{ltb, eqb}
 use Rattle.rule.specs.Rule.{Rule}
 use Rattle.definition.specs.declared.Span.{Span}
-use Rattle.type_class.specs.Choice.{if_then_else_}
+use Rattle.index.specs.Choice.{if_then_else_}
 use Rattle.sub_type.specs.Number.{end-in}
 use Rattle.sub_type.specs.Range.{range-before, order-clause, limit-clause}
 use Rattle.sub_type.specs.declared.Check.{Check}

@@ -8,13 +8,12 @@ use Prim.Native.Nat.{ℕ, _+_, _≤_, _<_}
 use native.Mathlib.Decide.{decLt}
 use native.Mathlib.Omega.{arith}
 use borrow.Author.Tests.{ne-eqb}
-use lib.Dec.{T, eqb, eqb→eq, ltb, ltb→lt}
+use lib.Dec.{eqb, eqb→eq, ltb, ltb→lt}
 use lib.ListN.{length, getD, List·getD-map, List·getD-eq-default}
 use Rattle.index.specs.First.{first, first-of}
 use Rattle.index.proofs.Tested.{tested}
 use Rattle.terminal.specs.Terminal.{lower, Upper, MODULE-IDENTITY, OBJECT-IDENTITY, OBJECT-TYPE, NOTIFICATION-TYPE, TEXTUAL-CONVENTION}
-use Rattle.lexicon.specs.Byte.{class-of, class-in, rows}
-use Rattle.lexicon.specs.Word.{bytes, same, name-class, place-in, words, word-table, word-classes, word}
+use Rattle.lexicon.specs.Word.{bytes, same, name-class}
 use Rattle.symbol.specs.Symbol.{What, oid, type, macro, Symbol, symbols, modules, symbol-names, symbol-count, symbol-of, symbol, no-symbol, of-smi, of-tc, below-internet, what-is, numbers, numbers-of, sort-of, type-class, class-of-sort, is-smi-type, start-in, Joined}
 use Rattle.symbol.specs.declared.Sort.{Sort}
 use Rattle.symbol.proofs.Joined.{part-length, part-inside, part-at}
@@ -91,10 +90,6 @@ pub found-again : (k : ℕ) → k < symbol-count → symbol-of (getD symbol-name
 unfolding own-index symbol-of first first-of same symbol-names symbols of-smi of-tc bytes
 found-again k h = eqb→eq (symbol-of (getD symbol-names k [])) k (tested own-index [] symbol-names tt k h)
 
--- so no two symbols have the same name
-pub names-differ : (j k : ℕ) → j < symbol-count → k < symbol-count → getD symbol-names j [] ≡ getD symbol-names k [] → j ≡ k
-names-differ j k l h e = sym (found-again j l) ∙ ap symbol-of e ∙ found-again k h
-
 -- a token that has the name of an OID is a *lower*, one that has a type's an *Upper*, and one that has a macro's a macro word
 unfoldable pub spelled-as : What → ℕ → Bool
 spelled-as (oid ns) class = eqb class lower
@@ -104,10 +99,6 @@ spelled-as macro class =
 
 well-spelled : ℕ → Symbol → Bool
 well-spelled k s = spelled-as (s .what) (name-class (s .name))
-
-pub spelling-fits : (k : ℕ) → k < symbol-count → T (spelled-as (what-is k) (name-class (getD symbol-names k [])))
-unfolding well-spelled spelled-as what-is symbol no-symbol name-class place-in words word-table word-classes word bytes same class-of class-in rows symbols of-smi of-tc below-internet
-spelling-fits k h = rw (name-is k) (tested well-spelled no-symbol symbols tt k h)
 
 -- the class of a type, by what the code says of it; past the last symbol there is none
 pub class-said : (w : What) → class-of-sort (sort-of w) ≡ type-class w

@@ -18,7 +18,7 @@ use Rattle.module_table.specs.Module.{Module}
 use Rattle.module_table.specs.declared.Definition.{Definition}
 use Rattle.module_table.specs.declared.Lead.{Lead}
 use Rattle.module_table.specs.declared.Lead.the-variants.{Iso, Import, Definition as Defined, Nothing}
-use Rattle.type_class.specs.Choice.{if_then_else_}
+use Rattle.index.specs.Choice.{if_then_else_}
 use Rattle.type_class.specs.Class.{has-syntax, syntax-in, lead-of, is-indirect}
 use Rattle.sub_type.specs.Number.{range-limits, size-limits}
 use Rattle.enumeration.specs.Item.{Spelling}

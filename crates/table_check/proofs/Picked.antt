@@ -9,7 +9,8 @@ use lib.Dec.{eqb, ltb}
 use borrow.Author.Tests.{lt-ltb, le-ltb}
 use Rattle.module_table.specs.Definition.{entry}
 use Rattle.module_table.specs.declared.Definition.{Definition}
-use Rattle.object_tree.specs.Words.{is-object, if_then_else_}
+use Rattle.object_tree.specs.Words.{is-object}
+use Rattle.index.specs.Choice.{if_then_else_}
 use Rattle.clause_table.specs.Clause.{rowless-table, stray-row, unindexed-row, indexed-object, repeating-row, misnaming-row, unlisted-column, unfounded-augments}
 use Rattle.clause_table.specs.Held.{row-clause, name-clause}
 use Rattle.table_check.specs.Found.{picked}

@@ -7,7 +7,8 @@ use lib.Dec.{eqb}
 use Rattle.rule.specs.declared.Finding.{Finding}
 use Rattle.module_table.specs.Definition.{entry}
 use Rattle.module_table.specs.declared.Definition.{Definition}
-use Rattle.object_tree.specs.Words.{is-object, if_then_else_}
+use Rattle.object_tree.specs.Words.{is-object}
+use Rattle.index.specs.Choice.{if_then_else_}
 use Rattle.table_check.specs.Refusal.{other-by}
 
 -- the first of an object's clauses, by the first of each part; 0 for what is no object

@@ -9,7 +9,8 @@ use Rattle.rule.specs.Rule.{Rule}
 use Rattle.module_table.specs.Definition.{entry}
 use Rattle.module_table.specs.Module.{rule-of-definitions}
 use Rattle.module_table.specs.declared.Definition.{Definition}
-use Rattle.object_tree.specs.Words.{is-object, number-at, if_then_else_}
+use Rattle.object_tree.specs.Words.{is-object, number-at}
+use Rattle.index.specs.Choice.{if_then_else_}
 use Rattle.sequence_list.specs.Named.{type-of}
 use Rattle.clause_table.specs.Clause.{rows-of, tables-of, rowless-table, stray-row, unindexed-row, indexed-object, repeating-row, misnaming-row, unlisted-column, unfounded-augments}
 

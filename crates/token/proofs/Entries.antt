@@ -9,7 +9,7 @@ use Rattle.lexicon.specs.Word.{between}
 use Rattle.token.specs.Token.{Tok, tok, meaning, no-token, class-of-token}
 use Rattle.token.specs.Cut.{Ending, whole, refused, cut}
 use Rattle.token.specs.Law.{Sound}
-use Rattle.token.specs.Table.{longest-text, entry, TokenTable, Lent, overlaid, answer-to, Held}
+use Rattle.token.specs.Table.{longest-text, token-entry, TokenTable, Lent, overlaid, answer-to, Held}
 use Rattle.token.specs.declared.Answer.{Answer}
 use Rattle.token.specs.declared.Answer.the-variants.{Tokens}
 use Rattle.token.proofs.Laws.{rising, few, sound-at, held-at}
@@ -35,8 +35,8 @@ module _
     (text : List ℕ) (answer : Answer) (classes starts ends classes′ starts′ ends′ : List ℕ)
     (lent : Lent text classes starts ends) (held : Held text answer classes starts ends classes′ starts′ ends′)
   where
-    read : (i : ℕ) → i < length (cut text .tokens) → entry text classes′ starts′ ends′ i ≡ getD (cut text .tokens) i no-token
-    unfolding entry tok meaning
+    read : (i : ℕ) → i < length (cut text .tokens) → token-entry text classes′ starts′ ends′ i ≡ getD (cut text .tokens) i no-token
+    unfolding token-entry tok meaning
     read i h =
         let ts = cut text .tokens in
         let c = overlaid-at class-of-token ts classes′ classes i refl (held .classes-held) h in
@@ -64,20 +64,20 @@ module _
     (i : ℕ) (h : i < n)
   where
     pub class-at : getD classes i 0 ≡ getD ts i no-token .says .class
-    unfolding entry tok meaning
+    unfolding token-entry tok meaning
     class-at = ap class-of-token (t .entry-is i h)
 
     pub start-at : getD starts i 0 ≡ getD ts i no-token .start
-    unfolding entry tok
+    unfolding token-entry tok
     start-at = ap (λ (x : Tok). x .start) (t .entry-is i h)
 
     pub end-at : getD ends i 0 ≡ getD ts i no-token .end
-    unfolding entry tok
+    unfolding token-entry tok
     end-at = ap (λ (x : Tok). x .end) (t .entry-is i h)
 
     entry-sound : Sound text
         (tok (getD classes i 0) (getD starts i 0) (getD ends i 0) (between text (getD starts i 0) (getD ends i 0)))
-    unfolding entry
+    unfolding token-entry
     entry-sound = rw (t .entry-is i h) (t .sound i h)
 
     -- the token's bytes lie in the text, and it has one at least

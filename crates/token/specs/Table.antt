@@ -17,8 +17,8 @@ abbrev pub longest-text : ℕ
 longest-text = 65536
 
 -- the entry at i, read as a token of the text
-unfoldable pub entry : List ℕ → List ℕ → List ℕ → List ℕ → ℕ → Tok
-entry text classes starts ends i =
+unfoldable pub token-entry : List ℕ → List ℕ → List ℕ → List ℕ → ℕ → Tok
+token-entry text classes starts ends i =
     tok (getD classes i 0) (getD starts i 0) (getD ends i 0) (between text (getD starts i 0) (getD ends i 0))
 
 -- The table of some tokens of a text: the first n entries of the three arrays are these tokens.
@@ -30,7 +30,7 @@ pub record TokenTable (text : List ℕ) (tokens : List Tok) (classes starts ends
   pub starts-long : length starts ≡ longest-text
   pub ends-long : length ends ≡ longest-text
   -- the entry at i is token i
-  pub entry-is : (i : ℕ) → i < n → entry text classes starts ends i ≡ getD tokens i no-token
+  pub entry-is : (i : ℕ) → i < n → token-entry text classes starts ends i ≡ getD tokens i no-token
   -- which is sound
   pub sound : (i : ℕ) → i < n → Sound text (getD tokens i no-token)
 

@@ -19,7 +19,7 @@ use Rattle.module_table.specs.Lead.{lead-at, definition-number}
 use Rattle.module_table.specs.declared.Definition.{Definition}
 use Rattle.module_table.specs.declared.Lead.{Lead}
 use Rattle.module_table.specs.declared.Lead.the-variants.{Iso, Import, Definition as Defined, Nothing}
-use Rattle.type_class.specs.Choice.{if_then_else_}
+use Rattle.index.specs.Choice.{if_then_else_}
 
 -- The classes that no built-in type has.
 

@@ -1,3 +1,2 @@
-pub mod Choice
 pub mod Class
 pub mod Stage

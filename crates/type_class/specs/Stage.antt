@@ -8,7 +8,7 @@ use Rattle.definition.specs.Landmark.{object, convention}
 use Rattle.module_table.specs.Definition.{changed}
 use Rattle.module_table.specs.Module.{Module}
 use Rattle.module_table.specs.declared.Definition.{Definition}
-use Rattle.type_class.specs.Choice.{if_then_else_}
+use Rattle.index.specs.Choice.{if_then_else_}
 use Rattle.type_class.specs.Class.{syntax-in, convention-class, object-class, sequence-number}
 
 -- a definition with another class and another SEQUENCE type

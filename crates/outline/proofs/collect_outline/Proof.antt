@@ -7,7 +7,7 @@ use native.Mathlib.Omega.{arith}
 use lib.ListN.{length, getD, take}
 use lib.Seq.{take-length}
 use Rattle.index.proofs.Search.{first-inside, first-from}
-use Rattle.definition.specs.Landmark.{begins, last, definitions, definition-end}
+use Rattle.definition.specs.Landmark.{begins, last-token, definitions, definition-end}
 use Rattle.definition.proofs.Next.{end-inside}
 use Rattle.module_table.specs.Module.{most-definitions}
 use Rattle.outline.proofs.Outline.{Collecting, collecting-start, collecting-more, collecting-end, one-more, its-name, room-left, all-stored, outline-counted}
@@ -16,7 +16,7 @@ use Rattle.outline.proofs.collect_outline.Tie as tie
 
 abbrev Inv-loop : tie.InvT-loop
 Inv-loop classes definitions₀ count₀ d₀ definitions count d =
-    Collecting classes definitions count d × (d ≤ last classes)
+    Collecting classes definitions count d × (d ≤ last-token classes)
 
 abbrev μ-loop : tie.MeasureT-loop
 μ-loop classes definitions₀ count₀ d₀ definitions count d = length classes - d
@@ -28,7 +28,7 @@ loop-holds : tie.Need-loop-holds Inv-loop μ-loop
 loop-holds c =
     let s = c .before .before .before in
     let is = c .next-beginning .ensures in
-    (collecting-start _ _ _ (s .pre .1) is, omega (arith, is, first-inside (begins (s .args .classes .now)) 0 (last (s .args .classes .now)) (omega arith)))
+    (collecting-start _ _ _ (s .pre .1) is, omega (arith, is, first-inside (begins (s .args .classes .now)) 0 (last-token (s .args .classes .now)) (omega arith)))
 
 add-loop : tie.Need-add-loop Inv-loop μ-loop
 add-loop c = omega (arith, c .loop .inv .1)
@@ -44,7 +44,7 @@ returns c =
     let l = c .before .before in
     let s = l .before .before .before .before in
     let cs = s .args .classes .now in
-    let h : l .loop .d < last cs = omega (arith, c .before .loop-test .taken) in
+    let h : l .loop .d < last-token cs = omega (arith, c .before .loop-test .taken) in
     let most : l .loop .count ≡ most-definitions = c .if1 .taken in
     let more = one-more cs (l .loop .definitions) (l .loop .count) (l .loop .d) (l .loop .inv .0) h in
     let name = its-name cs (l .loop .definitions) (l .loop .count) (l .loop .d) (l .loop .inv .0) h in
@@ -64,7 +64,7 @@ definition-between-requires c κs =
     let l = c .before .before .before .before in
     let s = l .before .before .before .before in
     let cs = s .args .classes .now in
-    let h : l .loop .d < last cs = omega (arith, c .before .before .before .loop-test .taken) in
+    let h : l .loop .d < last-token cs = omega (arith, c .before .before .before .loop-test .taken) in
     let is = answer cs (l .loop .d) _ (c .before .definition-end .ensures) in
     (omega (arith, l .loop .inv .1, s .pre .0), omega (arith, is, s .pre .0, end-inside cs (l .loop .d) h .1))
 
@@ -82,7 +82,7 @@ next-beginning-requires-2 c κs =
     let l = e .before .before .before in
     let s = l .before .before .before .before in
     let cs = s .args .classes .now in
-    let h : l .loop .d < last cs = omega (arith, e .before .before .loop-test .taken) in
+    let h : l .loop .d < last-token cs = omega (arith, e .before .before .loop-test .taken) in
     let is = answer cs (l .loop .d) _ (e .definition-end .ensures) in
     (s .pre .0, omega (arith, is, end-inside cs (l .loop .d) h .1))
 
@@ -91,9 +91,9 @@ loop-less c =
     let e = c .before .before .before .before .before .before in
     let l = e .before .before .before in
     let cs = l .before .before .before .before .args .classes .now in
-    let h : l .loop .d < last cs = omega (arith, e .before .before .loop-test .taken) in
+    let h : l .loop .d < last-token cs = omega (arith, e .before .before .loop-test .taken) in
     let is = answer cs (l .loop .d) _ (e .definition-end .ensures) in
-    omega (arith, c .next-beginning2 .ensures, is, first-from (begins cs) (e .definition-end .result) (last cs), end-inside cs (l .loop .d) h .0)
+    omega (arith, c .next-beginning2 .ensures, is, first-from (begins cs) (e .definition-end .result) (last-token cs), end-inside cs (l .loop .d) h .0)
 
 loop-again : tie.Need-loop-again Inv-loop μ-loop
 loop-again c =
@@ -101,12 +101,12 @@ loop-again c =
     let l = e .before .before .before in
     let s = l .before .before .before .before in
     let cs = s .args .classes .now in
-    let h : l .loop .d < last cs = omega (arith, e .before .before .loop-test .taken) in
+    let h : l .loop .d < last-token cs = omega (arith, e .before .before .loop-test .taken) in
     let is = answer cs (l .loop .d) _ (e .definition-end .ensures) in (
       collecting-more cs (l .loop .definitions) (l .loop .count) (l .loop .d) (l .loop .inv .0) h (e .before .if1 .left) (e .definition-end .result) is _
           (rw (← c .before .before .before .before .definition-between .ensures) (c .before .before .before .store .ensures))
           (c .next-beginning2 .result) (c .next-beginning2 .ensures),
-      omega (arith, c .next-beginning2 .ensures, first-inside (begins cs) (e .definition-end .result) (last cs) (omega (arith, is, end-inside cs (l .loop .d) h .1))),
+      omega (arith, c .next-beginning2 .ensures, first-inside (begins cs) (e .definition-end .result) (last-token cs) (omega (arith, is, end-inside cs (l .loop .d) h .1))),
     )
 
 same-length-2 : tie.Need-same-length-2 Inv-loop μ-loop
@@ -120,7 +120,7 @@ returns-2 c =
     let l = c .before in
     let s = l .before .before .before .before in
     let cs = s .args .classes .now in
-    let h : last cs ≤ l .loop .d = omega (arith, c .loop-test .left) in
+    let h : last-token cs ≤ l .loop .d = omega (arith, c .loop-test .left) in
     let all = all-stored cs (l .loop .definitions) (l .loop .count) (l .loop .d) (l .loop .inv .0) h in
     (l .loop .inv .0 .long ∙ sym (s .pre .1), (all ∙ sym (outline-counted cs), l .loop .inv .0 .few, collecting-end _ _ _ _ (l .loop .inv .0) h))
 

@@ -8,12 +8,12 @@ use native.Mathlib.Omega.{arith}
 use lib.ListN.{length, take}
 use lib.Seq.{take-length}
 use Rattle.index.proofs.Search.{Searched, searched-start, searched-miss, searched-hit, searched-end}
-use Rattle.definition.specs.Landmark.{begins, last}
+use Rattle.definition.specs.Landmark.{begins, last-token}
 use Rattle.outline.proofs.next_beginning.Statement.{statement}
 use Rattle.outline.proofs.next_beginning.Tie as tie
 
 abbrev Inv-loop : tie.InvT-loop
-Inv-loop classes a i₀ i = Searched (begins classes) a (last classes) i × (i ≤ last classes)
+Inv-loop classes a i₀ i = Searched (begins classes) a (last-token classes) i × (i ≤ last-token classes)
 
 abbrev μ-loop : tie.MeasureT-loop
 μ-loop classes a i₀ i = length classes - i
@@ -54,7 +54,7 @@ loop-again c =
 returns-2 : tie.Need-returns-2 Inv-loop μ-loop
 returns-2 c =
     let l = c .before in
-    let end : l .loop .i ≡ last (l .before .before .args .classes .now) = omega (arith, l .loop .inv .1, c .loop-test .left) in
+    let end : l .loop .i ≡ last-token (l .before .before .args .classes .now) = omega (arith, l .loop .inv .1, c .loop-test .left) in
     end ∙ searched-end _ _ _ _ (l .loop .inv .0) (omega (arith, c .loop-test .left))
 
 pub next-beginning-spec : {M : Type 1} → statement M

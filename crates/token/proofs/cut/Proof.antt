@@ -120,7 +120,7 @@ reads c = sym (c .before .found .given .1) ∙ c .before .before .before .piece-
 
 -- so there is room for it, and it leads forward in the text
 record Room (c : Read) : Type 0 where
-  entry : loop-at c .loop .n < longest-text
+  token-entry : loop-at c .loop .n < longest-text
   place : place-of c < longest-text
   forward : place-of c < end-read c
   end : end-read c ≤ longest-text
@@ -133,7 +133,7 @@ room c =
     let forward = read-forward _ _ _ _ _ _ _ _ _ (l .loop .inv) inside (class-read c) (end-read c) (reads c) in
     let short = start-of l .pre .short in
     record {
-      entry = omega (arith, inside, l .loop .inv .few, short);
+      token-entry = omega (arith, inside, l .loop .inv .few, short);
       place = omega (arith, inside, short);
       forward = forward .0;
       end = omega (arith, forward .1, short);

@@ -6,7 +6,8 @@ use lib.Dec.{eqb}
 use lib.ListN.{getD}
 use Rattle.module_table.specs.Definition.{definitions-in, entry}
 use Rattle.module_table.specs.declared.Definition.{Definition}
-use Rattle.object_tree.specs.Words.{is-row, numbered, if_then_else_}
+use Rattle.object_tree.specs.Words.{is-row, numbered}
+use Rattle.index.specs.Choice.{if_then_else_}
 use Rattle.sequence_list.specs.Named.{repeats, names-stranger}
 use Rattle.clause_table.specs.Clause.{unlisted-column, unfounded-augments}
 use mathlib.Core.Path.{_≡_, sym, ap, _∙_}

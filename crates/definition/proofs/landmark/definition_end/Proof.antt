@@ -6,13 +6,13 @@ use native.Mathlib.Omega.{arith}
 use borrow.Author.Needs.{needs}
 use lib.ListN.{take}
 use lib.Seq.{length-take-le}
-use Rattle.definition.specs.Landmark.{closes, last, definition-end}
+use Rattle.definition.specs.Landmark.{closes, last-token, definition-end}
 use Rattle.definition.proofs.Found.{Passed, passed-miss, passed-hit, passed-end}
 use Rattle.definition.proofs.landmark.definition_end.Statement.{statement}
 use Rattle.definition.proofs.landmark.definition_end.Tie as tie
 
 abbrev Inv-loop : tie.InvT-loop
-Inv-loop classes n d i₀ i = Passed (closes (take n classes)) (d + 1) (last (take n classes)) i
+Inv-loop classes n d i₀ i = Passed (closes (take n classes)) (d + 1) (last-token (take n classes)) i
 
 abbrev μ-loop : tie.MeasureT-loop
 μ-loop classes n d i₀ i = n - 1 - i
