@@ -43,20 +43,64 @@ def plain(name, head, number):
     return f"{name} OBJECT IDENTIFIER ::= {{ {head} {number} }}\n"
 
 
-def enumeration():
-    return fitted(HEAD + "x OBJECT-TYPE SYNTAX INTEGER { ", (f"{name}({k})" for k, name in enumerate(names())), ",",
+def items(labels, step=1):
+    numbers = itertools.count(0, step)
+    return fitted(HEAD + "x OBJECT-TYPE SYNTAX INTEGER { ", (f"{name}({number})" for name, number in zip(labels, numbers)), ",",
                   ' } MAX-ACCESS read-only STATUS current DESCRIPTION "" ::= { w 1 }\n' + TAIL)
+
+
+def enumeration():
+    return items(names())
 
 
 def labels_alike():
     """Labels that share their beginning and their end."""
-    return fitted(HEAD + "x OBJECT-TYPE SYNTAX INTEGER { ", (f"aaaa{name}zzzz({k})" for k, name in enumerate(names())), ",",
-                  ' } MAX-ACCESS read-only STATUS current DESCRIPTION "" ::= { w 1 }\n' + TAIL)
+    return items(f"aaaa{name}zzzz" for name in names())
+
+
+def imported(symbols):
+    return fitted("W DEFINITIONS ::= BEGIN\nIMPORTS ", symbols, ",", " FROM SNMPv2-SMI;\n" + HEAD.split(";\n", 1)[1] + TAIL)
 
 
 def imports():
-    free = (name for name in names() if name not in ("w",))
-    return fitted("W DEFINITIONS ::= BEGIN\nIMPORTS ", free, ",", " FROM SNMPv2-SMI;\n" + HEAD.split(";\n", 1)[1] + TAIL)
+    return imported(name for name in names() if name not in ("w",))
+
+
+def key(name):
+    """The key that says in which tree a name is (crates/name_tree/specs/Key.antt)."""
+    found = 0
+    for byte in name.encode():
+        found = (found * 31 + byte) % 1024
+    return found
+
+
+def of_one_key(starts):
+    """Each of these with the sign behind it that makes the key 0, where there is one."""
+    for start in starts:
+        last = chr(-31 * key(start) % 1024)
+        if last in SIGNS:
+            yield start + last
+
+
+def short_names():
+    """All names of four bytes of one key."""
+    return of_one_key(name for name in itertools.takewhile(lambda name: len(name) < 4, names()) if len(name) == 3)
+
+
+def pairs():
+    """Names of twelve pairs, of one key, since both pairs weigh the same in a key."""
+    return map("".join, itertools.product(("ao", "bP"), repeat=12))
+
+
+def on_one_path(shared=30):
+    """Names of 64 bytes, of one key, that share so many first and so many last bytes: bits that lead past many names, each long to
+    compare."""
+    middles = of_one_key(map("".join, itertools.product(SIGNS, repeat=63 - 2 * shared)))
+    return ("a" * shared + middle + "a" * shared for middle in middles)
+
+
+def numbers_in_steps():
+    return items(names(), 16411)
 
 
 def rows_of_one_type():
@@ -137,6 +181,12 @@ TEXTS = {
     "enumeration": enumeration,
     "labels alike": labels_alike,
     "imports": imports,
+    "imports of one key": lambda: imported(short_names()),
+    "imports of pairs": lambda: imported(pairs()),
+    "imports on one path": lambda: imported(on_one_path()),
+    "labels of pairs": lambda: items(pairs()),
+    "labels on one path": lambda: items(on_one_path()),
+    "numbers in steps": numbers_in_steps,
     "rows of one type": rows_of_one_type,
     "columns of one type": columns_of_one_type,
     "OBJECTS list": lambda: long_list("OBJECTS"),

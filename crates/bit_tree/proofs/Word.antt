@@ -3,14 +3,14 @@
 use mathlib.Core.Path.{_≡_, refl, sym, ap, _∙_}
 use mathlib.Core.Bool.{Bool, true, false, cond}
 use mathlib.Core.List.{List}
-use Prim.Native.Nat.{ℕ, suc, _+_, _-_, _/_, _%_, _≤_, _<_}
+use Prim.Native.Nat.{ℕ, _+_, _-_, _/_, _%_, _≤_, _<_}
 use native.Mathlib.Decide.{ℕ-discrete}
 use native.Mathlib.Omega.{arith}
 use borrow.Author.Tests.{lt-ltb, le-ltb}
 use lib.ListN.{length, getD, set, drop, length-drop, length-set}
 use lib.Seq.{getD-drop, getD-take, length-take-le, getD-set-same, getD-set-other}
 use Rattle.lexicon.specs.Word.{between, Within}
-use Rattle.bit_tree.specs.Bit.{bit, name-bit}
+use Rattle.bit_tree.specs.Bit.{bit, bit-byte, name-bit}
 use Rattle.bit_tree.specs.Tree.{child, only-child, Hung}
 
 -- ---- the bits of a name
@@ -22,10 +22,10 @@ module _ (text : List ℕ) (start end d : ℕ) (w : Within text start end) where
   part-byte : (i k : ℕ) → i < end - start → start + i ≡ k → getD (between text start end) i 0 ≡ getD text k 0
   part-byte i k h e = getD-take (end - start) (drop start text) i 0 h ∙ getD-drop start text i 0 ∙ ap (λ (n : ℕ). getD text n 0) e
 
-  pub bit-inside : d / 8 < end - start → (b : Bool) → b ≡ bit (getD text (end - 1 - d / 8) 0) (d % 8) → b ≡ name-bit (between text start end) d
-  bit-inside h b is =
-      let byte = part-byte (end - start - suc (d / 8)) (end - 1 - d / 8) (omega arith) (omega (arith, w .ordered)) in
-      is ∙ rw part-length (simp (lt-ltb (d / 8) (end - start) h) (rw byte))
+  pub bit-inside : d / 8 < end - start → (i : ℕ) → i ≡ bit-byte (end - start) d → i < end - start
+      → (b : Bool) → b ≡ bit (getD text (start + i) 0) (d % 8) → b ≡ name-bit (between text start end) d
+  bit-inside h i at below b is =
+      is ∙ rw part-length (simp (lt-ltb (d / 8) (end - start) h) (rw (← at, part-byte i (start + i) below refl)))
 
   pub bit-outside : end - start ≤ d / 8 → false ≡ name-bit (between text start end) d
   bit-outside h = rw part-length (simp (le-ltb (d / 8) (end - start) h))

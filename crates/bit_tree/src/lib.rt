@@ -1,10 +1,10 @@
 // Trees of entries by the bits of what they are compared by: a search passes no more entries than there are bits, whatever the entries
 // are. One word for each entry holds its two children, which are later entries.
 ghost use mathlib.Core.Path.{_≡_};
-ghost use Prim.Native.Nat.{_<_};
+ghost use Prim.Native.Nat.{_/_, _<_};
 ghost use lib.ListN.{length};
 ghost use Rattle.lexicon.specs.Word.{between, Within};
-ghost use Rattle.bit_tree.specs.Bit.{bit, name-bit};
+ghost use Rattle.bit_tree.specs.Bit.{bit, bit-byte, name-bit};
 ghost use Rattle.bit_tree.specs.Tree.{child, only-child, Hung};
 use index::wide;
 
@@ -21,14 +21,26 @@ pub fn bit(number: u32, d: usize) -> bool
     false
 }
 
-// Bit d of the name from start to end of the text, from the lowest of its last byte on.
+// The byte that holds bit d of a name of so many bytes: the last one, and then those from the first on. Names are compared from the
+// last byte on, so that names which share many bits in this order are mostly told apart at once.
+fn bit_byte(size: usize, d: usize) -> usize
+    requires { ⌜ d / 8 < size ⌝ }
+    ensures { λ r. ⌜ (r ≡ bit-byte size d) × (r < size) ⌝ }
+{
+    if d < 8 {
+        return size - 1;
+    }
+    d / 8 - 1
+}
+
+// Bit d of the name from start to end of the text.
 pub fn name_bit(text: &[u8], start: usize, end: usize, d: usize) -> bool
     requires { ⌜ Within (now text) start end ⌝ }
     ensures { λ r. ⌜ r ≡ name-bit (between (now (text .entry)) start end) d ⌝ }
 {
-    let back = d / 8;
-    if back < end - start {
-        return bit(text[end - 1 - back] as u32, d % 8);
+    let size = end - start;
+    if d / 8 < size {
+        return bit(text[start + bit_byte(size, d)] as u32, d % 8);
     }
     false
 }

@@ -70,12 +70,17 @@ root-some k h = simp (le-ltb k 1 h)
 
 -- ---- the walk of a token
 
--- the walk of a token is at a place, after d turns, and the links are as they were
+-- the walk of a token, after d turns, is at a place
+abbrev Seeking : (ℕ → ℕ → Bool) → (ℕ → ℕ → Bool) → ℕ → ℕ → List ℕ → ℕ → ℕ → Type 0
+Seeking turns has base token =
+    Walking (λ (j : ℕ). root-of (token - base)) (λ (j : ℕ). turns (base + j)) (λ (j : ℕ). has token (base + j)) (token - base)
+
+-- the walk is at a place, and the links are as they were
 pub record Placing (turns has : ℕ → ℕ → Bool) (base token : ℕ) (old links : List ℕ) (d at : ℕ) : Type 0 where
   pub kept : links ≡ old
   pub rising : d ≤ at
   pub first : at ≡ 0 → d ≡ 0
-  pub walk : Walking (λ (j : ℕ). root-of (token - base)) (λ (j : ℕ). turns (base + j)) (λ (j : ℕ). has token (base + j)) (token - base) old d at
+  pub walk : Seeking turns has base token old d at
 
 -- it starts at the root
 pub placing-start : (turns has : ℕ → ℕ → Bool) (base token : ℕ) (links : List ℕ) (at : ℕ) → at ≡ root-of (token - base)
@@ -149,7 +154,7 @@ module _ (cs : List ℕ) (turns : ℕ → ℕ → Bool) (base : ℕ) where
       entry j e = ap (λ (b : Bool). eqb j 0 || b) e ∙ or-true (eqb j 0)
 
       -- at its end no token before is alike
-      none : (d : ℕ) → Walking (λ (j : ℕ). root-of (token - base)) (λ (j : ℕ). turns (base + j)) (λ (j : ℕ). has token (base + j)) (token - base) links d 0
+      none : (d : ℕ) → Seeking turns has base token links d 0
           → false ≡ any (has token) base token
       none d w = sym (none-any (has token) base token (r .after) (λ j l h. fails j l h))
         where
@@ -172,10 +177,10 @@ module _ (cs : List ℕ) (turns : ℕ → ℕ → Bool) (base : ℕ) where
             ends : at ≡ 0
             ends = omega arith
 
-            ended : Walking (λ (j : ℕ). root-of (token - base)) (λ (j : ℕ). turns (base + j)) (λ (j : ℕ). has token (base + j)) (token - base) links 0 0
+            ended : Seeking turns has base token links 0 0
             ended =
-                subst (λ (m : ℕ). Walking (λ (j : ℕ). root-of (token - base)) (λ (j : ℕ). turns (base + j)) (λ (j : ℕ). has token (base + j)) (token - base) links m 0) (p .first ends)
-                (subst (λ (q : ℕ). Walking (λ (j : ℕ). root-of (token - base)) (λ (j : ℕ). turns (base + j)) (λ (j : ℕ). has token (base + j)) (token - base) links d q) ends (p .walk))
+                subst (λ (m : ℕ). Seeking turns has base token links m 0) (p .first ends)
+                (subst (Seeking turns has base token links d) ends (p .walk))
 
             is-first : Dec (token ≡ base) → token ≡ base
             is-first (yes first) = first
@@ -184,8 +189,8 @@ module _ (cs : List ℕ) (turns : ℕ → ℕ → Bool) (base : ℕ) where
                 absurd (omega (arith, root, root-some (token - base) (omega (arith, r .after))))
 
         module _ (some : 0 < at) where
-          walk-at : Walking (λ (j : ℕ). root-of (token - base)) (λ (j : ℕ). turns (base + j)) (λ (j : ℕ). has token (base + j)) (token - base) links d (suc (at - 1))
-          walk-at = subst (λ (q : ℕ). Walking (λ (j : ℕ). root-of (token - base)) (λ (j : ℕ). turns (base + j)) (λ (j : ℕ). has token (base + j)) (token - base) links d q) (omega arith) (p .walk)
+          walk-at : Seeking turns has base token links d (suc (at - 1))
+          walk-at = subst (Seeking turns has base token links d) (omega arith) (p .walk)
 
           -- it is at a token before
           pub placing-inside : at - 1 < token - base
