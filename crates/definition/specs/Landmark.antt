@@ -89,10 +89,6 @@ kind-at cs d =
     else if eqb (class-at cs (d + 2)) TEXTUAL-CONVENTION then convention
     else sequence-type
 
--- the macro word of the definition whose name is token d: one of the two tokens after the name; d + 3 where it has none
-unfoldable pub macro-word : List ℕ → ℕ → ℕ
-macro-word cs d = first (λ (i : ℕ). is-macro (class-at cs i)) (d + 1) (d + 3)
-
 -- a definition of this kind has an OID
 unfoldable pub has-oid : ℕ → Bool
 has-oid kind = leb kind object || eqb kind notification

@@ -5,21 +5,13 @@ use mathlib.Core.List.{List}
 use Prim.Native.Nat.{ℕ, _-_}
 use lib.Dec.{eqb}
 use Rattle.index.specs.First.{hits}
-use Rattle.terminal.specs.Terminal.{number, IMPLIED}
+use Rattle.terminal.specs.Terminal.{number}
 use Rattle.definition.specs.Landmark.{class-at, is-lower}
 use Rattle.definition.specs.declared.Span.{Span}
 
 -- token i is a *lower*, as each name of an INDEX, AUGMENTS, OBJECTS or SEQUENCE list is
 abbrev pub is-name : List ℕ → ℕ → Bool
 is-name cs i = is-lower (class-at cs i)
-
--- the names of an INDEX, AUGMENTS, OBJECTS or SEQUENCE list, in text order
-unfoldable pub names-in : List ℕ → Span → List ℕ
-names-in cs s = hits (is-name cs) (s .from) (s .to)
-
--- IMPLIED stands directly before the name at token i
-unfoldable pub is-implied : List ℕ → ℕ → Bool
-is-implied cs i = eqb (class-at cs (i - 1)) IMPLIED
 
 -- an OID's own numbers, in text order: those in brackets after a label too, the label not
 unfoldable pub oid-numbers : List ℕ → Span → List ℕ

@@ -3,7 +3,7 @@ ghost use mathlib.Core.Path.{_≡_};
 ghost use Prim.Native.Nat.{_≤_, _<_};
 ghost use lib.ListN.{length, take};
 ghost use Rattle.definition.specs.Landmark.{class-at, is-lower, is-defining, is-macro, before-object-identifier, begins, closes};
-ghost use Rattle.definition.specs.Landmark.{definition-end, kind-at, macro-word, has-oid};
+ghost use Rattle.definition.specs.Landmark.{definition-end, kind-at, has-oid};
 use crate::kind;
 
 // The class of token i, and 0 past the last.
@@ -110,22 +110,6 @@ pub fn kind_at(classes: &[u8], n: usize, d: usize) -> u8
     } else {
         kind::SEQUENCE_TYPE
     }
-}
-
-// The macro word of the definition whose name is token d: one of the two tokens after the name; d + 3 where it has none.
-pub fn macro_word(classes: &[u8], n: usize, d: usize) -> usize
-    requires enough { ⌜ n ≤ length (now classes) ⌝ }
-    requires early { ⌜ d ≤ 65536 ⌝ }
-    ensures { λ r. ⌜ r ≡ macro-word (take n (now (classes .entry))) d ⌝ }
-{
-    let mut i = d + 1;
-    while i < d + 3 {
-        if is_macro(class_at(classes, n, i)) {
-            return i;
-        }
-        i += 1;
-    }
-    i
 }
 
 // Whether a definition of this kind has an OID.

@@ -3,7 +3,6 @@
 mod field;
 pub mod kind;
 mod landmark;
-mod member;
 mod syntax_clause;
 
 pub use field::fields_of;
@@ -16,9 +15,6 @@ pub use landmark::has_oid;
 pub use landmark::is_lower;
 pub use landmark::is_macro;
 pub use landmark::kind_at;
-pub use landmark::macro_word;
-pub use member::is_implied;
-pub use member::next_name;
 pub use syntax_clause::syntax_at;
 
 // The tokens from `from` up to, not including, `to`.

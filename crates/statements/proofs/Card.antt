@@ -66,8 +66,8 @@ unfolding card-tokens tok meaning spelling-of value-of
     symbol-Symbol.internet symbol-Symbol.below-internet symbol-Symbol.symbols symbol-Symbol.symbol-names symbol-Symbol.symbol-of symbol-Symbol.no-symbol symbol-Symbol.symbol symbol-Symbol.module-name
     symbol-Symbol.what-is symbol-Symbol.numbers symbol-Symbol.numbers-of symbol-Symbol.sort-of symbol-Symbol.type-class symbol-Symbol.is-smi-type symbol-Symbol.start-in definition-Fields.braced-at
     definition-Fields.word-at definition-Fields.syntax-behind definition-Fields.columns-span definition-Fields.oid-span definition-Fields.fields-of definition-Fields.fields-at definition-Fields.restriction-at definition-Fields.syntax-at
-    definition-Landmark.is-defining definition-Landmark.is-macro definition-Landmark.before-object-identifier definition-Landmark.begins definition-Landmark.closes definition-Landmark.definitions definition-Landmark.definition-end definition-Landmark.kind-at definition-Landmark.macro-word
-    definition-Landmark.has-oid definition-Members.names-in definition-Members.is-implied definition-Members.oid-numbers module-table-Definition.words module-table-Definition.absent module-table-Definition.definitions-from module-table-Definition.definitions-in
+    definition-Landmark.is-defining definition-Landmark.is-macro definition-Landmark.before-object-identifier definition-Landmark.begins definition-Landmark.closes definition-Landmark.definitions definition-Landmark.definition-end definition-Landmark.kind-at
+    definition-Landmark.has-oid definition-Members.oid-numbers module-table-Definition.words module-table-Definition.absent module-table-Definition.definitions-from module-table-Definition.definitions-in
     module-table-Definition.changed-from module-table-Lead.lead-in outline-Outline.outline scope-Import.imports-end scope-Import.can-be-imported scope-Import.is-symbol scope-Import.is-import scope-Import.source
     scope-Import.offered scope-Lead.introduces scope-Lead.leads-to name-kind-Need.enclosing name-kind-Need.upper-need name-kind-Need.lists-objects name-kind-Need.lower-need name-kind-Need.need-at
     name-kind-Serve.serves naming-Rules.too-many naming-Rules.introduced-again naming-Rules.not-offered naming-Rules.is-unknown naming-Rules.unknown-name naming-Values.is-use naming-Values.values-from
@@ -93,8 +93,8 @@ unfolding card-tokens tok meaning spelling-of value-of
     symbol-Symbol.internet symbol-Symbol.below-internet symbol-Symbol.symbols symbol-Symbol.symbol-names symbol-Symbol.symbol-of symbol-Symbol.no-symbol symbol-Symbol.symbol symbol-Symbol.module-name
     symbol-Symbol.what-is symbol-Symbol.numbers symbol-Symbol.numbers-of symbol-Symbol.sort-of symbol-Symbol.type-class symbol-Symbol.is-smi-type symbol-Symbol.start-in definition-Fields.braced-at
     definition-Fields.word-at definition-Fields.syntax-behind definition-Fields.columns-span definition-Fields.oid-span definition-Fields.fields-of definition-Fields.fields-at definition-Fields.restriction-at definition-Fields.syntax-at
-    definition-Landmark.is-defining definition-Landmark.is-macro definition-Landmark.before-object-identifier definition-Landmark.begins definition-Landmark.closes definition-Landmark.definitions definition-Landmark.definition-end definition-Landmark.kind-at definition-Landmark.macro-word
-    definition-Landmark.has-oid definition-Members.names-in definition-Members.is-implied definition-Members.oid-numbers module-table-Definition.words module-table-Definition.absent module-table-Definition.definitions-from module-table-Definition.definitions-in
+    definition-Landmark.is-defining definition-Landmark.is-macro definition-Landmark.before-object-identifier definition-Landmark.begins definition-Landmark.closes definition-Landmark.definitions definition-Landmark.definition-end definition-Landmark.kind-at
+    definition-Landmark.has-oid definition-Members.oid-numbers module-table-Definition.words module-table-Definition.absent module-table-Definition.definitions-from module-table-Definition.definitions-in
     module-table-Definition.changed-from module-table-Lead.lead-in outline-Outline.outline scope-Import.imports-end scope-Import.can-be-imported scope-Import.is-symbol scope-Import.is-import scope-Import.source
     scope-Import.offered scope-Lead.introduces scope-Lead.leads-to name-kind-Need.enclosing name-kind-Need.upper-need name-kind-Need.lists-objects name-kind-Need.lower-need name-kind-Need.need-at
     name-kind-Serve.serves naming-Rules.too-many naming-Rules.introduced-again naming-Rules.not-offered naming-Rules.is-unknown naming-Rules.unknown-name naming-Values.is-use naming-Values.values-from
