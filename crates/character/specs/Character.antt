@@ -7,6 +7,7 @@ use mathlib.Core.Bool.{Bool, cond, _&&_, _||_}
 use mathlib.Core.List.{List}
 use lib.Dec.{leb, ltb, eqb}
 use lib.ListN.{length}
+use Rattle.index.specs.Choice.{if_then_else_}
 use Rattle.buffer.specs.Buffer.{byte-at}
 use Rattle.character.specs.Cut.{Cut, cut}
 
@@ -21,18 +22,19 @@ tail b = between 0x80 0xBF b
 -- how many octets a sequence with this first octet has; 0: no sequence starts with it
 unfoldable pub lead-size : ℕ → ℕ
 lead-size b =
-    cond (ltb b 0x80) 1
-    (cond (between 0xC2 0xDF b) 2
-    (cond (between 0xE0 0xEF b) 3
-    (cond (between 0xF0 0xF4 b) 4 0)))
+    if ltb b 0x80 then 1
+    else if between 0xC2 0xDF b then 2
+    else if between 0xE0 0xEF b then 3
+    else if between 0xF0 0xF4 b then 4
+    else 0
 
 -- the least second octet after a first one: a tail, without the overlong forms (E0, F0)
 unfoldable pub second-low : ℕ → ℕ
-second-low lead = cond (eqb lead 0xE0) 0xA0 (cond (eqb lead 0xF0) 0x90 0x80)
+second-low lead = if eqb lead 0xE0 then 0xA0 else if eqb lead 0xF0 then 0x90 else 0x80
 
 -- the greatest second octet after a first one: a tail, without the surrogates (ED) and what lies above 10FFFF (F4)
 unfoldable pub second-high : ℕ → ℕ
-second-high lead = cond (eqb lead 0xED) 0x9F (cond (eqb lead 0xF4) 0x8F 0xBF)
+second-high lead = if eqb lead 0xED then 0x9F else if eqb lead 0xF4 then 0x8F else 0xBF
 
 -- the octets after the first are as the first asks. An octet past the end reads as 0, which is no tail: a sequence that
 -- isn't whole fails
@@ -50,7 +52,7 @@ sequence-size octets i = cond (tails octets i) (lead-size (byte-at octets i)) 0
 -- how many octets the character at i has under a format, 0 where there is none
 unfoldable pub character-size : ℕ → List ℕ → ℕ → ℕ
 character-size format octets i =
-    cond (eqb format (code "a")) (cond (ltb (byte-at octets i) 0x80) 1 0) (sequence-size octets i)
+    if eqb format (code "a") then (if ltb (byte-at octets i) 0x80 then 1 else 0) else sequence-size octets i
 
 -- octets cut into characters of a format
 abbrev pub characters : ℕ → List ℕ → Cut

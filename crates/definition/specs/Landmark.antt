@@ -10,7 +10,7 @@ use Rattle.index.specs.Choice.{if_then_else_}
 use Rattle.index.specs.First.{first, hits}
 use Rattle.terminal.specs.Terminal.{lower, Upper, current, read-create, assign, MODULE-IDENTITY, NOTIFICATION-TYPE, OBJECT, IDENTIFIER, OBJECT-IDENTITY, OBJECT-TYPE, TEXTUAL-CONVENTION, END}
 
--- the class of token i
+-- the class of token i; past the last token 0, which is the class of a number and no landmark's
 abbrev pub class-at : List ℕ → ℕ → ℕ
 class-at cs i = getD cs i 0
 

@@ -8,6 +8,7 @@ use mathlib.Core.List.{List, _++_}
 use lib.Dec.{ltb, eqb}
 use lib.ListN.{length, drop, replicate}
 use lib.IntN.{ℤ}
+use Rattle.index.specs.Choice.{if_then_else_}
 use Rattle.hint_form.specs.Hint.{Reading, pieces, none, read-hint}
 use Rattle.hint_integer.specs.Form.{read-form}
 use Rattle.hint_piece.specs.Use.{Outcome, printed, fault}
@@ -44,8 +45,9 @@ by-pieces none value = refusal 32 0
 -- octets, with an output buffer of so many bytes: refusals in the order 30, 31, 32, 33
 unfoldable pub octets-verdict : ℕ → List ℕ → List ℕ → Verdict
 octets-verdict room hint value =
-    cond (ltb room octets-part) (refusal 30 0)
-    (cond (ltb 1024 (length value)) (refusal 31 0) (by-pieces (read-hint hint) value))
+    if ltb room octets-part then refusal 30 0
+    else if ltb 1024 (length value) then refusal 31 0
+    else by-pieces (read-hint hint) value
 
 -- refusal 32, then 34, or the text
 unfoldable pub by-form : Form → ℤ → Verdict

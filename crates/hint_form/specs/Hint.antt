@@ -8,6 +8,7 @@ use mathlib.Core.Bool.{Bool, true, false, cond, not, _&&_, _||_}
 use mathlib.Core.List.{List, [], map}
 use lib.Dec.{leb, ltb, eqb}
 use lib.ListN.{length}
+use Rattle.index.specs.Choice.{if_then_else_}
 use Rattle.buffer.specs.Buffer.{byte-at}
 use Rattle.character.specs.Cut.{Cut, whole, stuck, cut}
 use Rattle.hint_form.specs.declared.Piece.{Piece}
@@ -61,11 +62,11 @@ passes format = eqb format (code "a") || eqb format (code "t")
 
 -- the base that a format letter means: x 16, o 8, b 2, and d 10
 unfoldable pub base-of : ℕ → ℕ
-base-of format = cond (eqb format (code "x")) 16 (cond (eqb format (code "o")) 8 (cond (eqb format (code "b")) 2 10))
+base-of format = if eqb format (code "x") then 16 else if eqb format (code "o") then 8 else if eqb format (code "b") then 2 else 10
 
 -- the greatest length that a format allows: 8 for x d o, 255 for a t; no other byte is a format
 unfoldable pub longest : ℕ → ℕ
-longest format = cond (numeric format) 8 (cond (passes format) 255 0)
+longest format = if numeric format then 8 else if passes format then 255 else 0
 
 -- the repeat indicator `*` at a place
 unfoldable pub starred : List ℕ → ℕ → Bool

@@ -5,6 +5,7 @@ use mathlib.Core.Bool.{true, false, cond, not, _&&_}
 use mathlib.Core.List.{List, [], _∷_, _++_}
 use lib.Dec.{leb, eqb}
 use lib.ListN.{length, take, drop}
+use Rattle.index.specs.Choice.{if_then_else_}
 use Rattle.buffer.specs.Buffer.{byte-at}
 use Rattle.hint_form.specs.Hint.{base-of, passes}
 use Rattle.digit.specs.Digits.{digits, big-endian}
@@ -42,7 +43,9 @@ optional b = cond (eqb b 0) [] (b ∷ [])
 -- remains; the terminator, if any, after the last; else the separator, if any
 unfoldable pub following : Piece → ℕ → List ℕ → ℕ → ℕ
 following p left value next =
-    cond (leb (length value) next) 0 (cond (eqb left 0 && not (eqb (p .terminator) 0)) (p .terminator) (p .separator))
+    if leb (length value) next then 0
+    else if eqb left 0 && not (eqb (p .terminator) 0) then p .terminator
+    else p .separator
 
 -- one use at a place, with so many left after it: its octets' text and what follows
 unfoldable pub one-use : Piece → ℕ → List ℕ → ℕ → Outcome

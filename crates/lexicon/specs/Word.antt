@@ -8,6 +8,7 @@ use Prim.Native.Char.{code}
 use Prim.Native.String.{String, [] as none, _∷_ as char-and}
 use lib.Dec.{eqb, leb, ltb}
 use lib.ListN.{length, getD, take, drop}
+use Rattle.index.specs.Choice.{if_then_else_}
 use Rattle.terminal.specs.Terminal.{AUGMENTS, BEGIN, BITS, CONTACT-INFO, DEFINITIONS, DEFVAL, DESCRIPTION, DISPLAY-HINT, END, FROM, IDENTIFIER, IMPLIED, IMPORTS, INDEX, INTEGER, LAST-UPDATED, MAX-ACCESS, MODULE-IDENTITY, NOTIFICATION-TYPE, OBJECT, OBJECT-IDENTITY, OBJECT-TYPE, OBJECTS, OCTET, OF, ORGANIZATION, REFERENCE, REVISION, SEQUENCE, SIZE, STATUS, STRING, SYNTAX, TEXTUAL-CONVENTION, UNITS, current, deprecated, obsolete, not-accessible, accessible-for-notify, read-only, read-write, read-create, lower, Upper, terminals, first-word, word-count}
 use Rattle.lexicon.specs.Byte.{class-of, capital-hex}
 
@@ -139,8 +140,9 @@ is-name class = leb lower class
 -- the class of a name: a word's own; else Upper where the first letter is upper-case, and lower where it is lower-case
 unfoldable pub name-class : List ℕ → ℕ
 name-class s =
-    cond (ltb (place-in s words) word-count) (getD word-classes (place-in s words) 0)
-    (cond (leb capital-hex (class-of (getD s 0 0))) Upper lower)
+    if ltb (place-in s words) word-count then getD word-classes (place-in s words) 0
+    else if leb capital-hex (class-of (getD s 0 0)) then Upper
+    else lower
 
 -- a slot of the code holds this class: that of every word of the slot (there is one at most), or else no more than a class
 pub record SlotWord (slot class : ℕ) : Type 0 where

@@ -6,6 +6,7 @@ use mathlib.Core.List.{List, [], _∷_}
 use Prim.Native.Nat.{ℕ, suc, _+_}
 use lib.Dec.{leb, ltb, eqb}
 use lib.ListN.{length, getD, take, drop}
+use Rattle.index.specs.Choice.{if_then_else_}
 use Rattle.terminal.specs.Terminal.{number, negative, text, hex, assign, dots, left-brace, bar}
 use Rattle.lexicon.specs.Byte.{class-of, quote, hyphen, apostrophe, colon, dot, digit, blank-byte, digit-byte, hex-byte, text-byte, name-byte, alphanumeric, comment-byte, two-hyphens}
 use Rattle.lexicon.specs.Word.{longest-name, name-class}
@@ -66,15 +67,16 @@ misfit s =
 -- where s starts with a digit: a number that is not negative. What is no token comes before what is out of range
 unfoldable pub non-negative : List ℕ → Piece
 non-negative s =
-    cond (misfit s) (refusal no-token 0)
-    (cond (leb (decimal (take (span digit-byte s) s)) largest-number) (token number (span digit-byte s)) (refusal out-of-range 0))
+    if misfit s then refusal no-token 0
+    else if leb (decimal (take (span digit-byte s) s)) largest-number then token number (span digit-byte s)
+    else refusal out-of-range 0
 
 -- where a hyphen is followed by s, which starts with a digit: a negative number. A hyphen before 0 makes none
 unfoldable pub below-zero : List ℕ → Piece
 below-zero s =
-    cond (eqb (getD s 0 0) 48 || misfit s) (refusal no-token 0)
-    (cond (leb (decimal (take (span digit-byte s) s)) largest-negative) (token negative (suc (span digit-byte s)))
-    (refusal out-of-range 0))
+    if eqb (getD s 0 0) 48 || misfit s then refusal no-token 0
+    else if leb (decimal (take (span digit-byte s) s)) largest-negative then token negative (suc (span digit-byte s))
+    else refusal out-of-range 0
 
 -- what a comment that is followed by s takes of it: two hyphens
 abbrev pub closing : List ℕ → ℕ
@@ -87,15 +89,17 @@ comment s = gap (2 + span comment-byte s + closing (drop (span comment-byte s) s
 -- where a hyphen is followed by s: a comment, a negative number, or no token
 unfoldable pub after-hyphen : List ℕ → Piece
 after-hyphen s =
-    cond (eqb (class-of (getD s 0 0)) hyphen) (comment (drop 1 s))
-    (cond (eqb (class-of (getD s 0 0)) digit) (below-zero s) (refusal no-token 0))
+    if eqb (class-of (getD s 0 0)) hyphen then comment (drop 1 s)
+    else if eqb (class-of (getD s 0 0)) digit then below-zero s
+    else refusal no-token 0
 
 -- where a quote is followed by s, of which the first n bytes may stand in a text, and the next not: that one is missing, the end
 -- quote, or a forbidden byte
 abbrev pub text-end : List ℕ → ℕ → Piece
 text-end s n =
-    cond (leb (length s) n) (refusal no-token 0)
-    (cond (eqb (class-of (getD s n 0)) quote) (token text (n + 2)) (refusal forbidden (n + 1)))
+    if leb (length s) n then refusal no-token 0
+    else if eqb (class-of (getD s n 0)) quote then token text (n + 2)
+    else refusal forbidden (n + 1)
 
 -- where a quote is followed by s: a text
 unfoldable pub quoted : List ℕ → Piece
@@ -119,16 +123,20 @@ after-dot s = cond (eqb (getD s 0 0) 46) (token dots 2) (refusal no-token 0)
 -- where a byte of the class c, which is no letter, no digit and no blank, is followed by s
 unfoldable pub punctuation : ℕ → List ℕ → Piece
 punctuation c s =
-    cond (leb left-brace c && leb c bar) (token c 1)
-    (cond (eqb c hyphen) (after-hyphen s)
-    (cond (eqb c quote) (quoted s)
-    (cond (eqb c colon) (after-colon s) (cond (eqb c dot) (after-dot s) (cond (eqb c apostrophe) (hex-string s) (refusal no-token 0))))))
+    if leb left-brace c && leb c bar then token c 1
+    else if eqb c hyphen then after-hyphen s
+    else if eqb c quote then quoted s
+    else if eqb c colon then after-colon s
+    else if eqb c dot then after-dot s
+    else if eqb c apostrophe then hex-string s
+    else refusal no-token 0
 
 -- what a text holds at the start of s, which is what is left of it and not empty, by the class of the first byte
 unfoldable pub piece : List ℕ → Piece
 piece s =
-    cond (alphanumeric (getD s 0 0)) (cond (eqb (class-of (getD s 0 0)) digit) (non-negative s) (name s))
-    (cond (blank-byte (getD s 0 0) 0) (gap (span blank-byte s)) (punctuation (class-of (getD s 0 0)) (drop 1 s)))
+    if alphanumeric (getD s 0 0) then (if eqb (class-of (getD s 0 0)) digit then non-negative s else name s)
+    else if blank-byte (getD s 0 0) 0 then gap (span blank-byte s)
+    else punctuation (class-of (getD s 0 0)) (drop 1 s)
 
 -- how many bytes a piece has
 abbrev pub size : Piece → ℕ

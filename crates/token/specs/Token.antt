@@ -6,6 +6,7 @@ use Prim.Native.Nat.{ℕ}
 use lib.Dec.{eqb}
 use lib.IntN.{ℤ, pos, negℤ}
 use lib.ListN.{drop}
+use Rattle.index.specs.Choice.{if_then_else_}
 use Rattle.terminal.specs.Terminal.{number, negative}
 use Rattle.lexicon.specs.Word.{is-name}
 use Rattle.piece.specs.Decimal.{decimal}
@@ -33,8 +34,9 @@ spelling-of class bytes = cond (is-name class) bytes []
 -- the value of a token of this class that has these bytes: a negative number's first byte is the hyphen
 unfoldable pub value-of : ℕ → List ℕ → ℤ
 value-of class bytes =
-    cond (eqb class number) (pos (decimal bytes))
-    (cond (eqb class negative) (negℤ (pos (decimal (drop 1 bytes)))) (pos 0))
+    if eqb class number then pos (decimal bytes)
+    else if eqb class negative then negℤ (pos (decimal (drop 1 bytes)))
+    else pos 0
 
 -- what a token of this class that has these bytes says
 unfoldable pub meaning : ℕ → List ℕ → Meaning

@@ -1,17 +1,21 @@
 -- Octets that are written in hexadecimal. Assumes nothing.
 use Prim.Native.Nat.{ℕ, _+_, _-_, _*_, _/_, _%_, _<_, _≤_}
 use mathlib.Core.Path.{_≡_}
-use mathlib.Core.Bool.{cond, _&&_}
+use mathlib.Core.Bool.{_&&_}
 use mathlib.Core.List.{List}
 use lib.Dec.{leb}
 use lib.ListN.{length, getD}
+use Rattle.index.specs.Choice.{if_then_else_}
 use Rattle.words.specs.declared.hex.Octets.{Octets}
 use Rattle.words.specs.declared.hex.Octets.the-variants.{Are, AreNot}
 
 -- the value of a hex digit, or 16
 unfoldable pub hex-digit : ℕ → ℕ
 hex-digit b =
-    cond (leb 48 b && leb b 57) (b - 48) (cond (leb 65 b && leb b 70) (b - 55) (cond (leb 97 b && leb b 102) (b - 87) 16))
+    if leb 48 b && leb b 57 then b - 48
+    else if leb 65 b && leb b 70 then b - 55
+    else if leb 97 b && leb b 102 then b - 87
+    else 16
 
 -- the octet at an index is the number that its two digits write
 pub record Pair (word out : List ℕ) (i : ℕ) : Type 0 where
