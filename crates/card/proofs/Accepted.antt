@@ -13,7 +13,7 @@ use Rattle.module_table.specs.Module.{most-definitions}
 use Rattle.reader.specs.Reading.{Outcome, rules}
 use Rattle.reader.proofs.Kept.{few-definitions, accepted-kept}
 use Rattle.reader.specs.Buffers.{record-words, number-words, answer-to, Reads}
-use Rattle.reader.specs.Buffers.{count-of as count-in}
+use Rattle.reader.specs.Buffers.{answered-count as count-in}
 use Rattle.reader.specs.declared.Answer.{Answer}
 use Rattle.reader.specs.declared.Answer.the-variants.{Accepted, Refused}
 

@@ -7,7 +7,7 @@ use Prim.Native.Nat.{ℕ}
 use lib.Dec.{eqb}
 use lib.IntN.{ℤ}
 use lib.ListN.{length}
-use Rattle.reader.specs.Buffers.{number-of, place-of, count-of, Reads}
+use Rattle.reader.specs.Buffers.{number-of, place-of, answered-count, Reads}
 use Rattle.reader.specs.declared.Answer.{Answer}
 use Rattle.hint.specs.Answer.{Verdict, octets-part, integer-part, octets-verdict, integer-verdict, number, place, size, buffer}
 use Rattle.row_status.specs.RowStatus.{Outcome, row-status}
@@ -23,7 +23,7 @@ laid (word ∷ words) (old ∷ slice) = word ∷ laid words slice
 pub record ReadRaw (text records records′ numbers numbers′ answer answer′ : List ℕ) : Type 0 where
   pub right : Answer
   pub reads : Reads text right records records′ numbers numbers′
-  pub answer-is : answer′ ≡ laid (number-of right ∷ place-of right ∷ count-of right ∷ []) answer
+  pub answer-is : answer′ ≡ laid (number-of right ∷ place-of right ∷ answered-count right ∷ []) answer
 
 -- Printing: the output is what the verdict makes of it, and the verdict's number, place and length are laid over the answer's words.
 pub record PrintedRaw (part : ℕ) (verdict : Verdict) (out out′ answer answer′ : List ℕ) : Type 0 where

@@ -2,7 +2,7 @@
 // words of a slice that the caller lends, as far as it reaches; words beyond the answer stay as they were.
 ghost use mathlib.Core.Path.{_≡_};
 ghost use mathlib.Core.List.{_∷_, []};
-ghost use Rattle.reader.specs.Buffers.{number-of, place-of, count-of};
+ghost use Rattle.reader.specs.Buffers.{number-of, place-of, answered-count};
 ghost use Rattle.hint.specs.Answer.{number-of as printed-number, place-of as printed-place, length-of as printed-length};
 ghost use Rattle.row_status.specs.RowStatus.{outcome};
 ghost use Rattle.mib.specs.Raw.{laid, step-words, ReadRaw, OctetsRaw, IntegerRaw, SetRaw};
@@ -44,7 +44,7 @@ fn place_of(reading: Reading) -> usize
 }
 
 fn count_of(reading: Reading) -> usize
-    ensures { λ r. ⌜ r ≡ count-of reading ⌝ }
+    ensures { λ r. ⌜ r ≡ answered-count reading ⌝ }
 {
     match reading {
         Reading::Accepted(count) => count,
@@ -54,7 +54,7 @@ fn count_of(reading: Reading) -> usize
 
 // Lays number, place and count of the reader's answer.
 fn lay_reading(reading: Reading, answer: &mut [usize])
-    ensures { λ _. ⌜ now (answer .exit) ≡ laid (number-of reading ∷ place-of reading ∷ count-of reading ∷ [])
+    ensures { λ _. ⌜ now (answer .exit) ≡ laid (number-of reading ∷ place-of reading ∷ answered-count reading ∷ [])
         (now (answer .entry)) ⌝ }
 {
     let number = number_of(reading);

@@ -7,8 +7,7 @@ use Prim.Native.Nat.{ℕ, zero, suc, _+_, _≤_, _<_}
 use native.Mathlib.Decide.{ℕ-discrete}
 use native.Mathlib.Omega.{arith}
 use lib.Dec.{leb, eqb}
-use lib.ListN.{length, getD, take, drop, length-drop}
-use lib.Seq.{getD-drop}
+use lib.ListN.{length, getD, take, drop}
 use Rattle.terminal.specs.Terminal.{number, negative, text, hex, assign, dots, left-brace, bar}
 use Rattle.lexicon.specs.Byte.{class-of, quote, newline, feed, hyphen, apostrophe, colon, dot, small-hex, digit}
 use Rattle.lexicon.specs.Byte.{capital-hex, capital, classed, digit-byte, hex-byte, text-byte, name-byte, comment-byte}
@@ -91,24 +90,6 @@ take-local (x ∷ a) (y ∷ b) zero l h = refl
 take-local (x ∷ a) (y ∷ b) (suc k) l h =
     let rest = take-local a b k (omega arith) (λ j q. h (suc j) (omega arith)) in
     λ i. sym (h 0 (omega arith)) i ∷ rest i
-
--- what follows n bytes
-near-drop : (a b : List ℕ) (n m : ℕ) → Near a b (n + m) → Near (drop n a) (drop n b) m
-near-drop a b n m r =
-    record {
-      long = omega (arith, length-drop n a, length-drop n b, r .long);
-      near = λ j h. rw (getD-drop, getD-drop) (r .near (n + j) (omega arith));
-      after = λ q. go q;
-    }
-  where
-    go : (class-of (getD (drop n a) m 0) ≡ quote → ⊥) → getD (drop n a) (suc m) 0 ≡ getD (drop n b) (suc m) 0
-    go q =
-        let e : n + suc m ≡ suc (n + m) = omega arith in
-        getD-drop n a (suc m) 0
-        ∙ ap (λ (k : ℕ). getD a k 0) e
-        ∙ r .after (λ s. q (ap class-of (getD-drop n a m 0) ∙ s))
-        ∙ ap (λ (k : ℕ). getD b k 0) (sym e)
-        ∙ sym (getD-drop n b (suc m) 0)
 
 near-least : (a b : List ℕ) (m k : ℕ) → k ≤ m → Near a b m → Near a b k
 near-least a b m k h n = go (ℕ-discrete k m)

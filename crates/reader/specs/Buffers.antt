@@ -29,9 +29,9 @@ abbrev pub place-of : Answer → ℕ
 place-of (Accepted count) = 0
 place-of (Refused number place) = place .0
 
-abbrev pub count-of : Answer → ℕ
-count-of (Accepted count) = count
-count-of (Refused number place) = 0
+abbrev pub answered-count : Answer → ℕ
+answered-count (Accepted count) = count
+answered-count (Refused number place) = 0
 
 -- the working parts, in words: of the record buffer, a record for each of the most definitions, 5,120; of the number buffer, the most
 -- numbers that all OIDs may have, 8,192

@@ -26,7 +26,7 @@ use Rattle.reader.proofs.Counting.{module-counted}
 use Rattle.records.specs.Record.{record-width}
 use Rattle.records.proofs.Words.{before-long}
 use Rattle.reader.specs.Reading.{Outcome, accepted, refused, rules, later-rules, oid-rules, module-of, records-of, starts-of, ends-of, judged, outcome}
-use Rattle.reader.specs.Buffers.{number-of, place-of, count-of, record-words, number-words, filled, answer-to, records-in, numbers-in, Left, Reads}
+use Rattle.reader.specs.Buffers.{number-of, place-of, answered-count, record-words, number-words, filled, answer-to, records-in, numbers-in, Left, Reads}
 use Rattle.reader.specs.declared.Answer.{Answer}
 use Rattle.reader.specs.declared.Answer.the-variants.{Accepted, Refused}
 use Rattle.reader.proofs.Kept.{accepted-kept}
@@ -98,10 +98,10 @@ module _ (text : List ℕ) (order : Ordered (meanings-in text)) (placed : Placed
       found-all : found ≡ judged (cut text .tokens) Kept
       found-all = all-kept .1
 
-      all-counted : count-of answer ≡ definitions-in (module-of (meanings-in text))
-      all-counted = ap count-of (left .answered) ∙ ap (λ (o : Outcome). count-of (answer-to o)) found-all
+      all-counted : answered-count answer ≡ definitions-in (module-of (meanings-in text))
+      all-counted = ap answered-count (left .answered) ∙ ap (λ (o : Outcome). answered-count (answer-to o)) found-all
 
-      records-long : length (records-in found) ≡ count-of answer * record-width
+      records-long : length (records-in found) ≡ answered-count answer * record-width
       records-long =
           ap (λ (o : Outcome). length (records-in o)) found-all
           ∙ before-long (starts-of (cut text .tokens)) (ends-of (cut text .tokens)) (module-of (meanings-in text) .definitions) (definitions-in (module-of (meanings-in text)))
@@ -125,7 +125,7 @@ module _ (text : List ℕ) (order : Ordered (meanings-in text)) (placed : Placed
         ap (drop number-words) (left .numbers-left) ∙ filled-beyond number-words (numbers-in found) numbers (fit .1),
       );
       unused = λ zero. (
-        ap (λ (w : List ℕ). drop (count-of answer * record-width) (take record-words w)) (left .records-left)
+        ap (λ (w : List ℕ). drop (answered-count answer * record-width) (take record-words w)) (left .records-left)
             ∙ filled-unused record-words (records-in found) records (fit .0) _ (records-long zero),
         ap (λ (w : List ℕ). drop (length (module-of (meanings-in text) .numbers)) (take number-words w)) (left .numbers-left)
             ∙ filled-unused number-words (numbers-in found) numbers (fit .1) _ (numbers-long zero),
@@ -150,7 +150,7 @@ module _ (text : List ℕ) (order : Ordered (meanings-in text)) (placed : Placed
       go (within limits) = limits
 
   -- a refusal has no count
-  refusal-count : (x : Answer) → 0 < number-of x → count-of x ≡ 0
+  refusal-count : (x : Answer) → 0 < number-of x → answered-count x ≡ 0
   refusal-count (Accepted count) some = absurd (omega arith)
   refusal-count (Refused number place) some = refl
 

@@ -4,7 +4,7 @@ use mathlib.Core.Path.{_≡_, sym, ap, _∙_}
 use mathlib.Core.List.{List, [], _∷_}
 use Prim.Native.Nat.{ℕ}
 use Rattle.hint.specs.Answer.{Verdict}
-use Rattle.reader.specs.Buffers.{number-of, place-of, count-of, answer-to}
+use Rattle.reader.specs.Buffers.{number-of, place-of, answered-count, answer-to}
 use Rattle.reader.specs.declared.Answer.{Answer}
 use Rattle.mib.specs.Raw.{laid, ReadRaw, PrintedRaw}
 use Rattle.statements.specs.Statements.{Exported}
@@ -17,7 +17,7 @@ read-same text records r s numbers m n answer x y p q =
       one .1,
       one .2,
       p .answer-is
-          ∙ ap (λ (a : Answer). laid (number-of a ∷ place-of a ∷ count-of a ∷ []) answer) (one .0)
+          ∙ ap (λ (a : Answer). laid (number-of a ∷ place-of a ∷ answered-count a ∷ []) answer) (one .0)
           ∙ sym (q .answer-is),
     )
 

@@ -31,7 +31,7 @@ use Rattle.naming.specs.Values.{named}
 use Rattle.oid_head.specs.Oid.{HasOid, has-value}
 use Rattle.records.specs.Record.{record-width}
 use Rattle.reader.specs.Reading.{Outcome, module-of, records-of}
-use Rattle.reader.specs.Buffers.{number-of, place-of, count-of, record-words, number-words, zeros, filled, answer-to, examined-to, ReadsAs, Reads}
+use Rattle.reader.specs.Buffers.{number-of, place-of, answered-count, record-words, number-words, zeros, filled, answer-to, examined-to, ReadsAs, Reads}
 use Rattle.reader.specs.declared.Answer.{Answer}
 use Rattle.reader.specs.declared.Answer.the-variants.{Accepted, Refused}
 use Rattle.hint.specs.Answer as hint
@@ -64,7 +64,7 @@ pub record FirstDemand (text : List ℕ) (answer : Answer) (records records′ n
   pub beyond : (drop record-words records′ ≡ drop record-words records) × (drop number-words numbers′ ≡ drop number-words numbers)
   -- "unused working words are 0": those after the records, and those after the sub-identifiers
   pub unused : number-of answer ≡ 0
-      → (drop (count-of answer * record-width) (take record-words records′) ≡ zeros (record-words - count-of answer * record-width))
+      → (drop (answered-count answer * record-width) (take record-words records′) ≡ zeros (record-words - answered-count answer * record-width))
       × (drop (length (module-of (meanings-in text) .numbers)) (take number-words numbers′)
       ≡ zeros (number-words - length (module-of (meanings-in text) .numbers)))
 
@@ -87,8 +87,8 @@ pub record SecondDemand (text : List ℕ) (answer : Answer) (records records′ 
   -- accepted, number 0, exactly when no rule is broken anywhere
   pub accepted-exactly : (number-of answer ≡ 0) ↔ ((number place : ℕ) → InBreach text (length records) (length numbers) number place → ⊥)
   -- "Accepted answers number 0, place 0 and the definition count; a refusal's count is 0"
-  pub counted : number-of answer ≡ 0 → (place-of answer ≡ 0) × (count-of answer ≡ definitions-in (module-of (meanings-in text)))
-  pub not-counted : 0 < number-of answer → count-of answer ≡ 0
+  pub counted : number-of answer ≡ 0 → (place-of answer ≡ 0) × (answered-count answer ≡ definitions-in (module-of (meanings-in text)))
+  pub not-counted : 0 < number-of answer → answered-count answer ≡ 0
   -- "Ten words each, in text order", and then zeros; the words beyond as they were
   pub recorded : number-of answer ≡ 0
       → records′ ≡ filled record-words (records-of (cut text .tokens) (module-of (meanings-in text))) records
@@ -102,7 +102,7 @@ pub record SecondDemand (text : List ℕ) (answer : Answer) (records records′ 
       → OidIs (named (meanings-in text)) k (oid-of (module-of (meanings-in text)) k)
   -- "first index and count of its sub-identifiers": words 3 and 4 of record k cut the OID of definition k out of the number buffer as it
   -- is left
-  pub cut-out : number-of answer ≡ 0 → (k : ℕ) → k < count-of answer → has-value (at (named (meanings-in text)) k) ≡ true
+  pub cut-out : number-of answer ≡ 0 → (k : ℕ) → k < answered-count answer → has-value (at (named (meanings-in text)) k) ≡ true
       → OidIs (named (meanings-in text)) k (take (record-word records′ k 4) (drop (record-word records′ k 3) numbers′))
 
 -- The third demand, of a text within the limits that cuts into tokens: refusal 7 exactly when the grammar derives no such token
