@@ -1,5 +1,5 @@
 // Bytes that a file, a device or a user chose. Control bytes among them are not to reach a terminal, nor to break a line of a list.
-ghost use Prim.Native.Nat.{_+_, _≤_};
+ghost use Prim.Native.Nat.{_+_, _*_, _≤_};
 ghost use lib.ListN.{length};
 ghost use Rattle.output.specs.Status.{Printed};
 use crate::Output;
@@ -73,7 +73,8 @@ fn write_by(fd: i32, bytes: &[u8], manner: Manner) -> bool {
     let mut i = 0;
     while i < bytes.len() {
         let count = chunk(bytes.len() - i);
-        if !write_chunk(fd, bytes, i, count, manner) {
+        let mut space = io::buffer();
+        if !write_chunk(fd, bytes, i, count, manner, &mut space) {
             return false;
         }
         i += count;
@@ -91,12 +92,17 @@ fn chunk(left: usize) -> usize
     if left < CHUNK { left } else { CHUNK }
 }
 
-fn write_chunk(fd: i32, bytes: &[u8], from: usize, count: usize, manner: Manner) -> bool
+fn write_chunk(
+    fd: i32,
+    bytes: &[u8],
+    from: usize,
+    count: usize,
+    manner: Manner,
+    space: &mut [u8],
+) -> bool
     requires inside { ⌜ from + count ≤ length (now bytes) ⌝ }
-    requires few { ⌜ count ≤ 1024 ⌝ }
+    requires room { ⌜ 4 * count ≤ length (now space) ⌝ }
 {
-    let mut space = io::buffer();
-    let view: &mut [u8] = &mut space;
-    let n = write_visible(bytes, from, count, manner, view);
-    io::write_all(fd, &view[..n])
+    let n = write_visible(bytes, from, count, manner, space);
+    io::write_all(fd, &space[0..n])
 }

@@ -111,7 +111,7 @@ pub fn write_visible(
     requires inside { ⌜ from + count ≤ length (now bytes) ⌝ }
     requires room { ⌜ 4 * count ≤ length (now out) ⌝ }
     ensures bytes { λ r. ⌜ Wrote (visible manner (now (bytes .entry)) from count) 0 r (now (out .entry)) (now (out .exit)) ⌝ }
-    ensures short { λ r. ⌜ r ≤ 4 * count ⌝ }
+    ensures inside { λ r. ⌜ r ≤ length (now (out .exit)) ⌝ }
 {
     let mut next = 0;
     let mut i = 0;

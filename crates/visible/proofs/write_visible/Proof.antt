@@ -57,7 +57,7 @@ returns c =
     let a = c .before .before .before .before .args in
     let v = c .before .loop .inv in
     let end : c .before .loop .i ≡ a .count = omega (arith, v .1, c .loop-test .left) in
-    (wrote-as (ap (visible (a .manner) (a .bytes .now) (a .from)) end) (v .0), omega (arith, v .2, v .1))
+    (wrote-as (ap (visible (a .manner) (a .bytes .now) (a .from)) end) (v .0), omega (arith, v .2, v .1, v .3, c .before .before .before .before .pre))
 
 pub write-visible-spec : {M : Type 1} → statement M
 write-visible-spec =

@@ -21,6 +21,12 @@ sub-chunk c = search needs
 chunk-requires : tie.Need-chunk-requires Inv-loop μ-loop
 chunk-requires c κs = search needs
 
+buffer-requires : tie.Need-buffer-requires Inv-loop μ-loop
+buffer-requires c κs = search needs
+
+slice-aggregate-write-chunk : tie.Need-slice-aggregate-write-chunk Inv-loop μ-loop
+slice-aggregate-write-chunk c = search needs
+
 write-chunk-requires : tie.Need-write-chunk-requires Inv-loop μ-loop
 write-chunk-requires c κs = search needs
 
@@ -48,6 +54,8 @@ write-by-spec =
     loop-holds
     sub-chunk
     chunk-requires
+    buffer-requires
+    slice-aggregate-write-chunk
     write-chunk-requires
     returns
     add-i
