@@ -156,7 +156,7 @@ pub fn name_of<'a>(text: &'a [u8], words: &[u32]) -> &'a [u8]
 }
 
 // The sub-identifiers of a definition.
-pub fn oid_of<'a>(numbers: &'a [u32], words: &[u32]) -> &'a [u32]
+fn oid_of<'a>(numbers: &'a [u32], words: &[u32]) -> &'a [u32]
     ensures { λ r. ⌜ now r ≡ sub-identifiers (now (numbers .entry)) (now (words .entry)) ⌝ }
 {
     let part = part_of(
@@ -209,7 +209,7 @@ fn write_pointed(numbers: &[u32], out: &mut [u8], at: usize) -> usize
 }
 
 // Writes numbers with points between them, or a hyphen where there are none.
-pub fn write_dotted(numbers: &[u32], out: &mut [u8], at: usize) -> usize
+fn write_dotted(numbers: &[u32], out: &mut [u8], at: usize) -> usize
     requires numbers { ⌜ length (now numbers) ≤ longest-oid ⌝ }
     requires room { ⌜ at + oid-room ≤ length (now out) ⌝ }
     ensures bytes { λ r. ⌜ Wrote (dotted (now (numbers .entry))) at r (now (out .entry)) (now (out .exit)) ⌝ }
@@ -220,6 +220,15 @@ pub fn write_dotted(numbers: &[u32], out: &mut [u8], at: usize) -> usize
     }
     let next = write_number(numbers[0], out, at);
     write_pointed(&numbers[1..], out, next)
+}
+
+// Writes the OID of a record, or a hyphen.
+pub fn write_oid_of(words: &[u32], numbers: &[u32], out: &mut [u8], at: usize) -> usize
+    requires { ⌜ at + oid-room ≤ length (now out) ⌝ }
+    ensures bytes { λ r. ⌜ Wrote (dotted (sub-identifiers (now (numbers .entry)) (now (words .entry)))) at r (now (out .entry)) (now (out .exit)) ⌝ }
+    ensures short { λ r. ⌜ r ≤ at + oid-room ⌝ }
+{
+    write_dotted(oid_of(numbers, words), out, at)
 }
 
 // Writes a name and a tab.

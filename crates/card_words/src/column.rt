@@ -24,16 +24,23 @@ const ACCESS: usize = 21;
 
 const STATUS: usize = 10;
 
-// So many blanks at most stand behind a word.
-const BLANKS: usize = 64;
+// So many blanks at most stand behind a word: no OID has more bytes.
+const BLANKS: usize = 1536;
+
+// How many bytes the longest name of a card has, and the longest OID.
+struct Longest {
+    name: usize,
+    oid: usize,
+}
 
 // The widths of a card's columns; those of names and OIDs are the longest's.
 pub fn measure(records: &[u32], numbers: &[u32], aligned: bool) -> Widths {
     if aligned {
+        let longest = longest_in(records, numbers);
         return Widths {
             kind: KIND,
-            name: longest_name(records),
-            oid: longest_oid(records, numbers),
+            name: longest.name,
+            oid: longest.oid,
             class: CLASS,
             access: ACCESS,
             status: STATUS,
@@ -49,69 +56,55 @@ pub fn measure(records: &[u32], numbers: &[u32], aligned: bool) -> Widths {
     }
 }
 
-fn longer(a: usize, b: usize) -> usize {
+fn longest_in(records: &[u32], numbers: &[u32]) -> Longest {
+    let mut longest = Longest { name: 0, oid: 0 };
+    let mut k = 0;
+    while k < RECORDS {
+        longest = with_record(longest, record_at(records, k), numbers);
+        k += 1;
+    }
+    longest
+}
+
+// The same with one record more.
+fn with_record(longest: Longest, words: &[u32], numbers: &[u32]) -> Longest {
+    let name = card_line::word(words, card_line::NAME_LENGTH) as usize;
+    let mut line = io::buffer();
+    let oid = card_line::write_oid_of(words, numbers, &mut line, 0);
+    Longest {
+        name: larger(longest.name, name),
+        oid: larger(longest.oid, oid),
+    }
+}
+
+fn larger(a: usize, b: usize) -> usize {
     if a < b { b } else { a }
 }
 
-fn longest_name(records: &[u32]) -> usize {
-    let mut longest = 0;
-    let mut k = 0;
-    while k < RECORDS {
-        let size = card_line::word(record_at(records, k), card_line::NAME_LENGTH);
-        longest = longer(longest, size as usize);
-        k += 1;
-    }
-    longest
-}
-
-fn longest_oid(records: &[u32], numbers: &[u32]) -> usize {
-    let mut longest = 0;
-    let mut k = 0;
-    while k < RECORDS {
-        longest = longer(longest, oid_width(record_at(records, k), numbers));
-        k += 1;
-    }
-    longest
-}
-
-// How many bytes an OID has with its points.
-fn oid_width(words: &[u32], numbers: &[u32]) -> usize {
-    let mut line = [0u8; 2048];
-    card_line::write_dotted(card_line::oid_of(numbers, words), &mut line, 0)
-}
-
-// A word and what stands behind it.
+// A word and what stands behind it: a tab, or blanks up to two behind the longest.
 pub fn print_column(word: &[u8], width: usize, out: Output) -> Output {
     let out = print(out, word);
     if width == 0 {
         return output::print_tab(out);
     }
-    print_blanks(width + 2, word.len(), out)
+    print_blanks(blanks_behind(word.len(), width), out)
+}
+
+fn blanks_behind(size: usize, width: usize) -> usize {
+    if size < width { width - size } else { 0 }
+}
+
+// So many blanks, and two more.
+fn print_blanks(count: usize, out: Output) -> Output {
+    let blanks = [b' '; BLANKS];
+    let out = print(out, b"  ");
+    if BLANKS < count {
+        return out;
+    }
+    print(out, &blanks[0..count])
 }
 
 // The last word of a line.
 pub fn print_last(word: &[u8], out: Output) -> Output {
     output::end_line(print(out, word))
-}
-
-// As many blanks as a word of this size leaves up to the next column, and one at least.
-fn print_blanks(width: usize, size: usize, out: Output) -> Output {
-    let blanks = [32u8; BLANKS];
-    let left = if size < width { width - size } else { 1 };
-    if BLANKS < left {
-        let most = print(out, &blanks);
-        return print_blanks_more(left - BLANKS, most);
-    }
-    print(out, &blanks[0..left])
-}
-
-// An OID may be longer than one row of blanks.
-fn print_blanks_more(count: usize, out: Output) -> Output {
-    let mut next = out;
-    let mut i = 0;
-    while i < count {
-        next = print(next, b" ");
-        i += 1;
-    }
-    next
 }

@@ -118,8 +118,8 @@ fn print_definition(
     let kind = card_line::word(words, card_line::KIND);
     let out = meaning::print_kind(kind, widths.kind, out);
     let out = print_column(card_line::name_of(text, words), widths.name, out);
-    let mut line = [0u8; 2048];
-    let end = card_line::write_dotted(card_line::oid_of(numbers, words), &mut line, 0);
+    let mut line = io::buffer();
+    let end = card_line::write_oid_of(words, numbers, &mut line, 0);
     print_column(&line[0..end], widths.oid, out)
 }
 
