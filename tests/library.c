@@ -1,7 +1,7 @@
 /*
  * Tests of include/mib.h over the library: C99, and C++ too. What is expected was worked out from document 01.
  * Says on standard error what failed; the last line of standard output has the counts. Exit status: 0 when all passed.
- * With the word words it lists the header's words instead, to be compared with those of the wrapper in Rust.
+ * With the word list it lists the header's sizes and words instead, to be compared with those of the wrapper in Rust.
  */
 #include <stdio.h>
 #include <string.h>
@@ -358,19 +358,20 @@ static void test_words(void)
                                   strcmp(mib_row_text(50), "no call answers this number") == 0);
 }
 
-/* The same list as examples/rust/examples/words.rs. */
-static void list_words(void)
+/* The same list as examples/rust/examples/list.rs prints. */
+static void list(void)
 {
     size_t k;
 
+    printf("sizes\t%d\t%d\t%d\t%d\t%d\n", MIB_RECORD_WORDS, MIB_NUMBER_WORDS, MIB_OCTETS_OUT, MIB_INTEGER_OUT, MIB_STACK_BYTES);
     for (k = 0; k < WORDED; k++)
         printf("%u\t%s\t%s\n", worded(k), mib_refusal_text(worded(k)), mib_row_text(worded(k)));
 }
 
 int main(int argc, char **argv)
 {
-    if (argc == 2 && strcmp(argv[1], "words") == 0) {
-        list_words();
+    if (argc == 2 && strcmp(argv[1], "list") == 0) {
+        list();
         return 0;
     }
     test_accepted();
