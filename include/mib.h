@@ -250,8 +250,8 @@ static inline struct mib_step mib_set_row(uint64_t state, int64_t value, int com
  * mib_row_text of one that mib_set_row answers. There are two, since 10 and 12 of a row are not those of a reading. Any
  * other number has a sentence too. It is never NULL, and stays there; nobody frees it or writes to it.
  */
-static inline const char *mib_refusal_text(unsigned number);
-static inline const char *mib_row_text(unsigned number);
+static inline const char *mib_refusal_text(size_t number);
+static inline const char *mib_row_text(size_t number);
 
 /* ---- The library's own functions ---- */
 
@@ -333,7 +333,7 @@ static inline struct mib_step mib_set_row(uint64_t state, int64_t value, int com
     return step;
 }
 
-static inline const char *mib_refusal_text(unsigned number)
+static inline const char *mib_refusal_text(size_t number)
 {
     switch (number) {
     case MIB_READ_ACCEPTED:
@@ -397,7 +397,7 @@ static inline const char *mib_refusal_text(unsigned number)
     }
 }
 
-static inline const char *mib_row_text(unsigned number)
+static inline const char *mib_row_text(size_t number)
 {
     switch (number) {
     case MIB_ROW_NO_ERROR:

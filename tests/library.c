@@ -315,26 +315,26 @@ static void test_answers(void)
 /* How many numbers are tried: each up to 50, and some beyond. */
 #define WORDED 55
 
-static unsigned worded(size_t k)
+static size_t worded(size_t k)
 {
-    static const unsigned beyond[] = {255, 256, 65536, 4294967295u};
+    static const size_t beyond[] = {255, 256, 65536, 4294967295u};
 
-    return k <= 50 ? (unsigned)k : beyond[k - 51];
+    return k <= 50 ? k : beyond[k - 51];
 }
 
 /* What mib_read and the printers answer, and what mib_set_row answers. */
-static int of_refusals(unsigned number)
+static int of_refusals(size_t number)
 {
     return number <= 22 || (number >= 30 && number <= 34);
 }
 
-static int of_rows(unsigned number)
+static int of_rows(size_t number)
 {
     return number == 0 || number == 10 || number == 12 || number == 40;
 }
 
 /* A number that is answered has words that no other number has, and all others have those of 50. */
-static int words_fit(const char *(*words)(unsigned), int (*answered)(unsigned), unsigned number)
+static int words_fit(const char *(*words)(size_t), int (*answered)(size_t), size_t number)
 {
     const char *found = words(number);
     size_t k;
@@ -361,6 +361,7 @@ static void test_words(void)
     check("the words of 30", strcmp(mib_refusal_text(MIB_PRINT_SHORT_BUFFER), "the output buffer is too short") == 0);
     check("10 of a reading", strstr(mib_refusal_text(MIB_READ_NOT_OFFERED), "does not offer") != NULL);
     check("10 of a row", strcmp(mib_row_text(MIB_ROW_WRONG_VALUE), "wrongValue: the set value is refused") == 0);
+    check("a number of more than 32 bits", strcmp(mib_refusal_text((size_t)1 << 32), mib_refusal_text(50)) == 0);
     check("any other number", strcmp(mib_refusal_text(50), "no call answers this number") == 0 &&
                                   strcmp(mib_row_text(50), "no call answers this number") == 0);
 }
@@ -372,7 +373,7 @@ static void list(void)
 
     printf("sizes\t%d\t%d\t%d\t%d\t%d\n", MIB_RECORD_WORDS, MIB_NUMBER_WORDS, MIB_OCTETS_OUT, MIB_INTEGER_OUT, MIB_STACK_BYTES);
     for (k = 0; k < WORDED; k++)
-        printf("%u\t%s\t%s\n", worded(k), mib_refusal_text(worded(k)), mib_row_text(worded(k)));
+        printf("%zu\t%s\t%s\n", worded(k), mib_refusal_text(worded(k)), mib_row_text(worded(k)));
 }
 
 int main(int count, char **words)

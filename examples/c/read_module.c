@@ -61,7 +61,7 @@ static int show_module(size_t length)
     size_t k;
 
     if (reading.number != MIB_READ_ACCEPTED) {
-        printf("refused\t%zu\t%zu\t%s\n", reading.number, reading.place, mib_refusal_text((unsigned)reading.number));
+        printf("refused\t%zu\t%zu\t%s\n", reading.number, reading.place, mib_refusal_text(reading.number));
         return 1;
     }
     printf("accepted\t%zu\n", reading.count);
@@ -79,7 +79,7 @@ static void show_value(void)
 
     if (printing.number != MIB_PRINT_DONE) {
         printf("value refused\t%zu\t%zu\t%s\n", printing.number, printing.place,
-               mib_refusal_text((unsigned)printing.number));
+               mib_refusal_text(printing.number));
         return;
     }
     fputs("value\t", stdout);
@@ -92,7 +92,7 @@ static void show_row(void)
 {
     struct mib_step step = mib_set_row(MIB_ROW_NOT_READY, MIB_SET_ACTIVE, 0, 1);
 
-    printf("row\t%zu\t%" PRIu64 "\t%s\n", step.number, step.next, mib_row_text((unsigned)step.number));
+    printf("row\t%zu\t%" PRIu64 "\t%s\n", step.number, step.next, mib_row_text(step.number));
 }
 
 int main(int argc, char **argv)
