@@ -173,3 +173,9 @@ test_front_building_refused() {
     [ $? = 2 ] && [ ! -s "$scratch/output" ] && [ "$(wc -l <"$scratch/errors")" = 1 ] && grep -q 'a repository that can be written to' "$scratch/errors"
     report "mib in a repository that cannot be written to" "$?"
 }
+
+# Each text is answered within so many kilobytes of stack, a quarter more than tests/stack measures.
+test_front_stack() {
+    tests/stack --under 1800 target/bin/card target/bin/explain target/bin/shelf >&2
+    report "card, explain and shelf run with 1,800 KB of stack" "$?"
+}
