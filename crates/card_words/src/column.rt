@@ -1,5 +1,4 @@
 // Columns: with a tab behind each, or at a terminal with blanks up to the next.
-ghost use Prim.Native.Nat.{_≤_};
 use crate::RECORDS;
 use crate::record_at;
 use output::Output;

@@ -8,8 +8,8 @@ mod syntax_line;
 
 use card_line::write_head;
 use column::Widths;
-use column::print_last;
 use column::print_column;
+use column::print_last;
 use output::Output;
 use reader::Answer;
 use reader::FILE_BYTES;
