@@ -81,25 +81,15 @@ fn answer_case(case: &[u8], separator: u8, line: u64, out: Output) -> Output {
     complain(out, line, kind, b"is neither octets nor integer")
 }
 
-// Prints octets, which are written in hexadecimal, by a hint. A blank or a colon may stand between two pairs of digits.
+// Prints octets, which are written in hexadecimal as tools print them, by a hint.
 fn answer_octets(hint_word: &[u8], hex: &[u8], line: u64, out: Output) -> Output {
-    let mut digits = io::large_buffer();
-    if digits.len() < hex.len() {
-        return complain_long(out, line);
-    }
-    let n = words::join_pairs(hex, &mut digits);
-    answer_digits(hint_word, hex, &digits[0..n], line, out)
-}
-
-// The same of the digits alone, which `hex` holds.
-fn answer_digits(hint_word: &[u8], hex: &[u8], digits: &[u8], line: u64, out: Output) -> Output {
     let mut space = io::large_buffer();
-    let Octets::Are(n) = words::read_hex(digits, &mut space) else {
+    let Octets::Are(n) = words::read_octets(hex, &mut space) else {
         return complain(
             out,
             line,
             hex,
-            b"is not pairs of hex digits, each with a blank or a colon behind it or none",
+            b"is no octets in hex digits as mib help hint has them",
         );
     };
     print_octets(hint_word, &space[..n], out)
