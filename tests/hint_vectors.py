@@ -76,10 +76,24 @@ def octets_text(pieces, value):
     return out
 
 
+BLANKS = '[\\t-\\r ]*'
+HEX = '[0-9A-Fa-f]'
+# digits in pairs; or one digit by itself, with a colon or a hyphen directly behind it or before it
+RUN = f'(?:(?:{HEX}{{2}})+(?!{HEX})|(?<!{HEX}){HEX}(?=[:-])|(?<=[:-]){HEX}(?!{HEX}))'
+
+
+def value_of(word):
+    """The octets that a word writes, or None."""
+    body = re.sub(f'\\A{BLANKS}(?:Hex-STRING:|0[xX])?', '', word)
+    if not re.fullmatch(f'{BLANKS}(?:{RUN}[:-]?{BLANKS})*', body):
+        return None
+    runs = re.findall(RUN, body)
+    return b''.join(bytes.fromhex(run if len(run) % 2 == 0 else '0' + run) for run in runs)
+
+
 def octets(hint, hexed):
-    # one blank or one colon may stand behind each pair of digits
-    assert re.fullmatch('(?:[0-9A-Fa-f]{2}[ :]?)*', hexed)
-    value = bytes.fromhex(re.sub('[ :]', '', hexed))
+    value = value_of(hexed)
+    assert value is not None
     if len(value) > 1024:
         return b'refused\t31\t0'
     pieces = pieces_of(hint)
@@ -300,7 +314,7 @@ CASES = [
     ('integer', 'a', '5', refused(32)),
 ]
 
-# octets as tools of SNMP print them
+# octets as tools of SNMP print them: with something behind each or nothing, single digits between marks, a heading
 CASES += [
     ('octets', '1x:', '07 E6 0B', T + '7:e6:b'),
     ('octets', '1x:', '07 E6 0B ', T + '7:e6:b'),
@@ -308,11 +322,35 @@ CASES += [
     ('octets', '1x:', '07:e6:0b:', T + '7:e6:b'),
     ('octets', '1x:', '07e6 0b:0c', T + '7:e6:b:c'),
     ('octets', '1d.1d.1d.1d', 'C0 A8 00 01', T + '192.168.0.1'),
+    ('octets', '1x:', '07  e6', T + '7:e6'),
+    ('octets', '1x:', ' 07', T + '7'),
+    ('octets', '1x:', '  07 \x0be6 \x0c', T + '7:e6'),
+    ('octets', '1x:', '07\re6', T + '7:e6'),
+    ('octets', '1x:', '00-1B-44-11-3A-B7', T + '0:1b:44:11:3a:b7'),
+    ('octets', '1x:', '0:1b:2:3', T + '0:1b:2:3'),
+    ('octets', '1x:', '0-1b-2-3', T + '0:1b:2:3'),
+    ('octets', '1x:', '07:e', T + '7:e'),
+    ('octets', '1x:', 'e:', T + 'e'),
+    ('octets', '1x:', '07: e6', T + '7:e6'),
+    ('octets', '1x:', '1:0203:4', T + '1:2:3:4'),
+    ('octets', '1x:', '01 2:3 04', T + '1:2:3:4'),
+    ('octets', '1x:', '0x07E6', T + '7:e6'),
+    ('octets', '1x:', '0X07 e6', T + '7:e6'),
+    ('octets', '1x:', ' 0x 7:e6', T + '7:e6'),
+    ('octets', '1x:', 'Hex-STRING: 00 1B 44 11 3A B7 ', T + '0:1b:44:11:3a:b7'),
+    ('octets', '1x:', ' Hex-STRING:001b', T + '0:1b'),
+    ('octets', '1x', '0x', T),
+    ('octets', '1x', 'Hex-STRING: ', T),
+    ('octets', '1x', ' ', T),
 ]
 
+# words that are no octets: odd runs, single digits between blanks, marks behind no octet, other headings
+NO_OCTETS = ['0', 'abc', '07abc', 'abc:07', '07:abc', '0 7', '1 2', '07 8', '1: 2', '07::e6', '07:-e6', '07 :e6', ':07', '-07', '07.08', '07,08', '0g',
+             '0x0', '0x:07', '0x07 0x08', '0x0x07', 'x07', 'Hex-STRING:5', 'Hex-STRING 07', 'hex-string: 07', 'STRING: 07', 'Hex-STRING: 0x07', '07\0']
+
 # words that are none of these: the line `misfit` beside a message on standard error, and the list goes on
-NO_CASE = ['', 'octets', 'octets\t1x', 'octets\t1x\t0', 'octets\t1x\t0g', 'octets\t1x\t01\tmore', 'integer\td\t', 'integer\td\t+5', 'integer\td\t1.5', 'bytes\t1x\t01',
-           'octets\t1x\t07  e6', 'octets\t1x\t07::e6', 'octets\t1x\t:07', 'octets\t1x\t 07', 'octets\t1x\t0 7', 'octets\t1x\t07-e6', 'octets\t1x\t07:e']
+NO_CASE = ['', 'octets', 'octets\t1x', 'octets\t1x\t01\tmore', 'integer\td\t', 'integer\td\t+5', 'integer\td\t1.5', 'bytes\t1x\t01']
+NO_CASE += ['octets\t1x\t' + word for word in NO_OCTETS]
 
 
 def encoded(text):
@@ -321,6 +359,10 @@ def encoded(text):
 
 def build():
     given, wanted, wrong = [], [], 0
+    for word in NO_OCTETS:
+        if value_of(word) is not None:
+            print('hint_vectors: %r: by hand no octets, read %r' % (word, value_of(word)), file=sys.stderr)
+            wrong += 1
     for kind, hint, value, by_hand in CASES:
         hint = encoded(hint) if any(ord(c) > 127 for c in hint) else hint.encode('latin-1')
         read = (octets if kind == 'octets' else integer)(hint, value)

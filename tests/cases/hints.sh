@@ -15,6 +15,26 @@ test_hints_octets() {
     expect "hint: an empty value" 0 "$(line printed "")" "" hint octets 1x ""
 }
 
+# Octets as tools print them, also over several lines.
+test_hints_octets_as_printed() {
+    expect "hint: a heading, and line ends between octets" 0 "$(line printed 0:1b:44:11)" "" hint octets 1x: "$(printf 'Hex-STRING: 00 1B \n44 11 \n')"
+    expect "hint: line ends of two bytes, and tabs" 0 "$(line printed 0:1b:44)" "" hint octets 1x: "$(printf '00\t1B \r\n44 \r')"
+    expect "hint: single digits between colons" 0 "$(line printed 0:1b:2:3)" "" hint octets 1x: 0:1b:2:3
+    expect "hint: hyphens" 0 "$(line printed 0:1b:2)" "" hint octets 1x: 00-1B-02
+    expect "hint: 0x" 0 "$(line printed 192.168.0.1)" "" hint octets 1d.1d.1d.1d 0xC0A80001
+    expect "hint: blanks at both ends, and several" 0 "$(line printed 7:e6)" "" hint octets 1x: '  07   E6  '
+    expect "hint names an odd run" 2 "" "'abc'" hint octets 1x abc
+    expect "hint names single digits between blanks" 2 "" "'1 2'" hint octets 1x '1 2'
+    expect "hint names what has nothing between two colons" 2 "" "'fe80::1'" hint octets 1x fe80::1
+}
+
+test_hints_many_octets() {
+    started=$(date +%s)
+    (printf 'octets\t1x\t' && yes '07' | head -n 20000 | tr '\n' ' ') | ./mib hint >"$scratch/output" 2>"$scratch/errors"
+    [ "$?" = 1 ] && [ "$(cat "$scratch/output")" = "$(line refused 31 0)" ] && [ $(($(date +%s) - started)) -lt 5 ]
+    report "hint: 20,000 octets are too many, and said at once" "$?"
+}
+
 test_hints_integers_out_of_range() {
     expect "hint: a number past 64 bits" 1 "$(line refused 34 0)" "" hint integer x 99999999999999999999999
     expect "hint: 32 comes before 34" 1 "$(line refused 32 0)" "" hint integer x-1 99999999999999999999999
