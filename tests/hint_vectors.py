@@ -91,6 +91,11 @@ def value_of(word):
     return b''.join(bytes.fromhex(run if len(run) % 2 == 0 else '0' + run) for run in runs)
 
 
+def escaped(text):
+    """A text in a line of a list: control bytes and the backslash as their numbers."""
+    return b''.join(b'\\x%02x' % o if o < 32 or o in (92, 127) else bytes([o]) for o in text)
+
+
 def octets(hint, hexed):
     value = value_of(hexed)
     assert value is not None
@@ -104,7 +109,7 @@ def octets(hint, hexed):
     except Fault as f:
         return b'refused\t33\t%d' % f.args[0]
     assert len(text) <= 4 * len(value)
-    return b'printed\t' + text
+    return b'printed\t' + escaped(text)
 
 
 def integer(hint, number):
@@ -229,7 +234,7 @@ CASES = [
     ('octets', '4x', 'DEADBEEF', T + 'deadbeef'),
     ('octets', '3d.3o', '00ffff000040', T + '65535.100'),
     # octets that are no ASCII
-    ('octets', '1a', '41427f', T + 'AB\x7f'),
+    ('octets', '1a', '41427f', T + 'AB\\x7f'),
     ('octets', '1a', '414280', refused(33, 2)),
     ('octets', '*2a.', '0241424380', refused(33, 4)),
     ('octets', '1d.255a', '80ff', refused(33, 1)),
@@ -344,6 +349,18 @@ CASES += [
     ('octets', '1x', ' ', T),
 ]
 
+# texts with control bytes or backslashes: one line each. Bytes over 127 stay as they are
+CASES += [
+    ('octets', '255a', '0a', T + '\\x0a'),
+    ('octets', '255a', '0d0a', T + '\\x0d\\x0a'),
+    ('octets', '255a', '4109420943', T + 'A\\x09B\\x09C'),
+    ('octets', '255a', '001b5b316d1f207e7f', T + '\\x00\\x1b[1m\\x1f ~\\x7f'),
+    ('octets', '255a', '5c6e', T + '\\x5cn'),
+    ('octets', '255a', '5c783061', T + '\\x5cx0a'),
+    ('octets', '1x\\', '0102', T + '1\\x5c2'),
+    ('octets', '255t', 'c3a90ac285', T + '\u00e9\\x0a\u0085'),
+]
+
 # words that are no octets: odd runs, single digits between blanks, marks behind no octet, other headings
 NO_OCTETS = ['0', 'abc', '07abc', 'abc:07', '07:abc', '0 7', '1 2', '07 8', '1: 2', '07::e6', '07:-e6', '07 :e6', ':07', '-07', '07.08', '07,08', '0g',
              '0x0', '0x:07', '0x07 0x08', '0x0x07', 'x07', 'Hex-STRING:5', 'Hex-STRING 07', 'hex-string: 07', 'STRING: 07', 'Hex-STRING: 0x07', '07\0']
@@ -394,4 +411,5 @@ def main():
     sys.exit(1 if wrong else 0)
 
 
-main()
+if __name__ == '__main__':
+    main()
