@@ -1,8 +1,7 @@
 // What is wrong with a hint, and at which byte, for people.
-ghost use Prim.Native.Nat.{_<_};
 ghost use mathlib.Core.Path.{_≡_};
-ghost use lib.ListN.{length};
-ghost use Rattle.hint_form.specs.Fault.{format-fault, integer-fault, integer-letter, is-sound, length-fault, longer, octets-fault, pieces-fault, places-fault, point-fault};
+ghost use Rattle.hint_form.specs.Fault.{format-fault, length-fault, longer, octets-fault, pieces-fault, is-sound};
+ghost use Rattle.hint_form.specs.Fault.{integer-fault, integer-letter, places-fault, point-fault};
 ghost use Rattle.hint_form.specs.Hint.{is-pieces, read-hint};
 use crate::first_stuck;
 use crate::is_digit;

@@ -94,7 +94,7 @@ fn answer_octets(hint_word: &[u8], hex: &[u8], line: u64, out: Output) -> Output
             out,
             line,
             hex,
-            b"is no octets in hex digits as mib help hint has them",
+            b"is no octets in hex digits, as mib help hint has them",
         );
     };
     print_octets(hint_word, &space[..n], line, out)

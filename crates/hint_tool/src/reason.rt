@@ -14,7 +14,11 @@ pub fn explain(hint: &[u8], fault: Fault) {
         Fault::Wide(place) => say_byte(hint, place, b"takes a length of at most 8\n"),
         Fault::Long => say(255, b"a hint has at most 255 bytes\n"),
         Fault::NoForm(place) => {
-            say_byte(hint, place, b"fits no hint for integers (x o b d d-1 to d-10)\n")
+            say_byte(
+                hint,
+                place,
+                b"fits no hint for integers (x o b d d-1 to d-10)\n",
+            )
         }
     }
 }

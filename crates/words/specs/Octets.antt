@@ -86,7 +86,7 @@ joined (Pass before) others = others
 joined (Put octet before) others = in-front octet others
 joined Wrong others = none
 
--- what bytes write, by what stands before them. Behind the last byte stands no digit and no mark, as behind none 0 is
+-- what bytes write, by what stands before them. For the byte behind the last one stands 0, which is no digit and no mark
 unfoldable pub octets-from : Before → List ℕ → Writing
 octets-from before [] = octets []
 octets-from before (b ∷ rest) =

@@ -2,8 +2,17 @@
 ghost use mathlib.Core.Path.{_≡_};
 ghost use Prim.Native.Nat.{_≤_};
 ghost use lib.ListN.{length};
-ghost use Rattle.words.specs.Octets.{blanks, front, heading, starts};
-use crate::octets::is_blank;
+ghost use Rattle.words.specs.Octets.{blank, blanks, front, heading, starts};
+
+// A tab, a line end and its kin, or a blank.
+pub fn is_blank(b: u8) -> bool
+    ensures { λ r. ⌜ r ≡ blank b ⌝ }
+{
+    if b == b' ' {
+        return true;
+    }
+    9 <= b && b <= 13
+}
 
 // How many blanks a word starts with.
 fn count_blanks(word: &[u8]) -> usize

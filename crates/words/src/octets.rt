@@ -2,8 +2,9 @@
 ghost use mathlib.Core.Path.{_≡_};
 ghost use Prim.Native.Nat.{_≤_, _<_};
 ghost use lib.ListN.{length};
-ghost use Rattle.words.specs.Octets.{alone, blank, count, digit-step, first-step, is-second, mark, mark-step, said, step, to-say};
+ghost use Rattle.words.specs.Octets.{alone, count, digit-step, first-step, is-second, mark, mark-step, said, step, to-say};
 use crate::heading::front;
+use crate::heading::is_blank;
 use crate::hex::hex_digit;
 use buffer::byte_at;
 
@@ -33,16 +34,6 @@ pub enum Step {
     Put(u8, Before),
     // It makes the word no octets.
     Wrong,
-}
-
-// A tab, a line end and its kin, or a blank.
-pub fn is_blank(b: u8) -> bool
-    ensures { λ r. ⌜ r ≡ blank b ⌝ }
-{
-    if b == b' ' {
-        return true;
-    }
-    9 <= b && b <= 13
 }
 
 fn is_mark(b: u8) -> bool

@@ -2,9 +2,7 @@
 -- Assumes nothing.
 use native.Mathlib.Omega.{arith}
 use mathlib.Core.Path.{sym, ap, _∙_}
-use lib.ListN.{length}
 use borrow.Author.Needs.{needs}
-use borrow.Author.Tests.{lt-leb, le-leb}
 use Rattle.hint_form.proofs.FaultLaws.{none-empty, none-long}
 use Rattle.hint_form.proofs.HintLaws.{nowhere, pieces-whole}
 use Rattle.hint_form.proofs.is_hint.Statement.{statement}

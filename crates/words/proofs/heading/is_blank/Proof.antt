@@ -2,8 +2,8 @@
 -- Assumes nothing.
 use borrow.Author.Tests.{eq-eqb, ne-eqb, le-leb, lt-leb}
 use Rattle.words.specs.Octets.{blank}
-use Rattle.words.proofs.octets.is_blank.Statement.{statement}
-use Rattle.words.proofs.octets.is_blank.Tie as tie
+use Rattle.words.proofs.heading.is_blank.Statement.{statement}
+use Rattle.words.proofs.heading.is_blank.Tie as tie
 
 returns : tie.Need-returns
 unfolding blank
