@@ -3,18 +3,23 @@
 
 hint_places.py PROGRAM  runs the program on hints, one at a time, and exits 1 where it says another place, or none
 
-The place is that of the first byte after which no good hint can begin so, or the hint's length. Good hints are those of the reading in
-hint_vectors.py; a hint can begin so where one of a few endings makes it good. One that is good but for its length is bad at byte 255.
+The place is that of the first byte after which no good hint can begin so, or the hint's length. Good hints are those of the independent
+reading; a hint can begin so where one of a few endings makes it good. One that is good but for its length is bad at byte 255; such long
+hints stand by hand alone.
 """
+import os
 import random
 import re
 import subprocess
 import sys
 
-import hint_vectors
+sys.dont_write_bytecode = True
+sys.path.insert(0, os.path.dirname(os.path.abspath(__file__)))
+import ask  # noqa: E402
 
-ENDINGS = {'octets': [b'', b'a', b'1a'], 'integer': [b'', b'1']}
-LIMIT = 255
+ENDINGS = {'octets': [b'', b'a', b'1a'], 'integer': [b'', b'1', b'd']}
+VALUES = {'octets': b'00', 'integer': b'0'}
+SHORT = 250
 
 # each with the place by hand; None where the hint is good
 BY_HAND = [
@@ -32,32 +37,24 @@ BY_HAND = [
 ]
 
 
-def is_good(kind, hint):
-    if kind == 'integer':
-        return hint_vectors.INTEGER.match(hint) is not None
-    at = 0
-    while at < len(hint):
-        m = hint_vectors.PIECE.match(hint, at)
-        if not m:
-            return False
-        at = m.end()
-    return len(hint) > 0
+def good_ones(hints):
+    """Those of some hints, each with its kind, that the reading takes."""
+    hints = sorted(set(hints))
+    said = ask.lines('hint', [kind.encode() + b'\t' + hint + b'\t' + VALUES[kind] for kind, hint in hints])
+    return {hint for hint, line in zip(hints, said) if not line.startswith(b'refused\t32\t')}
 
 
-def place(kind, hint):
-    """Where a hint is bad, or None."""
-    for i in range(len(hint)):
-        if not any(is_good(kind, hint[:i + 1] + ending) for ending in ENDINGS[kind]):
-            break
-    else:
-        i = None if is_good(kind, hint) else len(hint)
-    if kind == 'octets' and len(hint) > LIMIT:
-        return min(LIMIT, LIMIT if i is None else i)
-    return i
+def places(hints):
+    """Where each of some hints is bad, or None."""
+    starts = [(kind, hint[:end] + ending) for kind, hint in hints for end in range(len(hint) + 1) for ending in ENDINGS[kind]]
+    good = good_ones(starts)
+    for kind, hint in hints:
+        ends = [any((kind, hint[:end] + ending) in good for ending in ENDINGS[kind]) for end in range(len(hint) + 1)]
+        yield None if (kind, hint) in good else ends.index(False) - 1 if False in ends else len(hint)
 
 
 def said(program, kind, hint):
-    run = subprocess.run([program, kind, hint, b'00' if kind == 'octets' else b'0'], stdout=subprocess.PIPE, stderr=subprocess.PIPE, check=False)
+    run = subprocess.run([program, kind, hint, VALUES[kind]], stdout=subprocess.PIPE, stderr=subprocess.PIPE, check=False)
     if run.stdout.startswith(b'printed\t') and run.stderr == b'':
         return None
     match = re.fullmatch(rb'mib hint: the hint is bad at byte ([0-9]+): [^\n]+\n', run.stderr)
@@ -74,12 +71,14 @@ def generated(count):
 
 def main():
     wrong = 0
-    cases = [(kind, hint, place(kind, hint)) for kind, hint in generated(600)]
-    for kind, hint, by_hand in BY_HAND:
-        if place(kind, hint) != by_hand:
-            print('hint_places: %s %r: by hand %s, by endings %s' % (kind, hint, by_hand, place(kind, hint)), file=sys.stderr)
+    cases = list(BY_HAND)
+    short = [(kind, hint, by_hand) for kind, hint, by_hand in BY_HAND if len(hint) < SHORT]
+    for (kind, hint, by_hand), place in zip(short, places([case[:2] for case in short])):
+        if place != by_hand:
+            print('hint_places: %s %r: by hand %s, by endings %s' % (kind, hint, by_hand, place), file=sys.stderr)
             wrong += 1
-        cases.append((kind, hint, by_hand))
+    made = list(generated(600))
+    cases += [(*hint, place) for hint, place in zip(made, places(made))]
     for kind, hint, wanted in cases:
         got = said(sys.argv[1], kind, hint)
         if got != wanted:

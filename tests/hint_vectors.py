@@ -1,132 +1,22 @@
 #!/usr/bin/env python3
-"""The cases of crates/hint_tool, from a reading of document 01, "Printing by hint", of its own.
+"""The cases of crates/hint_tool, from the independent reading of document 01, "Printing by hint".
 
 hint_vectors.py          writes crates/hint_tool/stdin and crates/hint_tool/stdout
-hint_vectors.py --check  says whether the two files are those of this reading, and exits 1 where they are not
+hint_vectors.py --check  says whether the two files are those of the reading, and exits 1 where they are not
 
-What a case should print is written out by hand beside it, or computed by the reading below where it is long. The
-reading shares nothing with the crate: hints are matched by regular expressions, UTF-8 is Python's own strict decoder,
-digits are Python's. Every expectation that stands by hand is held against the reading too.
+What a case should print is written out by hand beside it, or computed by the reading where it is long. Every expectation
+that stands by hand is held against the reading too, which is handed the octets in plain pairs of digits.
 """
 import os
 import re
 import sys
 
-HERE = os.path.dirname(os.path.dirname(os.path.abspath(__file__)))
-MARK = rb'[ -)+-/:-~]'                      # 32 to 126, no digit and no `*` (42)
-LENGTH8 = rb'[1-8]'
-LENGTH255 = rb'(?:25[0-5]|2[0-4][0-9]|1[0-9][0-9]|[1-9][0-9]?)'
-PIECE = re.compile(
-    rb'(?:(?P<star>\*)(?P<n1>' + LENGTH8 + rb'(?=[xdo])|' + LENGTH255 + rb'(?=[at]))(?P<f1>[xdoat])(?:(?P<s1>' + MARK + rb')(?P<t1>' + MARK + rb')?)?'
-    rb'|(?P<n2>' + LENGTH8 + rb'(?=[xdo])|' + LENGTH255 + rb'(?=[at]))(?P<f2>[xdoat])(?P<s2>' + MARK + rb')?)', re.S)
-INTEGER = re.compile(rb'(?:(?P<base>[xobd])|d-(?P<point>10|[1-9]))\Z', re.S)
+sys.dont_write_bytecode = True
+TESTS = os.path.dirname(os.path.abspath(__file__))
+sys.path.insert(0, TESTS)
+import ask  # noqa: E402
 
-
-def pieces_of(hint):
-    """(star, length, format, separator, terminator) for each piece, or None."""
-    if not 1 <= len(hint) <= 255:
-        return None
-    found, at = [], 0
-    while at < len(hint):
-        m = PIECE.match(hint, at)
-        if not m:
-            return None
-        star = m.group('star') is not None
-        k = '1' if star else '2'
-        found.append((star, int(m.group('n' + k)), m.group('f' + k).decode(), m.group('s' + k) or b'', (m.group('t1') or b'') if star else b''))
-        at = m.end()
-    return found
-
-
-class Fault(Exception):
-    pass
-
-
-def use(form, octets, at):
-    if form == 'a':
-        for k, o in enumerate(octets):
-            if o > 127:
-                raise Fault(at + k)
-        return octets
-    if form == 't':
-        try:
-            octets.decode('utf-8', 'strict')
-        except UnicodeDecodeError as e:
-            raise Fault(at + e.start)
-        return octets
-    return format(int.from_bytes(octets, 'big'), {'x': 'x', 'd': 'd', 'o': 'o'}[form]).encode()
-
-
-def octets_text(pieces, value):
-    out, at, turn = b'', 0, 0
-    while at < len(value):
-        star, length, form, separator, terminator = pieces[min(turn, len(pieces) - 1)]
-        turn += 1
-        count = 1
-        if star:
-            count, at = value[at], at + 1
-        for left in range(count - 1, -1, -1):
-            if at == len(value):
-                break
-            octets = value[at:at + length]
-            out += use(form, octets, at)
-            at += len(octets)
-            if at < len(value):
-                out += terminator if left == 0 and terminator else separator
-    return out
-
-
-BLANKS = '[\\t-\\r ]*'
-HEX = '[0-9A-Fa-f]'
-# digits in pairs; or one digit by itself, with a colon or a hyphen directly behind it or before it
-RUN = f'(?:(?:{HEX}{{2}})+(?!{HEX})|(?<!{HEX}){HEX}(?=[:-])|(?<=[:-]){HEX}(?!{HEX}))'
-
-
-def value_of(word):
-    """The octets that a word writes, or None."""
-    body = re.sub(f'\\A{BLANKS}(?:Hex-STRING:|0[xX])?', '', word)
-    if not re.fullmatch(f'{BLANKS}(?:{RUN}[:-]?{BLANKS})*', body):
-        return None
-    runs = re.findall(RUN, body)
-    return b''.join(bytes.fromhex(run if len(run) % 2 == 0 else '0' + run) for run in runs)
-
-
-def escaped(text):
-    """A text in a line of a list: control bytes and the backslash as their numbers."""
-    return b''.join(b'\\x%02x' % o if o < 32 or o in (92, 127) else bytes([o]) for o in text)
-
-
-def octets(hint, hexed):
-    value = value_of(hexed)
-    assert value is not None
-    if len(value) > 1024:
-        return b'refused\t31\t0'
-    pieces = pieces_of(hint)
-    if pieces is None:
-        return b'refused\t32\t0'
-    try:
-        text = octets_text(pieces, value)
-    except Fault as f:
-        return b'refused\t33\t%d' % f.args[0]
-    assert len(text) <= 4 * len(value)
-    return b'printed\t' + escaped(text)
-
-
-def integer(hint, number):
-    m = INTEGER.match(hint)
-    if not m:
-        return b'refused\t32\t0'
-    n = int(number)
-    if not -2147483648 <= n <= 4294967295:
-        return b'refused\t34\t0'
-    sign, n = ('-' if n < 0 else ''), abs(n)
-    if m.group('base'):
-        text = format(n, m.group('base').decode())
-    else:
-        places = int(m.group('point'))
-        digits = str(n).rjust(places + 1, '0')
-        text = digits[:-places] + '.' + digits[-places:]
-    return b'printed\t' + (sign + text).encode()
+HERE = os.path.dirname(TESTS)
 
 
 # (kind, hint, value, what it prints by hand; None where the reading says it)
@@ -234,7 +124,6 @@ CASES = [
     ('octets', '4x', 'DEADBEEF', T + 'deadbeef'),
     ('octets', '3d.3o', '00ffff000040', T + '65535.100'),
     # octets that are no ASCII
-    ('octets', '1a', '41427f', T + 'AB\\x7f'),
     ('octets', '1a', '414280', refused(33, 2)),
     ('octets', '*2a.', '0241424380', refused(33, 4)),
     ('octets', '1d.255a', '80ff', refused(33, 1)),
@@ -349,8 +238,9 @@ CASES += [
     ('octets', '1x', ' ', T),
 ]
 
-# texts with control bytes or backslashes: one line each. Bytes over 127 stay as they are
-CASES += [
+# texts with line ends, other control bytes or backslashes: one line each. Bytes over 127 stay as they are. The reading prints all bytes as
+# they are, so that these stand by hand alone
+LINES = [
     ('octets', '255a', '0a', T + '\\x0a'),
     ('octets', '255a', '0d0a', T + '\\x0d\\x0a'),
     ('octets', '255a', '4109420943', T + 'A\\x09B\\x09C'),
@@ -359,6 +249,7 @@ CASES += [
     ('octets', '255a', '5c783061', T + '\\x5cx0a'),
     ('octets', '1x\\', '0102', T + '1\\x5c2'),
     ('octets', '255t', 'c3a90ac285', T + '\u00e9\\x0a\u0085'),
+    ('octets', '1a', '41427f', T + 'AB\\x7f'),
 ]
 
 # words that are no octets: odd runs, single digits between blanks, marks behind no octet, other headings
@@ -370,24 +261,42 @@ NO_CASE = ['', 'octets', 'octets\t1x', 'octets\t1x\t01\tmore', 'integer\td\t', '
 NO_CASE += ['octets\t1x\t' + word for word in NO_OCTETS]
 
 
+BLANKS = '[\\t-\\r ]*'
+HEX = '[0-9A-Fa-f]'
+# digits in pairs; or one digit by itself, with a colon or a hyphen directly behind it or before it
+RUN = f'(?:(?:{HEX}{{2}})+(?!{HEX})|(?<!{HEX}){HEX}(?=[:-])|(?<=[:-]){HEX}(?!{HEX}))'
+
+
+def plain(word):
+    """The octets that a word writes, in pairs of hex digits; or None."""
+    body = re.sub(f'\\A{BLANKS}(?:Hex-STRING:|0[xX])?', '', word)
+    if not re.fullmatch(f'{BLANKS}(?:{RUN}[:-]?{BLANKS})*', body):
+        return None
+    return ''.join(run if len(run) % 2 == 0 else '0' + run for run in re.findall(RUN, body))
+
+
 def encoded(text):
     return text.encode('utf-8', 'surrogatepass')
 
 
+def line(kind, hint, value):
+    return b'\t'.join([kind.encode(), encoded(hint), value.encode()])
+
+
 def build():
-    given, wanted, wrong = [], [], 0
+    wrong = 0
     for word in NO_OCTETS:
-        if value_of(word) is not None:
-            print('hint_vectors: %r: by hand no octets, read %r' % (word, value_of(word)), file=sys.stderr)
+        if plain(word) is not None:
+            print('hint_vectors: %r: by hand no octets, read %s' % (word, plain(word)), file=sys.stderr)
             wrong += 1
-    for kind, hint, value, by_hand in CASES:
-        hint = encoded(hint) if any(ord(c) > 127 for c in hint) else hint.encode('latin-1')
-        read = (octets if kind == 'octets' else integer)(hint, value)
+    given = [line(kind, hint, value) for kind, hint, value, _ in CASES]
+    wanted = ask.lines('hint', [line(kind, hint, plain(value) if kind == 'octets' else value) for kind, hint, value, _ in CASES])
+    for case, (_, _, _, by_hand), read in zip(given, CASES, wanted):
         if by_hand is not None and encoded(by_hand) != read:
-            print('hint_vectors: %s %r %s: by hand %r, read %r' % (kind, hint, value, by_hand, read), file=sys.stderr)
+            print('hint_vectors: %r: by hand %r, read %r' % (case, by_hand, read), file=sys.stderr)
             wrong += 1
-        given.append(kind.encode() + b'\t' + hint + b'\t' + value.encode())
-        wanted.append(read)
+    given += [line(kind, hint, value) for kind, hint, value, _ in LINES]
+    wanted += [encoded(by_hand) for _, _, _, by_hand in LINES]
     middle = len(given) // 2
     given[middle:middle] = [w.encode() for w in NO_CASE]
     wanted[middle:middle] = [b'misfit'] * len(NO_CASE)
@@ -402,7 +311,7 @@ def main():
         for name, content in files:
             with open(os.path.join(HERE, 'crates/hint_tool', name), 'rb') as f:
                 if f.read() != content:
-                    print('hint_vectors: crates/hint_tool/%s is not that of this reading' % name, file=sys.stderr)
+                    print('hint_vectors: crates/hint_tool/%s is not that of the reading' % name, file=sys.stderr)
                     wrong += 1
     else:
         for name, content in files:
@@ -411,5 +320,4 @@ def main():
     sys.exit(1 if wrong else 0)
 
 
-if __name__ == '__main__':
-    main()
+main()
