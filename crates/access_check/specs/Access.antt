@@ -8,7 +8,7 @@ use lib.Dec.{eqb, ltb}
 use Rattle.index.specs.First.{any}
 use Rattle.rule.specs.Rule.{Rule}
 use Rattle.module_table.specs.Definition.{entry}
-use Rattle.module_table.specs.Module.{rule-of-definitions}
+use Rattle.module_table.specs.Module.{name-at, rule-of-definitions}
 use Rattle.module_table.specs.declared.Definition.{Definition}
 use Rattle.object_tree.specs.Words.{counter32, counter64, not-accessible, accessible-for-notify, read-only, read-write, read-create, is-object, is-table, is-row, numbered}
 use Rattle.index.specs.Choice.{if_then_else_}
@@ -63,4 +63,4 @@ access-clause ds values k =
 -- 21: access rules
 unfoldable pub access-broken : List Definition → List ℕ → Rule
 access-broken ds values =
-    rule-of-definitions 21 ds (λ k. ltb 0 (access-clause ds values k)) (access-clause ds values) (λ k. k)
+    rule-of-definitions 21 ds (λ k. ltb 0 (access-clause ds values k)) (access-clause ds values) (name-at ds)

@@ -8,7 +8,7 @@ use lib.ListN.{length, getD}
 use Rattle.index.specs.First.{any}
 use Rattle.rule.specs.Rule.{Rule}
 use Rattle.module_table.specs.Definition.{entry}
-use Rattle.module_table.specs.Module.{oid-in, rule-of-definitions}
+use Rattle.module_table.specs.Module.{oid-in, name-at, rule-of-definitions}
 use Rattle.module_table.specs.declared.Definition.{Definition}
 use Rattle.object_tree.specs.Words.{not-accessible, is-notification}
 use Rattle.index.specs.Choice.{if_then_else_}
@@ -41,4 +41,4 @@ notification-broken ds values numbers =
     rule-of-definitions 22 ds
     (λ k. ltb 0 (notification-clause ds values numbers k))
     (notification-clause ds values numbers)
-    (λ k. k)
+    (name-at ds)
