@@ -1,15 +1,15 @@
--- `names_stranger` is right by the law of the loop that asks.
+-- `first_stranger` is right by the law of the loop that asks.
 -- Assumes nothing.
-use Rattle.index.specs.First.{any}
+use Rattle.index.specs.First.{first}
 use Rattle.definition.specs.declared.Span.{Span}
 use borrow.Author.Needs.{needs}
 use mathlib.Core.Path.{sym, ap, _∙_}
 use Prim.Native.Nat.{_-_}
 use Rattle.module_table.specs.Definition.{definitions-in}
-use Rattle.sequence_list.specs.Named.{is-stranger, names-stranger}
-use Rattle.sequence_list.proofs.Asking.{Asking, asking-miss, asking-hit, asking-end}
-use Rattle.sequence_list.proofs.verdict.names_stranger.Statement.{statement}
-use Rattle.sequence_list.proofs.verdict.names_stranger.Tie as tie
+use Rattle.sequence_list.specs.Named.{is-stranger}
+use Rattle.sequence_list.proofs.Asking.{Asking, asking-miss, first-asked, none-asked}
+use Rattle.sequence_list.proofs.verdict.first_stranger.Statement.{statement}
+use Rattle.sequence_list.proofs.verdict.first_stranger.Tie as tie
 
 abbrev Inv-loop : tie.InvT-loop
 Inv-loop values definitions number parent to i₀ i = Asking (is-stranger (definitions-in definitions) values parent) i₀ to i
@@ -27,13 +27,12 @@ is-stranger-requires : tie.Need-is-stranger-requires Inv-loop μ-loop
 is-stranger-requires c κs = search needs
 
 returns : tie.Need-returns Inv-loop μ-loop
-unfolding names-stranger
 returns c =
     let t = c .before .before in
     let l = t .before in
     let s = l .before .before .before .before in
-    asking-hit _ _ _ _ (l .loop .inv) (t .loop-test .taken) (sym (c .before .is-stranger .ensures) ∙ c .if1 .taken)
-    ∙ ap (λ (a : Span). any (is-stranger (definitions-in (s .args .definitions .now)) (s .args .values .now) (s .args .parent)) (a .from) (a .to)) (l .before .columns-of .ensures)
+    first-asked _ _ _ _ (l .loop .inv) (t .loop-test .taken) (sym (c .before .is-stranger .ensures) ∙ c .if1 .taken)
+    ∙ ap (λ (a : Span). first (is-stranger (definitions-in (s .args .definitions .now)) (s .args .values .now) (s .args .parent)) (a .from) (a .to)) (l .before .columns-of .ensures)
 
 add-i : tie.Need-add-i Inv-loop μ-loop
 add-i c = search needs
@@ -47,15 +46,14 @@ loop-again c =
     asking-miss _ _ _ _ (t .before .loop .inv) (t .loop-test .taken) (sym (c .before .is-stranger .ensures) ∙ c .if1 .left)
 
 returns-2 : tie.Need-returns-2 Inv-loop μ-loop
-unfolding names-stranger
 returns-2 c =
     let l = c .before in
     let s = l .before .before .before .before in
-    asking-end _ _ _ _ (l .loop .inv) (c .loop-test .left)
-    ∙ ap (λ (a : Span). any (is-stranger (definitions-in (s .args .definitions .now)) (s .args .values .now) (s .args .parent)) (a .from) (a .to)) (l .before .columns-of .ensures)
+    none-asked _ _ _ _ (l .loop .inv) (c .loop-test .left)
+    ∙ ap (λ (a : Span). first (is-stranger (definitions-in (s .args .definitions .now)) (s .args .values .now) (s .args .parent)) (a .from) (a .to)) (l .before .columns-of .ensures)
 
-pub names-stranger-spec : {M : Type 1} → statement M
-names-stranger-spec =
+pub first-stranger-spec : {M : Type 1} → statement M
+first-stranger-spec =
     tie.close
     (tie.spec
     Inv-loop

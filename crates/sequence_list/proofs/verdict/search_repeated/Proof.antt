@@ -1,6 +1,6 @@
--- `repeats` is right by the law of the walk that marks what is named.
+-- `search_repeated` is right by the law of the walk that marks what is named.
 -- Assumes nothing.
-use Rattle.index.specs.First.{any}
+use Rattle.index.specs.First.{first}
 use Rattle.definition.specs.declared.Span.{Span}
 use borrow.Author.Needs.{needs}
 use mathlib.Core.Path.{sym, ap, _∙_}
@@ -8,10 +8,10 @@ use Prim.Native.Nat.{_-_}
 use native.Mathlib.Omega.{arith}
 use Rattle.module_table.specs.Definition.{definitions-in}
 use Rattle.sequence_list.proofs.Marking.{Marking, marking-start, marking-asked, marking-below, marking-long, marking-next, named-few}
-use Rattle.sequence_list.proofs.Asking.{asking-hit, asking-end}
-use Rattle.sequence_list.specs.Named.{repeats, is-repeated}
-use Rattle.sequence_list.proofs.verdict.repeats.Statement.{statement}
-use Rattle.sequence_list.proofs.verdict.repeats.Tie as tie
+use Rattle.sequence_list.proofs.Asking.{first-asked, none-asked}
+use Rattle.sequence_list.specs.Named.{is-repeated}
+use Rattle.sequence_list.proofs.verdict.search_repeated.Statement.{statement}
+use Rattle.sequence_list.proofs.verdict.search_repeated.Tie as tie
 
 abbrev Inv-loop : tie.InvT-loop
 Inv-loop values definitions number marks₀ stamp to i₀ marks i = Marking (definitions-in definitions) values i₀ to stamp marks i
@@ -39,7 +39,6 @@ mark-requires c κs =
     (l .loop .inv .long, omega (arith, c .named-at .ensures, named-few (definitions-in (s .args .definitions .now)) (s .args .values .now) (l .loop .i)))
 
 returns : tie.Need-returns Inv-loop μ-loop
-unfolding repeats
 returns c =
     let m = c .before in
     let n = m .before in
@@ -49,8 +48,8 @@ returns c =
     let ds = definitions-in (s .args .definitions .now) in
     record {
       is =
-          asking-hit _ _ _ _ (l .loop .inv .passed) (t .loop-test .taken) (sym (marking-asked _ _ _ _ _ _ _ (l .loop .inv) _ (n .named-at .ensures) _ _ (m .mark .ensures)) ∙ c .if1 .taken)
-          ∙ ap (λ (a : Span). any (is-repeated ds (s .args .values .now) (a .from)) (a .from) (a .to)) (l .before .columns-of .ensures);
+          first-asked _ _ _ _ (l .loop .inv .passed) (t .loop-test .taken) (sym (marking-asked _ _ _ _ _ _ _ (l .loop .inv) _ (n .named-at .ensures) _ _ (m .mark .ensures)) ∙ c .if1 .taken)
+          ∙ ap (λ (a : Span). first (is-repeated ds (s .args .values .now) (a .from)) (a .from) (a .to)) (l .before .columns-of .ensures);
       stamped = record {
         long = marking-long _ _ _ _ _ _ _ (l .loop .inv) _ (n .named-at .ensures) _ _ (m .mark .ensures);
         below = marking-below _ _ _ _ _ _ _ (l .loop .inv) _ (n .named-at .ensures) _ _ (m .mark .ensures);
@@ -72,20 +71,19 @@ loop-again c =
     marking-next _ _ _ _ _ _ _ (l .loop .inv) _ (n .named-at .ensures) _ _ (m .mark .ensures) (t .loop-test .taken) (c .if1 .left)
 
 returns-2 : tie.Need-returns-2 Inv-loop μ-loop
-unfolding repeats
 returns-2 c =
     let l = c .before in
     let s = l .before .before .before .before in
     let ds = definitions-in (s .args .definitions .now) in
     record {
       is =
-          asking-end _ _ _ _ (l .loop .inv .passed) (c .loop-test .left)
-          ∙ ap (λ (a : Span). any (is-repeated ds (s .args .values .now) (a .from)) (a .from) (a .to)) (l .before .columns-of .ensures);
+          none-asked _ _ _ _ (l .loop .inv .passed) (c .loop-test .left)
+          ∙ ap (λ (a : Span). first (is-repeated ds (s .args .values .now) (a .from)) (a .from) (a .to)) (l .before .columns-of .ensures);
       stamped = record { long = l .loop .inv .long; below = l .loop .inv .below };
     }
 
-pub repeats-spec : {M : Type 1} → statement M
-repeats-spec =
+pub search-repeated-spec : {M : Type 1} → statement M
+search-repeated-spec =
     tie.close
     (tie.spec
     Inv-loop
