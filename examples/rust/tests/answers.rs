@@ -10,12 +10,7 @@ use mib::{NUMBER_WORDS, RECORD_WORDS};
 /// What each lent word and byte is before a call.
 const LENT: u8 = 7;
 
-const WHOLE: &[u8] = b"T DEFINITIONS ::= BEGIN
-IMPORTS MODULE-IDENTITY FROM SNMPv2-SMI;
-t MODULE-IDENTITY LAST-UPDATED \"\" ORGANIZATION \"\" CONTACT-INFO \"\" DESCRIPTION \"\" ::= { iso 9 }
-a OBJECT IDENTIFIER ::= { t 1 }
-END
-";
+const WHOLE: &[u8] = include_bytes!("../../../tests/texts/whole");
 
 fn lent(words: usize) -> Vec<u32> {
     vec![u32::from(LENT); words]
