@@ -1,0 +1,38 @@
+# Tests of shelf: names as words and as lines, files that are refused or missing, and the summary.
+
+test_shelf_names_as_words() {
+    expect "shelf: a line a file" 2 "$(line tests/texts/whole accepted 2)
+$(line tests/texts/open refused 3 2)" "$scratch/missing: No such file or directory" shelf tests/texts/whole "$scratch/missing" tests/texts/open
+}
+
+# A line ends with one byte or with two, and the last with none.
+test_shelf_names_as_lines() {
+    printf '%s\r\n%s\n%s' tests/texts/whole tests/texts/open tests/texts/twice | ./mib shelf >"$scratch/output" 2>"$scratch/errors"
+    [ "$?" = 1 ] && [ "$(cat "$scratch/output")" = "$(line tests/texts/whole accepted 2)
+$(line tests/texts/open refused 3 2)
+$(line tests/texts/twice refused 9 207)" ] && [ "$(cat "$scratch/errors")" = "$(line files 3)
+$(line accepted 1)
+$(line refused 3 1)
+$(line refused 9 1)
+$(line unread 0)" ]
+    report "shelf: names on standard input, and the summary" "$?"
+}
+
+test_shelf_folder() {
+    ./mib shelf <"$scratch" >"$scratch/output" 2>"$scratch/errors"
+    [ "$?" = 2 ] && [ ! -s "$scratch/output" ] && grep -q 'standard input: Is a directory' "$scratch/errors"
+    report "shelf: a folder as standard input is said" "$?"
+}
+
+test_shelf_many_files() {
+    started=$(date +%s)
+    yes tests/texts/whole | head -n 4000 | ./mib shelf >"$scratch/output" 2>"$scratch/errors"
+    [ "$?" = 0 ] && [ "$(wc -l <"$scratch/output")" = 4000 ] && [ "$(sort -u "$scratch/output" | wc -l)" = 1 ] && [ $(($(date +%s) - started)) -lt 20 ]
+    report "shelf: 4,000 names in under 20 s" "$?"
+}
+
+test_shelf_readme() {
+    shown 'ls examples' >"$scratch/shown"
+    ls examples/*-MIB | ./mib shelf 2>&1 | cmp -s - "$scratch/shown"
+    report "shelf: the README shows what is printed" "$?"
+}
