@@ -1,6 +1,7 @@
 #!/usr/bin/env python3
 """Compares what explain prints with a reading of its own of document 01: the numbers and places of tests/reading, and from them the lines,
-columns, marks, words and the place of the other one, worked out here.
+columns, marks, words and the place of the other one, worked out here. The sentences of 2, 3 and 7 are worked out whole: what may stand at a
+fault of the grammar is what that reading lets pass there.
 
 explained.py PROGRAM [--count N] [--seed S]
 
@@ -10,6 +11,7 @@ two things, does not occur with its other one.
 import argparse
 import os
 import random
+import re
 import subprocess
 import sys
 import tempfile
@@ -110,17 +112,21 @@ def character_at(text, i):
 
 
 def lines_of(text, place):
-    """The line of a place and the mark below it."""
+    """The line of a place and the mark below it; of a long line at most 100 bytes on either side, and no character is cut."""
     start = text.rfind(b"\n", 0, place) + 1
     end = text.find(b"\n", place)
-    line = text[start:len(text) if end < 0 else end]
-    if line.endswith(b"\r") and place < start + len(line):
-        line = line[:-1]
-    margin, i = b"", start
-    while i < place:
-        margin += text[i:i + 1] if 9 <= text[i] <= 13 else b" "
+    end = len(text) if end < 0 else end
+    if place < end and text[end - 1:end] == b"\r":
+        end -= 1
+    starts, i = [], start
+    while i < end:
+        starts.append(i)
         i += character_at(text, i)
-    return [line, margin + b"^"]
+    low = start if place - start <= 100 else min(k for k in starts if k >= place - 100)
+    high = end if end - place <= 100 else max(k for k in starts if k <= place + 100)
+    margin = b"".join(text[k:k + 1] if 9 <= text[k] <= 13 else b" " for k in starts if low <= k < place)
+    cut = low > start
+    return [b".." * cut + text[low:high] + b".." * (high < end), b"  " * cut + margin + b"^"]
 
 
 def head(name, text, place, number):
@@ -139,8 +145,96 @@ def word_at(text, place):
     return b"'%s' " % word if word[:1].isalnum() or word[:1] == b"-" else b""
 
 
+CAPITALS = """AUGMENTS BEGIN BITS CONTACT-INFO DEFINITIONS DEFVAL DESCRIPTION DISPLAY-HINT END FROM IDENTIFIER IMPLIED IMPORTS INDEX INTEGER
+LAST-UPDATED MAX-ACCESS MODULE-IDENTITY NOTIFICATION-TYPE OBJECT OBJECT-IDENTITY OBJECT-TYPE OBJECTS OCTET OF ORGANIZATION REFERENCE REVISION
+SEQUENCE SIZE STATUS STRING SYNTAX TEXTUAL-CONVENTION UNITS""".split()
+SMALL = "current deprecated obsolete not-accessible accessible-for-notify read-only read-write read-create".split()
+MARKS = ["::=", "..", "{", "}", "(", ")", ",", ";", "|"]
+# the order in which what may stand is named, and a token of each kind
+NAMED = ([(word, word) for word in CAPITALS[::-1]] + [(word, word) for word in SMALL[::-1]] + [("Upper", "Uuu"), ("lower", "lll")]
+         + [("'%s'" % mark, mark) for mark in MARKS[::-1]] + [("hex", "'0'H"), ("text", '""'), ("number", "1")])
+LEFT_OUT = {"OBJECT-GROUP": "no conformance macros", "NOTIFICATION-GROUP": "no conformance macros", "MODULE-COMPLIANCE": "no conformance macros",
+            "AGENT-CAPABILITIES": "no conformance macros", "ACCESS": "SMIv2 alone", "TRAP-TYPE": "SMIv2 alone", "EXPORTS": "no exports",
+            "CHOICE": "no types by CHOICE"}
+
+
+def passes(before, token):
+    """Whether the reading lets the token stand behind these bytes."""
+    try:
+        reading.parse(before + b" " + token + b" ")
+    except reading.Refusal as refusal:
+        return refusal.place != len(before) + 1
+    return True
+
+
+def named(before):
+    """What may stand behind these bytes, in words."""
+    kinds = [kind for kind, token in NAMED if passes(before, token.encode())]
+    if "lower" in kinds:
+        kinds = [kind for kind in kinds if kind not in SMALL]
+    if len(kinds) > 5:
+        return ", ".join(kinds[:5]) + " and others"
+    return " or ".join([", ".join(kinds[:-1])] * (len(kinds) > 1) + kinds[-1:])
+
+
+def misplaced(text, place):
+    """Why the grammar refuses the token at a place."""
+    if place == len(text):
+        return "the text ends here, and the module does not; %s may follow" % named(text)
+    token = reading.token_at(text, place)
+    word = text[place:token.end].decode()
+    behind = text[token.end:].lstrip(b"\t\n\v\f\r ")
+    if word == "MACRO" or behind.startswith(b"MACRO") and reading.token_at(behind, 0).end == 5:
+        return "'MACRO' is left out: this reader knows no macro definitions"
+    if word in LEFT_OUT:
+        return "'%s' is left out: this reader knows %s" % (word, LEFT_OUT[word])
+    shown = {'"': "a text"}.get(word[0], "a hex string" if word.endswith("'H") else "'%s'" % word)
+    may = named(text[:place])
+    return shown + (" may not stand here; %s may" % may if may else " stands behind the module's END")
+
+
+def unread(text, place):
+    """Why no token starts at a place."""
+    byte, rest = text[place], text[place:]
+    word = re.match(rb"-?[A-Za-z0-9]*(-[A-Za-z0-9]+)*", rest).group().decode()
+    before = text[:place].rfind(b'"')
+    hint = "; a text above may lack its end quote" if before >= 0 and text[before + 1:before + 2].isalnum() else ""
+    if byte == 34:
+        said = "a text starts here, and has no end quote"
+    elif byte == 39:
+        said = "a hex string has hex digits between apostrophes, and then H"
+    elif rest.startswith(b"-0"):
+        said = "a hyphen may not stand before 0"
+    elif re.match(rb"-[1-9]", rest):
+        said = "'%s' is no number: a letter stands directly behind its digits" % word
+    elif byte == 45:
+        said = ("a hyphen starts no token here: a name has single ones inside, a number one before its digits, and a comment starts with two")
+    elif re.match(rb"0[0-9]", rest):
+        said = "'%s' starts with 0, as a number of several digits may not" % word
+    elif re.match(rb"[0-9]", rest):
+        said = "'%s' is neither a number nor a name: a name starts with a letter" % word
+    elif place == 0 and rest.startswith(b"\xef\xbb\xbf"):
+        said = "the text starts with a byte-order mark; save it without one"
+    else:
+        shown = " (underscore)" if byte == 95 else " (%c)" % byte if 33 <= byte <= 126 else ""
+        advice = {95: ": a name has letters, digits and hyphens", 58: ": '::=' does", 46: ": '..' does"}.get(byte, "")
+        said = "byte %d%s starts no token%s" % (byte, shown, ": bytes over 127 may stand in comments alone" if byte > 127 else advice)
+    return said + hint
+
+
+def said(text, place, number):
+    """The sentence, or what it starts with."""
+    if number == 2:
+        return b"the text has more than 65,536 bytes, which is this reader's limit\n"
+    if number == 3:
+        return unread(text, place).encode() + b"\n"
+    if number == 7:
+        return misplaced(text, place).encode() + b"\n"
+    return word_at(text, place) if number > 7 else b""
+
+
 def block(name, text, place, number):
-    return [head(name, text, place, number) + (word_at(text, place) if number > 7 else b"")] + lines_of(text, place)
+    return [head(name, text, place, number) + said(text, place, number)] + lines_of(text, place)
 
 
 def accepted(name, answer):
@@ -175,7 +269,7 @@ def differs(wanted, got):
     if len(wanted) != len(got):
         return "%d lines, not %d: %r" % (len(got), len(wanted), got[:1])
     for k, (a, b) in enumerate(zip(wanted, got)):
-        same = b.startswith(a) if k % 3 == 0 and a.count(b": refused ") else a == b
+        same = (b + b"\n").startswith(a) if k % 3 == 0 and a.count(b": refused ") else a == b
         if not same:
             return "%r, not %r" % (b, a)
     return None
