@@ -161,7 +161,7 @@ LEFT_OUT = {"OBJECT-GROUP": "no conformance macros", "NOTIFICATION-GROUP": "no c
 def passes(before, token):
     """Whether the reading lets the token stand behind these bytes."""
     try:
-        reading.parse(before + b" " + token + b" ")
+        reading.parse(before + b"\n" + token + b" ")
     except reading.Refusal as refusal:
         return refusal.place != len(before) + 1
     return True

@@ -15,7 +15,6 @@ mod unread;
 mod word;
 
 use output::Output;
-use output::print;
 use reader::Examined;
 use reader::FILE_BYTES;
 use reader::NUMBER_WORDS;
@@ -57,7 +56,7 @@ fn explain_text(name: &[u8], text: &[u8], out: Output) -> Output {
     let mut numbers = [0u32; NUMBER_WORDS];
     match reader::examine(text, &mut records, &mut numbers) {
         Examined::Accepted(definitions) => {
-            let out = print(out, name);
+            let out = output::show(out, name);
             count::print_accepted(&records, definitions, out)
         }
         Examined::Refused(refusal) => explain_refusal(name, text, refusal, output::refuse(out)),

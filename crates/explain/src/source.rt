@@ -4,6 +4,12 @@ ghost use lib.ListN.{length};
 use output::Output;
 use output::print;
 use output::print_number;
+use output::show;
+use position::REACH;
+use visible::WIDEST;
+
+// The most bytes that are shown of a line up to a place.
+const SHOWN: usize = WIDEST * REACH;
 
 // A place that is inside the text, or its end.
 pub fn within(text: &[u8], place: usize) -> usize
@@ -20,7 +26,7 @@ pub fn within(text: &[u8], place: usize) -> usize
 pub fn print_head(name: &[u8], text: &[u8], place: usize, number: u8, out: Output) -> Output {
     let at = within(text, place);
     let position = position::locate(text, at);
-    let out = print(out, name);
+    let out = show(out, name);
     let out = print_colon(out);
     let out = print_number(out, position.line as u64);
     let out = print_colon(out);
@@ -51,7 +57,7 @@ fn print_part(text: &[u8], at: usize, out: Output) -> Output
     let from = part.from;
     let to = part.to;
     let out = print_if(position::locate(text, at).start < from, b"..", out);
-    let out = print(out, &text[from..to]);
+    let out = show(out, &text[from..to]);
     print_if(to < position::line_end(text, at), b"..", out)
 }
 
@@ -62,13 +68,15 @@ fn print_if(test: bool, bytes: &[u8], out: Output) -> Output {
     out
 }
 
-// A mark below the place, behind what stands below that part up to it.
+// A mark below the place, behind what stands below what is shown up to it.
 fn print_mark(text: &[u8], at: usize, out: Output) -> Output
     requires { ⌜ at ≤ length (now text) ⌝ }
 {
     let from = position::shown_part(text, at).from;
-    let mut margin = [0u8; position::REACH];
-    let n = position::write_margin(text, from, at - from, &mut margin);
+    let mut shown = [0u8; SHOWN];
+    let mut margin = [0u8; SHOWN];
+    let count = visible::write_visible(text, from, at - from, output::manner(out), &mut shown);
+    let n = position::write_margin(&shown, 0, count, &mut margin);
     let out = print_if(position::locate(text, at).start < from, b"  ", out);
     let out = print(out, &margin[0..n]);
     print(out, b"^\n")

@@ -5,6 +5,7 @@ use crate::source::within;
 use buffer::byte_at;
 use output::Output;
 use output::print;
+use output::show;
 
 pub fn is_digit(b: u8) -> bool {
     match b {
@@ -41,7 +42,7 @@ fn goes_on(text: &[u8], i: usize) -> bool {
     is_word_byte(byte_behind(text, i))
 }
 
-// Where the word ends that stands at a place: a name or a number, or one byte.
+// Where the word ends that stands at a place: a name or a number.
 pub fn word_end(text: &[u8], at: usize) -> usize
     requires { ⌜ at ≤ length (now text) ⌝ }
     ensures low { λ r. ⌜ at ≤ r ⌝ }
@@ -69,11 +70,26 @@ pub fn print_word(text: &[u8], place: usize, out: Output) -> Output {
     }
 }
 
+// Where it ends: a mark has one byte, whatever follows it.
+fn quoted_end(text: &[u8], at: usize) -> usize
+    requires { ⌜ at ≤ length (now text) ⌝ }
+    ensures low { λ r. ⌜ at ≤ r ⌝ }
+    ensures high { λ r. ⌜ r ≤ length (now (text .entry)) ⌝ }
+{
+    if goes_on(text, at) {
+        return word_end(text, at);
+    }
+    if at < text.len() {
+        return at + 1;
+    }
+    at
+}
+
 fn print_quoted(text: &[u8], at: usize, out: Output) -> Output
     requires { ⌜ at ≤ length (now text) ⌝ }
 {
-    let end = word_end(text, at);
+    let end = quoted_end(text, at);
     let out = print(out, b"'");
-    let out = print(out, &text[at..end]);
+    let out = show(out, &text[at..end]);
     print(out, b"'")
 }

@@ -6,6 +6,7 @@ mod window;
 pub use line::Position;
 pub use line::line_end;
 pub use line::locate;
+pub use margin::is_inside;
 pub use margin::write_margin;
 pub use window::Part;
 pub use window::REACH;
