@@ -14,18 +14,12 @@ import sys
 sys.dont_write_bytecode = True
 HERE = pathlib.Path(__file__).resolve().parent
 CRATE = HERE.parent / "crates" / "card"
-sys.path.insert(0, str(HERE / "reading"))
 sys.path.insert(0, str(HERE))
 
-import reading
+import ask
 import rule_examples
 
-WHOLE = b"""T DEFINITIONS ::= BEGIN
-IMPORTS MODULE-IDENTITY FROM SNMPv2-SMI;
-t MODULE-IDENTITY LAST-UPDATED "" ORGANIZATION "" CONTACT-INFO "" DESCRIPTION "" ::= { iso 9 }
-a OBJECT IDENTIFIER ::= { t 1 }
-END
-"""
+WHOLE = (HERE / "texts" / "whole").read_bytes()
 PRINTED = b"accepted\t2\n1\tt\t1.9\t0\t0\t0\n2\ta\t1.9.1\t0\t0\t0\n"
 
 
@@ -55,9 +49,11 @@ def vectors():
     yield "empty", b"", b"refused\t7\t0\n"
 
 
-def card(name, text, known):
-    read = reading.card(text)
-    assert known is None or read == known, (name, read, known)
+def cards(cases):
+    """The card of each case, by the reading, which agrees where it is known."""
+    read = ask.texts("card", [text for _, text, _ in cases])
+    for (name, _, known), card in zip(cases, read):
+        assert known is None or card == known, (name, card, known)
     return read
 
 
@@ -67,7 +63,7 @@ def files():
     for name, text, known in cases:
         yield pathlib.Path("data") / name, text
     yield pathlib.Path("args"), b"".join(name.encode() + b"\n" for name, _, _ in cases)
-    yield pathlib.Path("stdout"), b"".join(case[0].encode() + b"\n" + card(*case) for case in cases)
+    yield pathlib.Path("stdout"), b"".join(case[0].encode() + b"\n" + card for case, card in zip(cases, cards(cases)))
 
 
 def check(made):

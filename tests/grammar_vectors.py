@@ -1,5 +1,5 @@
 #!/usr/bin/env python3
-"""Texts for refusal 7, and a comparison of the transition table with the recursive reading grammar.py beside this file.
+"""Texts for refusal 7, and a comparison of the transition table with the reading, which derives by one function for each rule.
 
     grammar_vectors.py --table    compare the two: at every state and class, and on random walks with a token put in,
                                   left out or changed
@@ -18,16 +18,10 @@ sys.dont_write_bytecode = True
 HERE = Path(__file__).resolve().parent
 sys.path[:0] = [str(HERE), str(HERE.parent / "tools")]
 
-import grammar  # noqa: E402
+import ask  # noqa: E402
 import grammar_table  # noqa: E402
-import tokens  # noqa: E402
 
-WHOLE = """T DEFINITIONS ::= BEGIN
-IMPORTS MODULE-IDENTITY FROM SNMPv2-SMI;
-t MODULE-IDENTITY LAST-UPDATED "" ORGANIZATION "" CONTACT-INFO "" DESCRIPTION "" ::= { iso 9 }
-a OBJECT IDENTIFIER ::= { t 1 }
-END
-"""
+WHOLE = (HERE / "texts" / "whole").read_text()
 
 HEAD = 'T DEFINITIONS ::= BEGIN t MODULE-IDENTITY LAST-UPDATED "" ORGANIZATION "" CONTACT-INFO "" DESCRIPTION "" '
 FULL_HEAD = (
@@ -147,8 +141,8 @@ def vectors():
     """The name and the text of each vector."""
     yield "empty", ""
     yield "whole", WHOLE
-    for number, (start, end, kind) in enumerate(tokens.cut(WHOLE.encode())[0], 1):
-        yield f"whole-to-token-{number}", WHOLE[:end]
+    for number, line in enumerate(ask.texts("tokens", [WHOLE.encode()])[0].splitlines()[:-1], 1):
+        yield f"whole-to-token-{number}", WHOLE[: int(line.split(b"\t")[1])]
     for kind, texts in KINDS.items():
         for number, text in enumerate(texts):
             head = FULL_HEAD if number else HEAD
@@ -165,11 +159,14 @@ def against_table():
     random = Random(5)
     for _ in range(5000):
         cases.append(damaged(random, table.walk(random, random.randrange(1, 300)), table.classes))
-    wrong = [classes for classes in cases if grammar.read(classes) != table.fault(classes)]
-    for classes in wrong:
-        print("differ:", " ".join(classes), "reading", grammar.read(classes), "table", table.fault(classes))
-    print(f"{len(cases)} sequences compared, {len(wrong)} differ")
-    return len(wrong)
+    wrong = 0
+    for classes, read in zip(cases, ask.lines("derives", [" ".join(classes).encode() for classes in cases])):
+        fault = table.fault(classes)
+        if read != (b"derived" if fault is None else b"%d" % fault):
+            wrong += 1
+            print("differ:", " ".join(classes), "reading", read.decode(), "table", fault)
+    print(f"{len(cases)} sequences compared, {wrong} differ")
+    return wrong
 
 
 def main():

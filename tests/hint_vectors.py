@@ -1,113 +1,21 @@
 #!/usr/bin/env python3
-"""The cases of crates/hint_tool, from a reading of document 01, "Printing by hint", of its own.
+"""The cases of crates/hint_tool, from the independent reading of document 01, "Printing by hint".
 
 hint_vectors.py          writes crates/hint_tool/stdin and crates/hint_tool/stdout
-hint_vectors.py --check  says whether the two files are those of this reading, and exits 1 where they are not
+hint_vectors.py --check  says whether the two files are those of the reading, and exits 1 where they are not
 
-What a case should print is written out by hand beside it, or computed by the reading below where it is long. The
-reading shares nothing with the crate: hints are matched by regular expressions, UTF-8 is Python's own strict decoder,
-digits are Python's. Every expectation that stands by hand is held against the reading too.
+What a case should print is written out by hand beside it, or computed by the reading where it is long. Every expectation
+that stands by hand is held against the reading too.
 """
 import os
-import re
 import sys
 
-HERE = os.path.dirname(os.path.dirname(os.path.abspath(__file__)))
-MARK = rb'[ -)+-/:-~]'                      # 32 to 126, no digit and no `*` (42)
-LENGTH8 = rb'[1-8]'
-LENGTH255 = rb'(?:25[0-5]|2[0-4][0-9]|1[0-9][0-9]|[1-9][0-9]?)'
-PIECE = re.compile(
-    rb'(?:(?P<star>\*)(?P<n1>' + LENGTH8 + rb'(?=[xdo])|' + LENGTH255 + rb'(?=[at]))(?P<f1>[xdoat])(?:(?P<s1>' + MARK + rb')(?P<t1>' + MARK + rb')?)?'
-    rb'|(?P<n2>' + LENGTH8 + rb'(?=[xdo])|' + LENGTH255 + rb'(?=[at]))(?P<f2>[xdoat])(?P<s2>' + MARK + rb')?)', re.S)
-INTEGER = re.compile(rb'(?:(?P<base>[xobd])|d-(?P<point>10|[1-9]))\Z', re.S)
+sys.dont_write_bytecode = True
+TESTS = os.path.dirname(os.path.abspath(__file__))
+sys.path.insert(0, TESTS)
+import ask  # noqa: E402
 
-
-def pieces_of(hint):
-    """(star, length, format, separator, terminator) for each piece, or None."""
-    if not 1 <= len(hint) <= 255:
-        return None
-    found, at = [], 0
-    while at < len(hint):
-        m = PIECE.match(hint, at)
-        if not m:
-            return None
-        star = m.group('star') is not None
-        k = '1' if star else '2'
-        found.append((star, int(m.group('n' + k)), m.group('f' + k).decode(), m.group('s' + k) or b'', (m.group('t1') or b'') if star else b''))
-        at = m.end()
-    return found
-
-
-class Fault(Exception):
-    pass
-
-
-def use(form, octets, at):
-    if form == 'a':
-        for k, o in enumerate(octets):
-            if o > 127:
-                raise Fault(at + k)
-        return octets
-    if form == 't':
-        try:
-            octets.decode('utf-8', 'strict')
-        except UnicodeDecodeError as e:
-            raise Fault(at + e.start)
-        return octets
-    return format(int.from_bytes(octets, 'big'), {'x': 'x', 'd': 'd', 'o': 'o'}[form]).encode()
-
-
-def octets_text(pieces, value):
-    out, at, turn = b'', 0, 0
-    while at < len(value):
-        star, length, form, separator, terminator = pieces[min(turn, len(pieces) - 1)]
-        turn += 1
-        count = 1
-        if star:
-            count, at = value[at], at + 1
-        for left in range(count - 1, -1, -1):
-            if at == len(value):
-                break
-            octets = value[at:at + length]
-            out += use(form, octets, at)
-            at += len(octets)
-            if at < len(value):
-                out += terminator if left == 0 and terminator else separator
-    return out
-
-
-def octets(hint, hexed):
-    # one blank or one colon may stand behind each pair of digits
-    assert re.fullmatch('(?:[0-9A-Fa-f]{2}[ :]?)*', hexed)
-    value = bytes.fromhex(re.sub('[ :]', '', hexed))
-    if len(value) > 1024:
-        return b'refused\t31\t0'
-    pieces = pieces_of(hint)
-    if pieces is None:
-        return b'refused\t32\t0'
-    try:
-        text = octets_text(pieces, value)
-    except Fault as f:
-        return b'refused\t33\t%d' % f.args[0]
-    assert len(text) <= 4 * len(value)
-    return b'printed\t' + text
-
-
-def integer(hint, number):
-    m = INTEGER.match(hint)
-    if not m:
-        return b'refused\t32\t0'
-    n = int(number)
-    if not -2147483648 <= n <= 4294967295:
-        return b'refused\t34\t0'
-    sign, n = ('-' if n < 0 else ''), abs(n)
-    if m.group('base'):
-        text = format(n, m.group('base').decode())
-    else:
-        places = int(m.group('point'))
-        digits = str(n).rjust(places + 1, '0')
-        text = digits[:-places] + '.' + digits[-places:]
-    return b'printed\t' + (sign + text).encode()
+HERE = os.path.dirname(TESTS)
 
 
 # (kind, hint, value, what it prints by hand; None where the reading says it)
@@ -320,15 +228,13 @@ def encoded(text):
 
 
 def build():
-    given, wanted, wrong = [], [], 0
-    for kind, hint, value, by_hand in CASES:
-        hint = encoded(hint) if any(ord(c) > 127 for c in hint) else hint.encode('latin-1')
-        read = (octets if kind == 'octets' else integer)(hint, value)
+    wrong = 0
+    given = [b'\t'.join([kind.encode(), encoded(hint), value.encode()]) for kind, hint, value, _ in CASES]
+    wanted = ask.lines('hint', given)
+    for case, (_, _, _, by_hand), read in zip(given, CASES, wanted):
         if by_hand is not None and encoded(by_hand) != read:
-            print('hint_vectors: %s %r %s: by hand %r, read %r' % (kind, hint, value, by_hand, read), file=sys.stderr)
+            print('hint_vectors: %r: by hand %r, read %r' % (case, by_hand, read), file=sys.stderr)
             wrong += 1
-        given.append(kind.encode() + b'\t' + hint + b'\t' + value.encode())
-        wanted.append(read)
     middle = len(given) // 2
     given[middle:middle] = [w.encode() for w in NO_CASE]
     wanted[middle:middle] = [b'misfit'] * len(NO_CASE)
@@ -343,7 +249,7 @@ def main():
         for name, content in files:
             with open(os.path.join(HERE, 'crates/hint_tool', name), 'rb') as f:
                 if f.read() != content:
-                    print('hint_vectors: crates/hint_tool/%s is not that of this reading' % name, file=sys.stderr)
+                    print('hint_vectors: crates/hint_tool/%s is not that of the reading' % name, file=sys.stderr)
                     wrong += 1
     else:
         for name, content in files:

@@ -1,6 +1,7 @@
 /*
  * Tests of include/mib.h over the library: C99, and C++ too. What is expected was worked out from document 01.
- * Says on standard error what failed; the last line of standard output has the counts. Exit status: 0 when all passed.
+ * The argument is the file of its whole case. Says on standard error what failed; the last line of standard output
+ * has the counts. Exit status: 0 when all passed.
  */
 #include <stdio.h>
 #include <string.h>
@@ -17,6 +18,7 @@ static uint8_t text[MIB_LONGEST_TEXT + 1];
 static uint32_t records[MIB_RECORD_WORDS + 2];
 static uint32_t numbers[MIB_NUMBER_WORDS + 2];
 static uint8_t out[MIB_OCTETS_OUT + 2];
+static char whole[1024];
 
 static void check(const char *label, int holds)
 {
@@ -105,15 +107,20 @@ static void check_refused(const char *label, const char *s, size_t number, size_
     check(label, read_is(read_text(s), number, place, 0) && buffers_filled(0, 0));
 }
 
+/* The whole case, as a string. */
+static void load(const char *path)
+{
+    FILE *file = fopen(path, "rb");
+
+    if (file != NULL) {
+        whole[fread(whole, 1, sizeof whole - 1, file)] = '\0';
+        fclose(file);
+    }
+}
+
 static void test_accepted(void)
 {
-    static const char whole[] =
-        "T DEFINITIONS ::= BEGIN\n"
-        "IMPORTS MODULE-IDENTITY FROM SNMPv2-SMI;\n"
-        "t MODULE-IDENTITY LAST-UPDATED \"\" ORGANIZATION \"\" CONTACT-INFO \"\" DESCRIPTION \"\" ::= { iso 9 }\n"
-        "a OBJECT IDENTIFIER ::= { t 1 }\n"
-        "END\n";
-    /* The lines start at 0, 24, 65 and 160. */
+    /* The lines of the whole case start at 0, 24, 65 and 160. */
     static const uint32_t whole_records[] = {1, 65, 1, 0, 2, 0, 0, 0, 0, 0, 2, 160, 1, 2, 3, 0, 0, 0, 0, 0};
     static const uint32_t whole_numbers[] = {1, 9, 1, 9, 1};
     static const char object[] =
@@ -302,8 +309,10 @@ static void test_answers(void)
     check("of a row, nor does a third", answer[0] == 0 && answer[1] == 0 && answer[2] == LENT && answer[3] == LENT);
 }
 
-int main(void)
+int main(int count, char **words)
 {
+    if (count > 1)
+        load(words[1]);
     test_accepted();
     test_refused();
     test_short();

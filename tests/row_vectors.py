@@ -4,11 +4,18 @@
 row_vectors.py          writes crates/row/stdin and crates/row/stdout
 row_vectors.py --check  says whether the two files are those of the table, and exits 1 where they are not
 
+The table is held against the independent reading, case by case.
+
 A cell is what the set value does to a row in that state: a number 0 to 3 is the next state, answered 0; 'wrong' is 10
 and 'inconsistent' is 12, both with the state unchanged. 'complete ? a : b' and 'willing ? a : b' go by the flag.
 """
 import os
 import sys
+
+sys.dont_write_bytecode = True
+HERE = os.path.dirname(os.path.abspath(__file__))
+sys.path.insert(0, HERE)
+import ask  # noqa: E402
 
 NAMES = {1: "active", 2: "notInService", 3: "notReady", 4: "createAndGo", 5: "createAndWait", 6: "destroy"}
 
@@ -57,15 +64,32 @@ def cell(state, value, complete, willing):
     return 0, int(rest)
 
 
-def vectors():
-    cases, lines = [], []
+def agree(cases):
+    """Each case, its state, flags, value, number and next state, is as the reading has it."""
+    given = ["\t".join(map(str, case[:4])).encode() for case in cases]
+    wanted = ["\t".join(map(str, case[4:])).encode() for case in cases]
+    wrong = [case for case, want, read in zip(cases, wanted, ask.lines("row", given)) if want != read]
+    for case in wrong:
+        print("row_vectors: the reading has not", case, file=sys.stderr)
+    return not wrong
+
+
+def steps():
+    """What the table says of each state, with each flag and value."""
     for state in range(5):
         for complete in ("yes", "no"):
             for willing in ("yes", "no"):
-                cases.append(f"{state}\t{complete}\t{willing}")
                 for value in range(1, 7):
-                    number, following = (40, state) if state > 3 else cell(state, value, complete == "yes", willing == "yes")
-                    lines.append(f"{value}\t{NAMES[value]}\t{number}\t{following}")
+                    answer = (40, state) if state > 3 else cell(state, value, complete == "yes", willing == "yes")
+                    yield (state, complete, willing, value, *answer)
+
+
+def vectors():
+    cases, lines = [], []
+    for state, complete, willing, value, number, following in steps():
+        if value == 1:
+            cases.append(f"{state}\t{complete}\t{willing}")
+        lines.append(f"{value}\t{NAMES[value]}\t{number}\t{following}")
     for state, complete, willing, value, name, number, following in SINGLE:
         cases.append(f"{state}\t{complete}\t{willing}\t{value}")
         lines.append(f"{value}\t{name}\t{number}\t{following}")
@@ -83,8 +107,8 @@ def vectors():
 
 
 def main():
-    folder = os.path.join(os.path.dirname(os.path.abspath(__file__)), "..", "crates", "row")
-    same = True
+    folder = os.path.join(HERE, "..", "crates", "row")
+    same = agree([*steps(), *((*single[:4], *single[5:]) for single in SINGLE)])
     for name, text in zip(("stdin", "stdout"), vectors()):
         path = os.path.join(folder, name)
         if "--check" not in sys.argv:

@@ -1,5 +1,5 @@
 #!/usr/bin/env python3
-"""The vectors of the program `tokens`: crates/tokens/data/, args and stdout, from the independent reading tokens.py.
+"""The vectors of the program `tokens`: crates/tokens/data/, args and stdout, from the independent reading.
 
 token_vectors.py          writes the files
 token_vectors.py --check  says whether they are those of the reading, and exits 1 where they are not
@@ -14,10 +14,23 @@ import sys
 sys.dont_write_bytecode = True
 HERE = os.path.dirname(os.path.abspath(__file__))
 sys.path.insert(0, HERE)
+import ask  # noqa: E402
 import grammar_vectors  # noqa: E402
-from tokens import CAPITAL, read  # noqa: E402
 
 CRATE = os.path.join(HERE, "..", "crates", "tokens")
+
+CAPITAL = """AUGMENTS BEGIN BITS CONTACT-INFO DEFINITIONS DEFVAL DESCRIPTION DISPLAY-HINT END FROM IDENTIFIER IMPLIED
+IMPORTS INDEX INTEGER LAST-UPDATED MAX-ACCESS MODULE-IDENTITY NOTIFICATION-TYPE OBJECT OBJECT-IDENTITY OBJECT-TYPE OBJECTS
+OCTET OF ORGANIZATION REFERENCE REVISION SEQUENCE SIZE STATUS STRING SYNTAX TEXTUAL-CONVENTION UNITS""".split()
+LOWER = "current deprecated obsolete not-accessible accessible-for-notify read-only read-write read-create".split()
+
+
+def apart(words):
+    """The words with a blank between them, and the lines of those: a capital word is its own class."""
+    starts = [sum(len(before) + 1 for before in words[:k]) for k in range(len(words))]
+    lines = [f"{start}\t{start + len(word)}\t{word if word[0].isupper() else 'lower'}" for start, word in zip(starts, words)]
+    return " ".join(words).encode("ascii"), lines
+
 
 # name, text, and what must be printed before the last line that the grammar has, or None where only the reading says it
 VECTORS = [
@@ -87,7 +100,7 @@ VECTORS = [
     ("line-ends", b"a\r\nb\r\n\r\nc\n", ["0\t1\tlower", "3\t4\tlower", "8\t9\tlower"]),
     ("bytes-65536", b'"' + b"x" * 65534 + b'"', ["0\t65536\ttext"]),
     ("bytes-65537", b'"' + b"x" * 65535 + b'"', ["refused\t2\t0"]),
-    ("words", b" ".join(sorted(CAPITAL)) + b" current deprecated obsolete not-accessible accessible-for-notify read-only read-write read-create", None),
+    ("words", *apart(CAPITAL + LOWER)),
 ]
 
 for b in range(256):
@@ -100,8 +113,7 @@ NAMES = [name for name, text, tokens in VECTORS]
 assert len(set(NAMES)) == len(NAMES)
 
 
-def listing(name, text, tokens):
-    lines = read(text)
+def listing(name, tokens, lines):
     # the tokens, or one refusal, are as the paper has them; a text that cuts has one line more
     assert tokens is None or lines[: len(tokens)] == tokens, (name, lines, tokens)
     assert tokens is None or len(lines) == len(tokens) + (not lines[0].startswith("refused") or lines[0].startswith("refused\t7")), (name, lines)
@@ -113,7 +125,9 @@ def files():
     for name, text, tokens in VECTORS:
         yield os.path.join("data", name), text
     yield "args", "".join(f"{name}\n" for name in NAMES).encode("ascii")
-    yield "stdout", "".join(f"{line}\n" for vector in VECTORS for line in [vector[0]] + listing(*vector)).encode("latin-1")
+    read = [said.decode("ascii").splitlines() for said in ask.texts("tokens", [text for _, text, _ in VECTORS])]
+    listings = [[name] + listing(name, tokens, lines) for (name, _, tokens), lines in zip(VECTORS, read)]
+    yield "stdout", "".join(f"{line}\n" for lines in listings for line in lines).encode("ascii")
 
 
 def check():

@@ -31,7 +31,7 @@ test_explain_missing_file() {
 }
 
 test_explain_against_the_reading() {
-    python3 tests/explained.py target/bin/explain --count 1200 --seed 1 >"$scratch/compared" || cat "$scratch/compared" >&2
+    python3 tests/explained.py target/bin/explain --count 2000 --seed 1 >"$scratch/compared" || cat "$scratch/compared" >&2
     tail -n 1 "$scratch/compared" | grep -q ' 0 differences$' && ! grep -q '^no case' "$scratch/compared"
-    report "explain: 1,200 texts as the reading of the paper has them" "$?"
+    report "explain: 2,000 texts as the reading of the paper has them" "$?"
 }

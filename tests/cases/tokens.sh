@@ -22,7 +22,6 @@ test_tokens_missing_file() {
 }
 
 test_tokens_against_the_reading() {
-    python3 tests/reading/compare.py tokens target/bin/tokens --count 500 --seed 1 >"$scratch/compared" || cat "$scratch/compared" >&2
-    tail -n 1 "$scratch/compared" | grep -q ' 0 differences$'
-    report "tokens: 500 texts as the reading of the paper has them" "$?"
+    agrees tokens 2000 1
+    report "tokens: 2,000 texts as the reading of the paper has them" "$?"
 }

@@ -4,11 +4,11 @@
 use std::fmt::Display;
 use std::panic::{catch_unwind, AssertUnwindSafe};
 
-use crate::hints::{self, Printed};
-use crate::inputs::values::{Integer, Octets, Row};
-use crate::inputs::{Input, Module};
-use crate::reading::{self, NUMBER_WORDS, RECORD_WORDS};
-use crate::rows;
+use reading::hints::{self, Printed};
+use reading::inputs::values::{Integer, Octets, Row};
+use reading::inputs::{Input, Module};
+use reading::modules::{self, NUMBER_WORDS, RECORD_WORDS};
+use reading::rows;
 
 /// Which call an input goes to: answers are counted for each.
 #[derive(Clone, Copy, PartialEq, Eq, Debug)]
@@ -79,7 +79,7 @@ impl Lent {
     }
 
     fn module(&mut self, module: &Module) -> (Call, u32, Option<String>) {
-        let expected = reading::read(&module.text, module.record_words, module.number_words);
+        let expected = modules::read(&module.text, module.record_words, module.number_words);
         let records = &mut self.records[..module.record_words];
         let numbers = &mut self.numbers[..module.number_words];
         records.copy_from_slice(&self.word_pattern[..module.record_words]);
@@ -215,4 +215,37 @@ fn buffer_differs<T: Copy + PartialEq + Display + Default>(
         };
         differs(&format!("{what} {i}:"), lent[i], expected)
     })
+}
+
+#[cfg(test)]
+mod tests {
+    use super::*;
+
+    const PATTERN: [u32; 5] = [11, 12, 13, 14, 15];
+
+    /// Two words written, four in the working part, five lent.
+    fn written(lent: [u32; 5]) -> bool {
+        buffer_differs("word", &lent, &PATTERN, Some((&[1, 2], 4))).is_none()
+    }
+
+    #[test]
+    fn a_wrong_word_is_seen_wherever_it_stands() {
+        assert!(written([1, 2, 0, 0, 15]));
+        assert!(!written([1, 3, 0, 0, 15]), "a word written");
+        assert!(!written([1, 2, 0, 14, 15]), "a word to be cleared");
+        assert!(!written([1, 2, 0, 0, 0]), "a word beyond the part");
+    }
+
+    #[test]
+    fn a_change_is_seen_where_none_may_be() {
+        let changed = [11, 12, 0, 14, 15];
+        assert!(buffer_differs("word", &PATTERN, &PATTERN, None).is_none());
+        assert!(buffer_differs("word", &changed, &PATTERN, None).is_some());
+    }
+
+    #[test]
+    fn a_panic_is_a_difference() {
+        assert_eq!(caught(|| 5), Ok(5));
+        assert!(caught(|| -> u32 { panic!("as a library might") }).is_err());
+    }
 }

@@ -1,8 +1,3 @@
-//! An independent reading of the paper and generated inputs, to hold a
-//! library against.
+//! The library, held against an independent reading of the paper.
 
 pub mod compare;
-pub mod hints;
-pub mod inputs;
-pub mod reading;
-pub mod rows;

@@ -16,7 +16,7 @@ use std::sync::Mutex;
 use std::{fs, io, thread};
 
 use differential::compare::{Lent, CALLS};
-use differential::inputs::{input, Input};
+use reading::inputs::{input, Input};
 
 const USAGE: &str =
     "differential --count N --seed S [--first I] [--threads T] [--every] [--kept FOLDER]";

@@ -13,9 +13,9 @@ pub const MACROS: [&[u8]; 5] = [
     b"TEXTUAL-CONVENTION",
 ];
 
-const STATUS_WORDS: [&[u8]; 3] = [b"current", b"deprecated", b"obsolete"];
+pub const STATUS_WORDS: [&[u8]; 3] = [b"current", b"deprecated", b"obsolete"];
 
-const ACCESS_WORDS: [&[u8]; 5] = [
+pub const ACCESS_WORDS: [&[u8]; 5] = [
     b"not-accessible",
     b"accessible-for-notify",
     b"read-only",

@@ -11,7 +11,7 @@ pub mod wide;
 use super::maker::upper_first;
 use super::model::*;
 use super::rng::Rng;
-use crate::reading::symbols;
+use crate::modules::symbols;
 
 /// An edit; it answers false where it finds nothing to change.
 type Edit = fn(&mut Rng, &mut Model) -> bool;

@@ -3,9 +3,12 @@
 //! marks are the paper's words.
 
 mod grammar;
+mod listing;
 mod rules;
 pub mod symbols;
 pub mod tokens;
+
+pub use listing::{fault, listing};
 
 use grammar::{Definition, Module};
 use rules::Settled;
@@ -102,6 +105,21 @@ fn record(d: &Definition, oid: &[u32], first: usize, class: u32) -> [u32; 10] {
         d.status,
         class,
     ]
+}
+
+/// The number and place of a text, and the place of the other one where the
+/// refusal is about two things.
+pub fn other(text: &[u8]) -> (u32, usize, Option<usize>) {
+    let answer = read(text, RECORD_WORDS, NUMBER_WORDS);
+    let refusal = Refusal::new(answer.number, answer.place);
+    let found = match answer.number {
+        8.. => tokens::tokens(text).and_then(|found| {
+            let module = grammar::parse(&found, text.len())?;
+            Ok(rules::other(&module, refusal))
+        }),
+        _ => Ok(None),
+    };
+    (answer.number, answer.place, found.unwrap_or(None))
 }
 
 /// The shelf card: "one record a line, tabs between: `accepted` and the

@@ -1,8 +1,8 @@
 //! Answers for hints and rows that were worked out by hand from the paper.
 //! No value here is a program's output.
 
-use differential::hints::{print_integer, print_octets, Printed};
-use differential::rows::set_row;
+use reading::hints::{print_integer, print_octets, Printed};
+use reading::rows::set_row;
 
 fn octets(hint: &str, octets: &[u8], expected: &[u8]) {
     let printed = print_octets(hint.as_bytes(), octets, 4096);

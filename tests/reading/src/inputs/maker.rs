@@ -4,7 +4,7 @@
 
 use super::model::*;
 use super::rng::Rng;
-use crate::reading::symbols;
+use crate::modules::symbols;
 
 const WORDS: [&str; 24] = [
     "a", "i", "if", "in", "eth", "row", "col", "link", "name", "last", "up", "down", "speed",

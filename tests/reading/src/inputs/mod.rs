@@ -11,7 +11,7 @@ mod words;
 
 use rng::Rng;
 
-use crate::reading::{NUMBER_WORDS, RECORD_WORDS};
+use crate::modules::{NUMBER_WORDS, RECORD_WORDS};
 
 /// A text and the lengths of the two lent buffers.
 pub struct Module {
@@ -37,6 +37,17 @@ pub fn input(seed: u64, index: u64) -> Input {
     }
 }
 
+/// A generated text by itself. Some of each hundred are at the limits, so
+/// that a few thousand have every answer.
+pub fn made(seed: u64, index: u64) -> Vec<u8> {
+    let mut rng = Rng::new(seed, index);
+    match index % 100 {
+        0 | 50 => large(&mut rng),
+        25 => filled(&mut rng),
+        _ => text(&mut rng),
+    }
+}
+
 fn module(rng: &mut Rng) -> Module {
     Module {
         text: text(rng),
@@ -58,11 +69,7 @@ fn buffer(rng: &mut Rng, part: usize) -> usize {
 fn text(rng: &mut Rng) -> Vec<u8> {
     match rng.below(2000) {
         0..=4 => return large(rng),
-        5..=6 => {
-            let mut text = written(rng, 0, 0);
-            damage::filled(rng, &mut text);
-            return text;
-        }
+        5..=6 => return filled(rng),
         _ => {}
     }
     match rng.below(100) {
@@ -105,6 +112,13 @@ fn written(rng: &mut Rng, edits: usize, damaged: usize) -> Vec<u8> {
     words::joined(rng, &words)
 }
 
+/// About as many bytes as are read.
+fn filled(rng: &mut Rng) -> Vec<u8> {
+    let mut text = written(rng, 0, 0);
+    damage::filled(rng, &mut text);
+    text
+}
+
 /// Around 512 definitions or 8,192 numbers, or a very long list; now and
 /// then with an edit.
 fn large(rng: &mut Rng) -> Vec<u8> {
@@ -126,7 +140,7 @@ fn large(rng: &mut Rng) -> Vec<u8> {
 #[cfg(test)]
 mod tests {
     use super::*;
-    use crate::reading::read;
+    use crate::modules::read;
 
     /// Edits are near misses only if what they edit is accepted.
     #[test]

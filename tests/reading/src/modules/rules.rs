@@ -1,12 +1,16 @@
 //! Refusals 8 to 22 in their order. Each rule gives the earliest place in
 //! breach, if any; what a rule has made sure of is settled for those after it.
 
+mod other;
+
 use std::collections::{HashMap, HashSet};
 
 use super::grammar::{Definition, Form, Kind, Label, Module, Range, Restriction};
 use super::symbols;
 use super::tokens::{Token, HIGHEST, LOWEST};
 use super::Refusal;
+
+pub use other::other;
 
 const MOST_DEFINITIONS: usize = 512;
 const LONGEST_OID: usize = 128;

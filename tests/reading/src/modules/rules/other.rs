@@ -1,0 +1,125 @@
+//! Where the other one stands, for a refusal that is about two things: the
+//! name or label that was there first, the definition that holds the OID, the
+//! range before, the part of a table that does not fit.
+
+use super::{
+    classes, oid_values, ranges_of, Chains, Definition, Kind, Module, Names, Refusal, Restriction,
+    Settled, Tables,
+};
+
+/// The module derives, and the refusal is the one that it gets.
+pub fn other(m: &Module, refusal: Refusal) -> Option<usize> {
+    let place = refusal.place;
+    let other = match refusal.number {
+        9 => earlier_name(m, place),
+        15 => earlier_holder(m, place),
+        16 => range_before(m, place),
+        18 => earlier_label(m, place),
+        20 => of_table(m, place),
+        _ => None,
+    };
+    // A row may augment itself.
+    other.filter(|other| *other != place)
+}
+
+/// `iso` has no earlier name.
+fn earlier_name(m: &Module, place: usize) -> Option<usize> {
+    let imported = m.groups.iter().flat_map(|group| &group.symbols);
+    let names = || {
+        imported
+            .clone()
+            .chain(m.definitions.iter().map(|d| &d.name))
+    };
+    let again = names().find(|name| name.start == place)?;
+    let first = names().find(|name| name.word == again.word)?;
+    Some(first.start)
+}
+
+fn definition_at(m: &Module, place: usize) -> Option<usize> {
+    m.definitions.iter().position(|d| d.name.start == place)
+}
+
+fn settled(m: &Module, names: &Names) -> Settled {
+    Settled {
+        oids: oid_values(m, &Chains::new(m, names)),
+        classes: classes(m, names),
+    }
+}
+
+fn earlier_holder(m: &Module, place: usize) -> Option<usize> {
+    let oids = settled(m, &Names::new(m)).oids;
+    let again = definition_at(m, place)?;
+    let holds = |d: &Definition| {
+        matches!(
+            d.kind,
+            Kind::Identity | Kind::ObjectIdentity | Kind::Object | Kind::Notification
+        )
+    };
+    let first = (0..again).find(|i| holds(&m.definitions[*i]) && oids[*i] == oids[again])?;
+    Some(m.definitions[first].name.start)
+}
+
+/// A range whose low is not below its high is wrong by itself.
+fn range_before(m: &Module, place: usize) -> Option<usize> {
+    let ranges = m
+        .definitions
+        .iter()
+        .map(ranges_of)
+        .find(|ranges| ranges.iter().any(|range| range.place == place))?;
+    let at = ranges.iter().position(|range| range.place == place)?;
+    let alone = ranges[at].high.is_some_and(|high| ranges[at].low >= high);
+    if alone || at == 0 {
+        return None;
+    }
+    Some(ranges[at - 1].place)
+}
+
+fn earlier_label(m: &Module, place: usize) -> Option<usize> {
+    m.definitions.iter().find_map(|d| {
+        let Restriction::Labels(labels) = &d.syntax.as_ref()?.restriction else {
+            return None;
+        };
+        let at = labels.iter().position(|label| label.name.start == place)?;
+        let again = &labels[at];
+        let first = labels[..at]
+            .iter()
+            .find(|label| label.name.word == again.name.word || label.number == again.number)?;
+        Some(first.name.start)
+    })
+}
+
+/// By the first clause of rule 20, in the paper's order, that the object at
+/// this place is in breach of.
+fn of_table(m: &Module, place: usize) -> Option<usize> {
+    let names = Names::new(m);
+    let settled = settled(m, &names);
+    let tables = Tables::new(m, &names, &settled);
+    let i = definition_at(m, place)?;
+    let d = &m.definitions[i];
+    let name_of = |i: usize| m.definitions[i].name.start;
+    if tables.is_table(i) && !tables.has_its_row(i) {
+        // Of several rows the second is one too many.
+        let sequence = tables.sequence(i);
+        let rows = &tables.rows_of[sequence];
+        let row = rows.get(1).or(rows.first());
+        return Some(name_of(*row.unwrap_or(&sequence)));
+    }
+    if tables.is_row(i) && !tables.has_its_table(i) {
+        let sequence = tables.sequence(i);
+        let of_type = |t: &usize| tables.is_table(*t) && tables.sequence(*t) == sequence;
+        let table = (0..m.definitions.len()).find(of_type);
+        return Some(name_of(table.unwrap_or(sequence)));
+    }
+    let indexed = !d.index.is_empty() || d.augments.is_some();
+    if indexed != tables.is_row(i) {
+        return None;
+    }
+    if tables.is_row(i) && !tables.has_its_columns(i) {
+        return Some(name_of(tables.sequence(i)));
+    }
+    let row = tables.row_above(i);
+    if row.is_some_and(|row| !tables.lists(row, i)) {
+        return row.map(name_of);
+    }
+    d.augments.map(|name| name_of(tables.object(&name)))
+}
