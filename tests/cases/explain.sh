@@ -113,11 +113,11 @@ test_explain_clauses() {
     says "a notification under 1" "4:1: refused 22: 'n' is a notification whose next-to-last number is not 0" "n NOTIFICATION-TYPE $rest"
 }
 
-# 300 characters of two bytes stand before the place, and 300 behind it: of each 100 bytes are shown, or fewer, so that none is cut.
+# 300 characters of two bytes stand before the place, and 300 behind it: on either side up to 100 bytes are shown, and none is cut.
 test_explain_long_line() {
     many=$(printf '%300s' '' | sed "s/ /$(printf '\303\251')/g")
     before=$(printf '%48s' '' | sed "s/ /$(printf '\303\251')/g")
-    behind=$(printf '%47s' '' | sed "s/ /$(printf '\303\251')/g")
+    behind=$(printf '%46s' '' | sed "s/ /$(printf '\303\251')/g")
     printf -- '--%s-- a_b --%s--' "$many" "$many" >"$scratch/long"
     expect "explain: a long line in part" 1 "$scratch/long:1:607: refused 3: byte 95 (underscore) starts no token: a name has letters, digits and hyphens
 ..$before-- a_b --$behind..

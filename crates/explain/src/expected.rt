@@ -1,5 +1,5 @@
 // What may stand where the grammar refuses a text.
-ghost use Prim.Native.Nat.{_<_};
+ghost use Prim.Native.Nat.{_<_, _≤_};
 ghost use lib.ListN.{length};
 use crate::class_name::print_class;
 use crate::tokens::collect_tokens;
@@ -101,14 +101,16 @@ fn count_named(allowed: &[bool; TERMINALS]) -> usize {
     let mut n = 0;
     let mut class = 0;
     while class < TERMINALS {
-        if is_named(allowed, class) {
-            n += 1;
-            class += 1;
-        } else {
-            class += 1;
-        }
+        n += one_if(is_named(allowed, class));
+        class += 1;
     }
     n
+}
+
+fn one_if(test: bool) -> usize
+    ensures { λ r. ⌜ r ≤ 1 ⌝ }
+{
+    if test { 1 } else { 0 }
 }
 
 // The first of the classes that are allowed, words before names and names before marks.

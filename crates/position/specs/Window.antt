@@ -16,15 +16,10 @@ unfoldable pub first-start : List ℕ → ℕ → ℕ
 first-start text k =
     cond (is-inside text k) (cond (is-inside text (k + 1)) (cond (is-inside text (k + 2)) (k + 3) (k + 2)) (k + 1)) k
 
--- the last place up to k that is not inside a character
-unfoldable pub last-start : List ℕ → ℕ → ℕ
-last-start text k =
-    cond (is-inside text k) (cond (is-inside text (k - 1)) (cond (is-inside text (k - 2)) (k - 3) (k - 2)) (k - 1)) k
-
 -- where the part starts: where the line does, or nearer
 unfoldable pub shown-from : List ℕ → ℕ → ℕ
 shown-from text place = cond (leb (place - start-at text place) reach) (start-at text place) (first-start text (place - reach))
 
 -- where it ends: where the line does, or nearer
 unfoldable pub shown-to : List ℕ → ℕ → ℕ
-shown-to text place = cond (leb (end-at text place - place) reach) (end-at text place) (last-start text (place + reach))
+shown-to text place = cond (leb (end-at text place - place) reach) (end-at text place) (first-start text (place + reach - 3))

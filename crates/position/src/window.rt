@@ -2,7 +2,7 @@
 ghost use mathlib.Core.Path.{_≡_};
 ghost use Prim.Native.Nat.{_+_, _-_, _≤_, _<_};
 ghost use lib.ListN.{length};
-ghost use Rattle.position.specs.Window.{reach, first-start, last-start, shown-from, shown-to};
+ghost use Rattle.position.specs.Window.{reach, first-start, shown-from, shown-to};
 use crate::line::line_end;
 use crate::line::locate;
 use crate::margin::is_inside;
@@ -35,26 +35,6 @@ fn first_start(text: &[u8], k: usize) -> usize
     k + 3
 }
 
-// The last place up to k that is not inside a character.
-fn last_start(text: &[u8], k: usize) -> usize
-    requires low { ⌜ 3 ≤ k ⌝ }
-    requires high { ⌜ k < length (now text) ⌝ }
-    ensures is { λ r. ⌜ r ≡ last-start (now (text .entry)) k ⌝ }
-    ensures low { λ r. ⌜ k ≤ r + 3 ⌝ }
-    ensures high { λ r. ⌜ r ≤ k ⌝ }
-{
-    if !is_inside(text, k) {
-        return k;
-    }
-    if !is_inside(text, k - 1) {
-        return k - 1;
-    }
-    if !is_inside(text, k - 2) {
-        return k - 2;
-    }
-    k - 3
-}
-
 // Where the part starts that is shown of the line that a place stands in.
 fn shown_from(text: &[u8], place: usize) -> usize
     requires { ⌜ place ≤ length (now text) ⌝ }
@@ -69,7 +49,7 @@ fn shown_from(text: &[u8], place: usize) -> usize
     first_start(text, place - REACH)
 }
 
-// Where it ends.
+// Where it ends. The first place from three bytes before the limit on is not past it.
 fn shown_to(text: &[u8], place: usize) -> usize
     requires { ⌜ place ≤ length (now text) ⌝ }
     ensures is { λ r. ⌜ r ≡ shown-to (now (text .entry)) place ⌝ }
@@ -80,7 +60,7 @@ fn shown_to(text: &[u8], place: usize) -> usize
     if end - place <= REACH {
         return end;
     }
-    last_start(text, place + REACH)
+    first_start(text, place + REACH - 3)
 }
 
 // The part that is shown of the line that a place stands in.

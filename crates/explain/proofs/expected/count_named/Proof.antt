@@ -17,6 +17,9 @@ loop-holds c = search needs
 is-named-requires : tie.Need-is-named-requires Inv-loop μ-loop
 is-named-requires c κs = search needs
 
+one-if-requires : tie.Need-one-if-requires Inv-loop μ-loop
+one-if-requires c κs = search needs
+
 add-n : tie.Need-add-n Inv-loop μ-loop
 add-n c = search needs
 
@@ -29,15 +32,6 @@ loop-less c = search needs
 loop-again : tie.Need-loop-again Inv-loop μ-loop
 loop-again c = search needs
 
-add-class-2 : tie.Need-add-class-2 Inv-loop μ-loop
-add-class-2 c = search needs
-
-loop-less-2 : tie.Need-loop-less-2 Inv-loop μ-loop
-loop-less-2 c = search needs
-
-loop-again-2 : tie.Need-loop-again-2 Inv-loop μ-loop
-loop-again-2 c = search needs
-
 returns : tie.Need-returns Inv-loop μ-loop
 returns c = search needs
 
@@ -49,11 +43,9 @@ count-named-spec =
     μ-loop
     loop-holds
     is-named-requires
+    one-if-requires
     add-n
     add-class
     loop-less
     loop-again
-    add-class-2
-    loop-less-2
-    loop-again-2
     returns)

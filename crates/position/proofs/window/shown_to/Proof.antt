@@ -20,19 +20,22 @@ returns c =
     let found = c .before .line-end .ensures in
     (simp (← (found .0), le-leb _ _ (c .if1 .taken)), (omega arith, omega arith))
 
-add-last-start : tie.Need-add-last-start
-add-last-start c = search needs
+add-first-start : tie.Need-add-first-start
+add-first-start c = search needs
 
-last-start-requires : tie.Need-last-start-requires
-last-start-requires c κs = search needs
+sub-first-start : tie.Need-sub-first-start
+sub-first-start c = search needs
+
+first-start-requires : tie.Need-first-start-requires
+first-start-requires c κs = search needs
 
 returns-2 : tie.Need-returns-2
 unfolding shown-to
 returns-2 c =
     let found = c .before .before .line-end .ensures in
-    (c .last-start .ensures .0 ∙ simp (← (found .0), lt-leb _ _ (c .before .if1 .left)), (omega arith, omega arith))
+    (c .first-start .ensures .0 ∙ simp (← (found .0), lt-leb _ _ (c .before .if1 .left)), (omega arith, omega arith))
 
 pub shown-to-spec : {M : Type 1} → statement M
 shown-to-spec =
     tie.close
-    (tie.spec line-end-requires sub-if1 returns add-last-start last-start-requires returns-2)
+    (tie.spec line-end-requires sub-if1 returns add-first-start sub-first-start first-start-requires returns-2)
