@@ -1,6 +1,7 @@
 #!/usr/bin/env python3
 """Compares what explain prints of generated texts with the reading of document 01: its numbers, places and other places, and from them the
-heads, the lines shown and the marks, worked out here. Of a sentence only the word at fault is asked; tests/cases/explain.sh has the wording.
+heads, the lines shown and the marks, worked out here. Of a sentence only the word at fault is asked, and of 7 what may stand there, which is
+what that reading lets pass; tests/cases/explain.sh has the wording.
 
 explained.py PROGRAM [--count N] [--seed S]
 
@@ -25,6 +26,13 @@ OTHERS = {9, 15, 16, 18, 20}
 LATIN = b"-- Z\xfcrich -- -- \xe2\x82\xac\tand \xf0\x9f\x94\x8b --\t"   # a comment with bytes over 127, in UTF-8 and not, and tabs
 WORD = re.compile(rb"[A-Za-z](?:[A-Za-z0-9]|-(?=[A-Za-z0-9]))*|-?[0-9]+")   # a name or a number, where a token starts
 CUT = b".."
+# The order in which what may stand is named: capital words, words that are lower too, names, marks, and the rest.
+CAPITALS = """UNITS TEXTUAL-CONVENTION SYNTAX STRING STATUS SIZE SEQUENCE REVISION REFERENCE ORGANIZATION OF OCTET OBJECTS OBJECT-TYPE
+OBJECT-IDENTITY OBJECT NOTIFICATION-TYPE MODULE-IDENTITY MAX-ACCESS LAST-UPDATED INTEGER INDEX IMPORTS IMPLIED IDENTIFIER FROM END DISPLAY-HINT
+DESCRIPTION DEFVAL DEFINITIONS CONTACT-INFO BITS BEGIN AUGMENTS""".split()
+SMALL = "read-create read-write read-only accessible-for-notify not-accessible obsolete deprecated current".split()
+MARKS = "| ; , ) ( } { .. ::=".split()
+NAMED = CAPITALS + SMALL + ["Upper", "lower"] + MARKS + ["hex", "text", "number"]
 
 
 def character_at(text, i):
@@ -77,6 +85,37 @@ def head(name, text, place, number):
     return b"%s:%d:%d: refused %d: " % (name, line, column, number)
 
 
+def classes_before(text, place, listing):
+    """The classes of the tokens before a place, as the reading takes them."""
+    found = []
+    for line in listing.decode().splitlines()[:-1]:
+        start, end, kind = line.split("\t")
+        if int(start) < place:
+            word = text[int(start):int(end)].decode("latin-1")
+            found.append(word if word in SMALL else "negative" if kind == "number" and word[0] == "-" else kind)
+    return found
+
+
+def named(before):
+    """What may stand behind some classes, in words."""
+    said = ask.lines("derives", [" ".join(before + [kind]).encode() for kind in NAMED])
+    kinds = [kind for kind, fault in zip(NAMED, said) if fault == b"derived" or int(fault) > len(before)]
+    if "lower" in kinds:
+        kinds = [kind for kind in kinds if kind not in SMALL]
+    kinds = ["'%s'" % kind if kind in MARKS else kind for kind in kinds]
+    if len(kinds) > 5:
+        return ", ".join(kinds[:5]) + " and others"
+    return " or ".join([", ".join(kinds[:-1])] * (len(kinds) > 1) + kinds[-1:])
+
+
+def ending_of(text, place, listing):
+    """What a sentence on the grammar ends with."""
+    may = named(classes_before(text, place, listing))
+    if place == len(text):
+        return "the text ends here, and the module does not; %s may follow" % may
+    return " may not stand here; %s may" % may if may else " stands behind the module's END"
+
+
 def words_at(text, place, number):
     """What the sentence holds: the word at the place in quotes, where it is a name or a number."""
     word = WORD.match(text, place) if number > 7 else None
@@ -114,12 +153,16 @@ def accepted_differs(name, card, lines):
     return None if lines == wanted else "%r, not %r" % (lines, wanted)
 
 
-def differs(name, answer, card, lines):
+def differs(name, answer, card, listing, lines):
     """What is wrong with the lines on a file, or None."""
     if answer[0] == 0:
         return accepted_differs(name.encode(), card, lines)
     with open(name, "rb") as file:
         text = file.read()
+    if answer[0] == 7:
+        ending = ending_of(text, answer[1], listing)
+        if not lines[0].endswith(ending.encode()):
+            return "%r, which does not end %r" % (lines[0], ending)
     return refused_differs(name.encode(), text[:65537] if answer[0] == 2 else text, answer, lines)
 
 
@@ -164,11 +207,12 @@ def main():
     differences, seen, with_other = 0, set(), set()
     with tempfile.TemporaryDirectory() as folder:
         names = made(options.count, options.seed, folder)
-        for name, answer, card, lines in zip(names, answers(names), ask.files("card", names), printed(options.program, names)):
+        said = zip(names, answers(names), ask.files("card", names), ask.files("tokens", names), printed(options.program, names))
+        for name, answer, card, listing, lines in said:
             seen.add(answer[0])
             if answer[2] is not None:
                 with_other.add(answer[0])
-            difference = differs(name, answer, card, lines)
+            difference = differs(name, answer, card, listing, lines)
             if difference:
                 differences += 1
                 print("text %s of seed %d: the program says %s" % (os.path.basename(name), options.seed, difference))

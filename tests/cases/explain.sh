@@ -10,7 +10,7 @@ test_explain_defined_twice() {
 
 test_explain_end_of_text() {
     printf T >"$scratch/early"
-    expect "explain: a text that ends too early" 1 "$scratch/early:1:2: refused 7: the text ends here, and the module does not
+    expect "explain: a text that ends too early" 1 "$scratch/early:1:2: refused 7: the text ends here, and the module does not; DEFINITIONS may follow
 T
  ^" "" explain "$scratch/early"
 }
@@ -119,4 +119,103 @@ n NOTIFICATION-TYPE OBJECTS {
 b,
 a,
 row } STATUS current DESCRIPTION \"\" ::= { t 0 1 }" '11:1 22 n' '13:1 22 a'
+}
+
+# ---- Reasons: what explain says of each fault, in whole sentences ----
+
+# says LABEL WANTED TEXT: where and why explain refuses a module that has this text from its fourth line on.
+says() {
+    cat >"$scratch/module" <<-END
+	T DEFINITIONS ::= BEGIN
+	IMPORTS MODULE-IDENTITY, OBJECT-IDENTITY, OBJECT-TYPE, NOTIFICATION-TYPE, Integer32, Gauge32, Counter32 FROM SNMPv2-SMI TEXTUAL-CONVENTION FROM SNMPv2-TC;
+	t MODULE-IDENTITY LAST-UPDATED "" ORGANIZATION "" CONTACT-INFO "" DESCRIPTION "" ::= { iso 9 }
+	END
+    printf '%s\nEND\n' "$3" >>"$scratch/module"
+    said_first "explain: $1" "$2"
+}
+
+# said_first LABEL WANTED: that is the first line that explain prints of the module, behind its name.
+said_first() {
+    said=$(./mib explain "$scratch/module" 2>&1 | sed -n 1p)
+    [ "$said" = "$scratch/module:$2" ]
+    report "$1" "$?"
+}
+
+test_explain_what_may_stand() {
+    says "two words may stand" "4:40: refused 7: 'MAX-ACCES' may not stand here; UNITS or MAX-ACCESS may" 'a OBJECT-TYPE SYNTAX OBJECT IDENTIFIER MAX-ACCES read-only'
+    says "words that are lower too" "4:26: refused 7: 'mandatory' may not stand here; obsolete, deprecated or current may" 'a OBJECT-IDENTITY STATUS mandatory'
+    says "more than five" "4:22: refused 7: '5' may not stand here; SEQUENCE, OCTET, OBJECT, INTEGER, BITS and others may" 'a OBJECT-TYPE SYNTAX 5'
+    says "a mark before a number is one byte" "4:29: refused 7: '(' may not stand here; lower or number may" 'a OBJECT IDENTIFIER ::= { t (1) }'
+    says "numbers of both signs are numbers" "4:31: refused 7: 'x' may not stand here; number may" 'a OBJECT-TYPE SYNTAX INTEGER (x'
+    says "a mark may stand" "4:25: refused 7: a text may not stand here; '{' may" 'a OBJECT IDENTIFIER ::= "x"'
+    says "behind the end" "4:5: refused 7: 'x' stands behind the module's END" 'END x'
+}
+
+test_explain_left_out() {
+    for word in OBJECT-GROUP NOTIFICATION-GROUP MODULE-COMPLIANCE AGENT-CAPABILITIES; do
+        says "$word is left out" "4:3: refused 7: '$word' is left out: this reader knows no conformance macros" "g $word"
+    done
+    says "a longer word is not" "4:3: refused 7: 'OBJECT-GROUPS' may not stand here; OBJECT-TYPE, OBJECT-IDENTITY, OBJECT or NOTIFICATION-TYPE may" 'g OBJECT-GROUPS'
+    says "a notification of SMIv1" "4:3: refused 7: 'TRAP-TYPE' is left out: this reader knows SMIv2 alone" 'x TRAP-TYPE'
+    says "access of SMIv1" "4:30: refused 7: 'ACCESS' is left out: this reader knows SMIv2 alone" 'a OBJECT-TYPE SYNTAX INTEGER ACCESS read-only'
+    says "a type by CHOICE" "4:9: refused 7: 'CHOICE' is left out: this reader knows no types by CHOICE" 'Foo ::= CHOICE { a INTEGER }'
+    says "a macro" "4:5: refused 7: 'MACRO' is left out: this reader knows no macro definitions" 'FOO MACRO ::= BEGIN END'
+    says "a macro of SMIv2" "4:1: refused 7: 'MACRO' is left out: this reader knows no macro definitions" 'OBJECT-TYPE MACRO ::= BEGIN END'
+    printf 'T DEFINITIONS ::= BEGIN EXPORTS a;' >"$scratch/module"
+    said_first "explain: EXPORTS is left out" "1:25: refused 7: 'EXPORTS' is left out: this reader knows no exports"
+    head -c 65537 /dev/zero | tr '\0' ' ' >"$scratch/module"
+    said_first "explain: a text over the limit" "1:1: refused 2: the text has more than 65,536 bytes, which is this reader's limit"
+}
+
+test_explain_no_token() {
+    says "an underscore" "4:2: refused 3: byte 95 (underscore) starts no token: a name has letters, digits and hyphens" 'a_b'
+    says "a byte that is seen" "4:7: refused 3: byte 91 ([) starts no token" 'A ::= [APPLICATION 0]'
+    says "a byte over 127" "4:1: refused 3: byte 195 starts no token: bytes over 127 may stand in comments alone" "$(printf '\303\251')"
+    says "a hyphen" "4:3: refused 3: a hyphen starts no token here: a name has single ones inside, a number one before its digits, and a comment starts with two" 'a - b'
+    says "a hyphen before 0" "4:1: refused 3: a hyphen may not stand before 0" '-0'
+    says "a letter behind a negative number" "4:1: refused 3: '-5a' is no number: a letter stands directly behind its digits" '-5a'
+    says "a number that starts with 0" "4:1: refused 3: '02' starts with 0, as a number of several digits may not" '02'
+    says "a digit before a letter" "4:1: refused 3: '3com' is neither a number nor a name: a name starts with a letter" '3com'
+    says "a colon" "4:3: refused 3: byte 58 (:) starts no token: '::=' does" 'a : b'
+    says "a dot" "4:3: refused 3: byte 46 (.) starts no token: '..' does" 'a . b'
+    says "a small h" "4:1: refused 3: a hex string has hex digits between apostrophes, and then H" "'0'h"
+    says "a text without its end" "4:3: refused 3: a text starts here, and has no end quote" 'a "b'
+    says "a text above without its end" "5:17: refused 3: byte 95 (underscore) starts no token: a name has letters, digits and hyphens; a text above may lack its end quote" 'a OBJECT-IDENTITY STATUS current DESCRIPTION "One.
+  REFERENCE "Two_three" ::= { t 1 }'
+    printf '\357\273\277T DEFINITIONS' >"$scratch/module"
+    said_first "explain: a byte-order mark" "1:1: refused 3: the text starts with a byte-order mark; save it without one"
+}
+
+test_explain_clauses() {
+    rest='STATUS current DESCRIPTION "" ::= { t 1 }'
+    says "a range on a counter" "4:33: refused 17: '1' starts a range, and none may stand on this type" "a OBJECT-TYPE SYNTAX Counter32 (1..5) MAX-ACCESS read-only $rest"
+    says "a size on an integer" "4:39: refused 17: '1' starts a size, and none may stand on this type" "a OBJECT-TYPE SYNTAX Integer32 (SIZE (1..5)) MAX-ACCESS read-only $rest"
+    says "a range outside the limits" "4:33: refused 17: '0' starts a range outside the limits of its type: -2147483648 to 2147483647, or 0 to 4294967295 for Gauge32 and Unsigned32" "a OBJECT-TYPE SYNTAX Integer32 (0..4294967295) MAX-ACCESS read-only $rest"
+    says "a size outside the limits" "4:46: refused 17: '70000' starts a size outside 0 to 65535" "a OBJECT-TYPE SYNTAX OCTET STRING (SIZE (1 | 70000)) MAX-ACCESS read-only $rest"
+    says "a number out of range" "4:32: refused 18: 'x' has a number out of range: an INTEGER's may be -2147483648 to 2147483647, and none of BITS is negative" "a OBJECT-TYPE SYNTAX INTEGER { x(4294967295) } MAX-ACCESS read-only $rest"
+    says "a counter that is written" "4:1: refused 21: 'a' is a counter, and these are read-only or accessible-for-notify, without DEFVAL" "a OBJECT-TYPE SYNTAX Counter32 MAX-ACCESS read-write $rest"
+    says "a scalar that is created" "4:1: refused 21: 'a' is read-create, and no column" "a OBJECT-TYPE SYNTAX Integer32 MAX-ACCESS read-create $rest"
+    says "a notification under 1" "4:1: refused 22: 'n' is a notification whose next-to-last number is not 0" "n NOTIFICATION-TYPE $rest"
+}
+
+# 300 characters of two bytes stand before the place, and 300 behind it: on either side up to 100 bytes are shown, and none is cut.
+test_explain_long_line() {
+    many=$(printf '%300s' '' | sed "s/ /$(printf '\303\251')/g")
+    before=$(printf '%48s' '' | sed "s/ /$(printf '\303\251')/g")
+    behind=$(printf '%46s' '' | sed "s/ /$(printf '\303\251')/g")
+    printf -- '--%s-- a_b --%s--' "$many" "$many" >"$scratch/long"
+    expect "explain: a long line in part" 1 "$scratch/long:1:607: refused 3: byte 95 (underscore) starts no token: a name has letters, digits and hyphens
+..$before-- a_b --$behind..
+$(printf '%54s' '')^" "" explain "$scratch/long"
+}
+
+# A bell stands in a comment before the place: at a terminal it is seen as four characters, and the mark stands four further right.
+test_explain_control_bytes() {
+    printf -- '--\007-- a_b' >"$scratch/bell"
+    ./mib explain "$scratch/bell" >"$scratch/output" 2>"$scratch/errors"
+    [ "$(sed -n '2,3p' "$scratch/output")" = "$(printf -- '--\007-- a_b\n       ^')" ]
+    report "explain: a control byte in a file is left as it is" "$?"
+    python3 tests/at_terminal.py ./mib explain "$scratch/bell" | tr -d '\r' >"$scratch/output"
+    grep -qxF -- '--\x07-- a_b' "$scratch/output" && grep -qxF '          ^' "$scratch/output"
+    report "explain: a control byte at a terminal is seen, and the mark stands below the place" "$?"
 }

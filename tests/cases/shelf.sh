@@ -14,6 +14,7 @@ $(line tests/texts/twice refused 9 207)" ] && [ "$(cat "$scratch/errors")" = "$(
 $(line accepted 1)
 $(line refused 3 1)
 $(line refused 9 1)
+$(line outside 0)
 $(line unread 0)" ]
     report "shelf: names on standard input, and the summary" "$?"
 }
@@ -55,4 +56,20 @@ test_shelf_readme() {
     shown 'ls examples' >"$scratch/shown"
     ls examples/*-MIB | ./mib shelf 2>&1 | cmp -s - "$scratch/shown"
     report "shelf: the README shows what is printed" "$?"
+}
+
+# A module of a conformance macro and a text over the limit are outside what is read; one that is at fault is not.
+test_shelf_outside() {
+    sed 's/^END/g OBJECT-GROUP/' tests/texts/whole >"$scratch/group"
+    head -c 65537 /dev/zero | tr '\0' ' ' >"$scratch/large"
+    sed 's/^END/g GROUP/' tests/texts/whole >"$scratch/fault"
+    ./mib shelf "$scratch/group" "$scratch/large" "$scratch/fault" tests/texts/open >/dev/null 2>"$scratch/errors"
+    [ "$(cat "$scratch/errors")" = "$(line files 4)
+$(line accepted 0)
+$(line refused 2 1)
+$(line refused 3 1)
+$(line refused 7 2)
+$(line outside 2)
+$(line unread 0)" ]
+    report "shelf: how many of the refused are outside what is read" "$?"
 }

@@ -2,13 +2,19 @@
 //
 // explain FILE prints, for a module that is refused, FILE:LINE:COLUMN, the number and the rule with the word at fault, then the line and a
 // mark below the place; and for a rule about two things the other one likewise. A module that is accepted gives one line.
+mod class_name;
 mod count;
+mod expected;
+mod import;
+mod range;
 mod reason;
 mod source;
+mod table;
+mod tokens;
+mod unread;
+mod word;
 
-use index::Place;
 use output::Output;
-use output::print;
 use reader::Examined;
 use reader::FILE_BYTES;
 use reader::NUMBER_WORDS;
@@ -50,7 +56,7 @@ fn explain_text(name: &[u8], text: &[u8], out: Output) -> Output {
     let mut numbers = [0u32; NUMBER_WORDS];
     match reader::examine(text, &mut records, &mut numbers) {
         Examined::Accepted(definitions) => {
-            let out = print(out, name);
+            let out = output::show(out, name);
             count::print_accepted(&records, definitions, out)
         }
         Examined::Refused(refusal) => explain_refusal(name, text, refusal, output::refuse(out)),
@@ -64,16 +70,21 @@ fn explain_refusal(name: &[u8], text: &[u8], refusal: Refusal, out: Output) -> O
     let out = source::print_head(name, text, at, refusal.number, out);
     let out = reason::print_reason(text, refusal, out);
     let out = print_source(text, at, out);
-    let other = refusal.other;
-    if other.0 == at {
-        return out;
+    if shows_other(refusal) {
+        return explain_other(name, text, refusal, out);
     }
-    explain_other(name, text, refusal.number, other, out)
+    out
 }
 
-fn explain_other(name: &[u8], text: &[u8], number: u8, place: Place, out: Output) -> Output {
+// Whether the other one is shown. The module of an import stands beside the symbol, and is named in the sentence.
+fn shows_other(refusal: Refusal) -> bool {
+    refusal.number != 10 && reason::has_other(refusal)
+}
+
+fn explain_other(name: &[u8], text: &[u8], refusal: Refusal, out: Output) -> Output {
+    let place = refusal.other;
     let at = place.0;
-    let out = source::print_head(name, text, at, number, out);
-    let out = reason::print_other(text, at, number, out);
+    let out = source::print_head(name, text, at, refusal.number, out);
+    let out = reason::print_other(text, refusal, out);
     print_source(text, at, out)
 }

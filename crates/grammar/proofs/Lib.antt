@@ -6,6 +6,7 @@ pub mod Right
 pub mod Run
 pub mod States
 pub mod OneVerdict
+pub mod Begun
 pub mod Theorem
 pub mod Derivation
 pub mod Resumed

@@ -4,4 +4,5 @@ pub mod Answer
 pub mod Derivation
 pub mod Automaton
 pub mod Table
+pub mod Allowed
 pub mod Reading

@@ -1,9 +1,13 @@
 // The grammar: whether a sequence of token classes is a module and, where it is none, the token at fault. One load of the
 // transition table for each token. A class is the number that crate `terminal` gives a terminal of the grammar.
 ghost use mathlib.Core.Path.{_≡_};
+ghost use mathlib.Core.Bool.{true};
+ghost use mathlib.Core.Logic.{_↔_};
+ghost use mathlib.Core.List.{_++_, _∷_, []};
 ghost use Prim.Native.Nat.{_≤_, _<_};
-ghost use lib.ListN.{length, take};
-ghost use Rattle.grammar.specs.Answer.{Answers};
+ghost use lib.ListN.{length, take, set};
+ghost use Rattle.grammar.specs.Allowed.{allowed};
+ghost use Rattle.grammar.specs.Answer.{Answers, Begins};
 ghost use Rattle.grammar.specs.Automaton.{next, run};
 ghost use Rattle.grammar.specs.Grammar.{smi-module};
 ghost use Rattle.grammar.specs.Reading.{verdict};
@@ -63,4 +67,19 @@ pub fn recognise(classes: &[u8], n: usize) -> Reading
     } else {
         Reading::Refused(TokenIndex(n))
     }
+}
+
+// Whether some derived sequence begins with the first n classes and then this one, whose place behind them is lent.
+pub fn allows(classes: &mut [u8], n: usize, class: u8) -> bool
+    requires { ⌜ n < length (now classes) ⌝ }
+    ensures ran { λ r. ⌜ r ≡ allowed (take n (now (classes .entry)) ++ class ∷ []) ⌝ }
+    ensures right { λ r. ⌜ ((r ≡ true) ↔ Begins smi-module (take n (now (classes .entry)) ++ class ∷ [])) ⌝ }
+    ensures lent { λ _. ⌜ now (classes .exit) ≡ set (now (classes .entry)) n class ⌝ }
+{
+    classes[n] = class;
+    let Reading::Refused(index) = recognise(classes, n + 1) else {
+        return true;
+    };
+    let i = index.0;
+    n < i
 }

@@ -12,20 +12,25 @@ use libc::STDERR_FILENO;
 use libc::STDOUT_FILENO;
 use output::Output;
 use reader::Answer;
+use reader::Examined;
 use reader::FILE_BYTES;
 use reader::NUMBER_WORDS;
 use reader::RECORD_WORDS;
+use reader::Refusal;
 
 // The files are counted by their answers: accepted, each refusal by its number, and those that cannot be read.
 const ACCEPTED: usize = 0;
 
 const UNREAD: usize = 31;
 
+// Of the refused, those that are outside what is read are counted once more.
+const OUTSIDE: usize = 32;
+
 // At a terminal the count of files is shown whenever so many more are read.
 const STRIDE: u64 = 64;
 
 fn main() {
-    let mut counts = [0u64; 32];
+    let mut counts = [0u64; 33];
     let out = read_files(&mut counts, output::start());
     print_summary(&counts);
     output::finish(out);
@@ -135,15 +140,45 @@ fn answer_file(name: &[u8], failed: bool, text: &[u8], counts: &mut [u64], out: 
         count_one(counts, UNREAD);
         return output::fail(out, name);
     }
-    let answer = read_text(text);
-    count_one(counts, number_of(answer));
+    let examined = read_text(text);
+    count_examined(text, examined, counts);
+    let answer = answer_of(examined);
     print_line(name, answer, output::judge(out, number_of(answer) as u64))
 }
 
-fn read_text(text: &[u8]) -> Answer {
+fn read_text(text: &[u8]) -> Examined {
     let mut records = [0u32; RECORD_WORDS];
     let mut numbers = [0u32; NUMBER_WORDS];
-    reader::read(text, &mut records, &mut numbers)
+    reader::examine(text, &mut records, &mut numbers)
+}
+
+// Number, place and count alone, which the line has.
+fn answer_of(examined: Examined) -> Answer {
+    match examined {
+        Examined::Refused(refusal) => refused(refusal),
+        Examined::Accepted(definitions) => Answer::Accepted(definitions),
+    }
+}
+
+fn refused(refusal: Refusal) -> Answer {
+    let place = refusal.place;
+    Answer::Refused(refusal.number, place)
+}
+
+// Counts a file by what was found of it.
+fn count_examined(text: &[u8], examined: Examined, counts: &mut [u64]) {
+    match examined {
+        Examined::Refused(refusal) => count_refused(text, refusal, counts),
+        Examined::Accepted(_) => count_one(counts, ACCEPTED),
+    }
+}
+
+fn count_refused(text: &[u8], refusal: Refusal, counts: &mut [u64]) {
+    let place = refusal.place;
+    count_one(counts, refusal.number as usize);
+    if outside::is_outside(refusal.number, refusal.clause, text, place.0) {
+        count_one(counts, OUTSIDE);
+    }
 }
 
 // The number of the answer; 0 where the module is accepted.
@@ -198,7 +233,8 @@ fn clear_progress() {
     }
 }
 
-// How many files there were, how many of them were accepted, how many refused by each number, and how many could not be read.
+// How many files there were, how many of them were accepted, how many refused by each number, how many of these are outside what is read,
+// and how many could not be read.
 fn print_summary(counts: &[u64]) {
     clear_progress();
     print_count(b"files\t", total(counts));
@@ -208,6 +244,7 @@ fn print_summary(counts: &[u64]) {
         print_refused(number, count_at(counts, number));
         number += 1;
     }
+    print_count(b"outside\t", count_at(counts, OUTSIDE));
     print_count(b"unread\t", count_at(counts, UNREAD));
 }
 
@@ -239,8 +276,8 @@ fn count_at(counts: &[u64], number: usize) -> u64 {
 fn total(counts: &[u64]) -> u64 {
     let mut sum: u64 = 0;
     let mut i = 0;
-    while i < counts.len() {
-        sum = added(sum, counts[i]);
+    while i <= UNREAD {
+        sum = added(sum, count_at(counts, i));
         i += 1;
     }
     sum

@@ -6,10 +6,10 @@ use Rattle.shelf.proofs.print_summary.Statement.{statement}
 use Rattle.shelf.proofs.print_summary.Tie as tie
 
 abbrev Inv-loop : tie.InvT-loop
-Inv-loop counts number₀ t5 number = number ≤ 31
+Inv-loop counts number₀ t5 t6 number = number ≤ 31
 
 abbrev μ-loop : tie.MeasureT-loop
-μ-loop counts number₀ t5 number = 31 - number
+μ-loop counts number₀ t5 t6 number = 31 - number
 
 clear-progress-requires : tie.Need-clear-progress-requires Inv-loop μ-loop
 clear-progress-requires c κs = search needs
@@ -59,6 +59,15 @@ count-at-requires-3 c κs = search needs
 print-count-requires-3 : tie.Need-print-count-requires-3 Inv-loop μ-loop
 print-count-requires-3 c κs = search needs
 
+slice-aggregate-print-count-4 : tie.Need-slice-aggregate-print-count-4 Inv-loop μ-loop
+slice-aggregate-print-count-4 c = search needs
+
+count-at-requires-4 : tie.Need-count-at-requires-4 Inv-loop μ-loop
+count-at-requires-4 c κs = search needs
+
+print-count-requires-4 : tie.Need-print-count-requires-4 Inv-loop μ-loop
+print-count-requires-4 c κs = search needs
+
 returns : tie.Need-returns Inv-loop μ-loop
 returns c = search needs
 
@@ -84,4 +93,7 @@ print-summary-spec =
     slice-aggregate-print-count-3
     count-at-requires-3
     print-count-requires-3
+    slice-aggregate-print-count-4
+    count-at-requires-4
+    print-count-requires-4
     returns)

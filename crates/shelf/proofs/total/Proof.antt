@@ -1,25 +1,21 @@
 -- `total` is safe. The measure is the counts left.
 -- Assumes nothing.
-use lib.ListN.{length}
 use Prim.Native.Nat.{_-_, _≤_}
 use borrow.Author.Needs.{needs}
 use Rattle.shelf.proofs.total.Statement.{statement}
 use Rattle.shelf.proofs.total.Tie as tie
 
 abbrev Inv-loop : tie.InvT-loop
-Inv-loop counts sum₀ i₀ sum i = i ≤ length counts
+Inv-loop counts sum₀ i₀ sum i = i ≤ 32
 
 abbrev μ-loop : tie.MeasureT-loop
-μ-loop counts sum₀ i₀ sum i = length counts - i
+μ-loop counts sum₀ i₀ sum i = 32 - i
 
 loop-holds : tie.Need-loop-holds Inv-loop μ-loop
 loop-holds c = search needs
 
-mul-added : tie.Need-mul-added Inv-loop μ-loop
-mul-added c = search needs
-
-shared-slice-read-added : tie.Need-shared-slice-read-added Inv-loop μ-loop
-shared-slice-read-added c = search needs
+count-at-requires : tie.Need-count-at-requires Inv-loop μ-loop
+count-at-requires c κs = search needs
 
 added-requires : tie.Need-added-requires Inv-loop μ-loop
 added-requires c κs = search needs
@@ -43,8 +39,7 @@ total-spec =
     Inv-loop
     μ-loop
     loop-holds
-    mul-added
-    shared-slice-read-added
+    count-at-requires
     added-requires
     add-i
     loop-less

@@ -3,8 +3,8 @@
 use lib.ListN.{length}
 use Prim.Native.Nat.{_-_, _≤_}
 use borrow.Author.Needs.{needs}
-use Rattle.explain.proofs.reason.word_end.Statement.{statement}
-use Rattle.explain.proofs.reason.word_end.Tie as tie
+use Rattle.explain.proofs.word.word_end.Statement.{statement}
+use Rattle.explain.proofs.word.word_end.Tie as tie
 
 abbrev Inv-loop : tie.InvT-loop
 Inv-loop text at i₀ i = (at ≤ i) × (i ≤ length text)

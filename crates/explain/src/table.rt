@@ -1,0 +1,114 @@
+// Tables, access and notifications.
+use crate::reason::has_other;
+use crate::reason::print_and_other;
+use crate::reason::print_other_word;
+use crate::word::print_word;
+use buffer::byte_at;
+use output::Output;
+use output::print;
+use reader::Refusal;
+
+// The clause of the rules on tables.
+pub fn print_table(text: &[u8], refusal: Refusal, out: Output) -> Output {
+    let clause = refusal.clause;
+    match clause {
+        1 => print(
+            out,
+            b" is a table whose SEQUENCE type has not exactly one row, at the table's OID followed by 1",
+        ),
+        2 => print(
+            out,
+            b" is a row, and not at the OID, followed by 1, of a table of its type",
+        ),
+        3 => print(out, b" is a row with neither INDEX nor AUGMENTS"),
+        4 => print(out, b" is no row, and has INDEX or AUGMENTS"),
+        5 => print_repeated(text, refusal, out),
+        6 => print_stray(text, refusal, out),
+        7 => print_unlisted(text, refusal, out),
+        8 => print_augments(text, refusal, out),
+        _ => print(out, b" breaks a rule on tables"),
+    }
+}
+
+// The name that a row's SEQUENCE type lists; or only that it lists one, where what the row stands against is the type.
+fn print_listed(text: &[u8], refusal: Refusal, out: Output) -> Output {
+    let out = print(out, b" is a row whose SEQUENCE type lists ");
+    let other = refusal.other;
+    match byte_at(text, other.0) {
+        b'a'..=b'z' => print_word(text, other.0, out),
+        _ => print(out, b"a name"),
+    }
+}
+
+fn print_repeated(text: &[u8], refusal: Refusal, out: Output) -> Output {
+    let out = print_listed(text, refusal, out);
+    print(out, b" twice")
+}
+
+fn print_stray(text: &[u8], refusal: Refusal, out: Output) -> Output {
+    let out = print_listed(text, refusal, out);
+    print(
+        out,
+        b", which is no object at the row's OID plus one number",
+    )
+}
+
+fn print_unlisted(text: &[u8], refusal: Refusal, out: Output) -> Output {
+    let out = print(out, b" is at the OID of the row ");
+    let out = print_other_word(text, refusal, out);
+    print(
+        out,
+        b" plus one number, and the row's SEQUENCE type does not list it",
+    )
+}
+
+fn print_augments(text: &[u8], refusal: Refusal, out: Output) -> Output {
+    if has_other(refusal) {
+        let out = print(out, b" augments ");
+        let out = print_other_word(text, refusal, out);
+        return print(out, b", which is no row with INDEX");
+    }
+    print(out, b" augments itself, and is no row with INDEX")
+}
+
+// The clause of the rules on access.
+pub fn print_access(text: &[u8], refusal: Refusal, out: Output) -> Output {
+    let clause = refusal.clause;
+    match clause {
+        1 => print_and_other(
+            text,
+            refusal,
+            b" is a read-write column in a row that has a read-create one",
+            out,
+        ),
+        2 => print(out, b" is a table or a row, and these are not-accessible"),
+        3 => print(out, b" is read-create, and no column"),
+        4 => print(
+            out,
+            b" is a counter, and these are read-only or accessible-for-notify, without DEFVAL",
+        ),
+        _ => print(out, b" breaks a rule on access"),
+    }
+}
+
+// The clause of the rules on notifications.
+pub fn print_notification(text: &[u8], refusal: Refusal, out: Output) -> Output {
+    let clause = refusal.clause;
+    match clause {
+        1 => print(
+            out,
+            b" is a notification whose OID has fewer than two numbers",
+        ),
+        2 => print(
+            out,
+            b" is a notification whose next-to-last number is not 0",
+        ),
+        3 => print_and_other(
+            text,
+            refusal,
+            b" is a notification that lists a not-accessible object",
+            out,
+        ),
+        _ => print(out, b" breaks a rule on notifications"),
+    }
+}

@@ -1,0 +1,31 @@
+// The tokens of a text, cut once more where a sentence needs them.
+ghost use mathlib.Core.Path.{_≡_};
+ghost use Prim.Native.Nat.{_≤_};
+ghost use lib.ListN.{length};
+ghost use Rattle.token.specs.Table.{longest-text};
+use syntax::Answer;
+use token::LONGEST_TEXT;
+
+// The classes and the starts of a text's tokens, and how many there are: none, where the text does not cut into tokens.
+pub fn collect_tokens(
+    text: &[u8],
+    classes: &mut [u8; LONGEST_TEXT],
+    starts: &mut [u32; LONGEST_TEXT],
+) -> usize
+    requires classes { ⌜ length (now classes) ≡ longest-text ⌝ }
+    requires starts { ⌜ length (now starts) ≡ longest-text ⌝ }
+    ensures count { λ r. ⌜ r ≤ longest-text ⌝ }
+    ensures classes { λ _. ⌜ length (now (classes .exit)) ≡ longest-text ⌝ }
+    ensures starts { λ _. ⌜ length (now (starts .exit)) ≡ longest-text ⌝ }
+{
+    let mut ends = [0u32; LONGEST_TEXT];
+    if LONGEST_TEXT < text.len() {
+        return 0;
+    }
+    let answer = syntax::parse(text, classes, starts, &mut ends);
+    match answer {
+        Answer::Derived(count) => count,
+        Answer::Underived(count, _) => count,
+        Answer::Uncut(_, _) => 0,
+    }
+}
