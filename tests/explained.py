@@ -25,6 +25,7 @@ OTHERS = {9, 15, 16, 18, 20}
 LATIN = b"-- Z\xfcrich -- -- \xe2\x82\xac\tand \xf0\x9f\x94\x8b --\t"   # a comment with bytes over 127, in UTF-8 and not, and tabs
 WORD = re.compile(rb"[A-Za-z](?:[A-Za-z0-9]|-(?=[A-Za-z0-9]))*|-?[0-9]+")   # a name or a number, where a token starts
 CUT = b".."
+LONGEST = 210   # bytes of a line that are shown
 
 
 def character_at(text, i):
@@ -92,6 +93,8 @@ def block_differs(name, text, place, number, lines):
     for word in words_at(text, place, number):
         if word not in sentence[len(wanted):]:
             return "%r without %r" % (sentence, word)
+    if len(shown) > LONGEST:
+        return "a line of %d bytes" % len(shown)
     at = marked(shown, mark)
     if at is None or not is_part(text, place, shown, at):
         return "%r below %r for the place %d" % (mark, shown, place)
