@@ -4,7 +4,9 @@ ghost use mathlib.Core.Bool.{false};
 ghost use Rattle.output.specs.Status.{accepted, refused, rating, larger, Rated, Printed};
 
 mod message;
+mod shown;
 
+use libc::STDERR_FILENO;
 use libc::STDOUT_FILENO;
 pub use message::complain;
 pub use message::fail;
@@ -12,6 +14,9 @@ pub use message::fail_if;
 pub use message::misfit;
 pub use message::say_waiting;
 pub use message::start_on_files;
+pub use shown::manner;
+pub use shown::show;
+pub use shown::show_in_list;
 
 // The descriptor on which a program says its status, since the language has none: one digit, as it ends. Nobody need read it.
 const STATUS_FILENO: i32 = 3;
@@ -28,6 +33,9 @@ pub struct Output {
     pub status: u8,
     // A write failed. It was said once, and nothing is written after it.
     pub lost: bool,
+    // Whether standard output is a terminal, and whether standard error is one.
+    pub terminal: bool,
+    pub console: bool,
 }
 
 pub fn start() -> Output
@@ -37,6 +45,20 @@ pub fn start() -> Output
     Output {
         status: ACCEPTED,
         lost: false,
+        terminal: libc::isatty(STDOUT_FILENO) == 1,
+        console: libc::isatty(STDERR_FILENO) == 1,
+    }
+}
+
+// The same with another status.
+fn rated(out: Output, status: u8) -> Output
+    ensures { λ r. ⌜ Rated out status r ⌝ }
+{
+    Output {
+        status,
+        lost: out.lost,
+        terminal: out.terminal,
+        console: out.console,
     }
 }
 
@@ -47,10 +69,7 @@ pub fn refuse(out: Output) -> Output
     if REFUSED <= out.status {
         return out;
     }
-    Output {
-        status: REFUSED,
-        lost: out.lost,
-    }
+    rated(out, REFUSED)
 }
 
 // Something was refused, unless the number is 0.
@@ -73,10 +92,19 @@ pub fn print(out: Output, bytes: &[u8]) -> Output
     if io::write_all(STDOUT_FILENO, bytes) {
         return out;
     }
+    lose(out)
+}
+
+// A write failed: says why, by errno.
+fn lose(out: Output) -> Output
+    ensures { λ r. ⌜ Printed out r ⌝ }
+{
     os::fail(b"mib: standard output");
     Output {
         status: COMPLAINT,
         lost: true,
+        terminal: out.terminal,
+        console: out.console,
     }
 }
 

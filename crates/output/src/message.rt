@@ -6,6 +6,8 @@ ghost use Rattle.output.specs.Status.{accepted, complaint, Rated};
 use crate::COMPLAINT;
 use crate::Output;
 use crate::print;
+use crate::rated;
+use crate::shown::write_at_terminal;
 use crate::start;
 use libc::STDERR_FILENO;
 use libc::STDIN_FILENO;
@@ -14,16 +16,18 @@ use libc::STDIN_FILENO;
 fn blame(out: Output) -> Output
     ensures { λ r. ⌜ Rated out complaint r ⌝ }
 {
-    Output {
-        status: COMPLAINT,
-        lost: out.lost,
-    }
+    rated(out, COMPLAINT)
 }
 
 // Says why a call of the system failed, by errno; `what` is what it was asked for.
 pub fn fail(out: Output, what: &[u8]) -> Output
     ensures { λ r. ⌜ Rated out complaint r ⌝ }
 {
+    if out.console {
+        write_at_terminal(STDERR_FILENO, what);
+        os::fail(b"");
+        return blame(out);
+    }
     os::fail(what);
     blame(out)
 }
@@ -61,7 +65,7 @@ pub fn complain(
 ) -> Output
     ensures { λ r. ⌜ Rated out complaint r ⌝ }
 {
-    write_complaint(command, line, word, why, usage);
+    write_complaint(out.console, command, line, word, why, usage);
     blame(out)
 }
 
@@ -76,7 +80,7 @@ pub fn misfit(
 ) -> Output
     ensures { λ r. ⌜ r .status ≡ complaint ⌝ }
 {
-    write_complaint(command, line, word, why, usage);
+    write_complaint(out.console, command, line, word, why, usage);
     if line == 0 {
         return blame(out);
     }
@@ -90,10 +94,17 @@ pub fn say_waiting(what: &[u8]) {
     }
 }
 
-fn write_complaint(command: &[u8], line: u64, word: &[u8], why: &[u8], usage: &[u8]) {
+fn write_complaint(
+    console: bool,
+    command: &[u8],
+    line: u64,
+    word: &[u8],
+    why: &[u8],
+    usage: &[u8],
+) {
     io::write_all(STDERR_FILENO, command);
     write_line_number(line);
-    write_quoted(word);
+    write_quoted(console, word);
     io::write_all(STDERR_FILENO, why);
     write_usage(usage);
 }
@@ -106,9 +117,14 @@ fn write_line_number(line: u64) {
     io::print_decimal(STDERR_FILENO, line);
 }
 
-fn write_quoted(word: &[u8]) {
+// A word in quotes, whatever bytes it has.
+fn write_quoted(console: bool, word: &[u8]) {
     io::write_all(STDERR_FILENO, b": '");
-    io::write_all(STDERR_FILENO, word);
+    if console {
+        write_at_terminal(STDERR_FILENO, word);
+    } else {
+        io::write_all(STDERR_FILENO, word);
+    }
     io::write_all(STDERR_FILENO, b"' ");
 }
 

@@ -5,4 +5,5 @@ mod margin;
 pub use line::Position;
 pub use line::line_end;
 pub use line::locate;
+pub use margin::is_inside;
 pub use margin::write_margin;

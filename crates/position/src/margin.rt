@@ -18,7 +18,7 @@ fn reaches(text: &[u8], k: usize, back: usize) -> bool
 }
 
 // Whether byte k is one of a character's further bytes.
-fn is_inside(text: &[u8], k: usize) -> bool
+pub fn is_inside(text: &[u8], k: usize) -> bool
     requires index { ⌜ k < length (now text) ⌝ }
     ensures { λ r. ⌜ r ≡ is-inside (now (text .entry)) k ⌝ }
 {

@@ -1,6 +1,6 @@
 -- `output::print` meets its contract: only a write that failed changes the status, and makes it a complaint.
 -- Assumes nothing.
-use mathlib.Core.Logic.{inl, inr}
+use mathlib.Core.Logic.{inl}
 use mathlib.Core.Path.{refl}
 use borrow.Author.Needs.{needs}
 use Rattle.output.proofs.print.Statement.{statement}
@@ -15,16 +15,11 @@ write-all-requires c κs = search needs
 returns-2 : tie.Need-returns-2
 returns-2 c = inl refl
 
-slice-aggregate-fail : tie.Need-slice-aggregate-fail
-slice-aggregate-fail c = search needs
-
-fail-requires : tie.Need-fail-requires
-fail-requires c κs = search needs
+lose-requires : tie.Need-lose-requires
+lose-requires c κs = search needs
 
 returns-3 : tie.Need-returns-3
-returns-3 c = inr (refl, refl)
+returns-3 c = c .lose .ensures
 
 pub print-spec : {M : Type 1} → statement M
-print-spec =
-    tie.close
-    (tie.spec returns write-all-requires returns-2 slice-aggregate-fail fail-requires returns-3)
+print-spec = tie.close (tie.spec returns write-all-requires returns-2 lose-requires returns-3)
