@@ -21,7 +21,7 @@ sys.path.insert(0, os.path.dirname(os.path.abspath(__file__)))
 import ask
 
 KINDS = {1: "identity", 2: "plain OID", 3: "object identity", 4: "object", 5: "textual convention", 6: "SEQUENCE type", 7: "notification"}
-OTHERS = {9, 10, 15, 16, 18, 20, 22}
+OTHERS = {9, 10, 15, 16, 18, 20, 21, 22}
 IN_SENTENCE = {10}   # the other one is named in the sentence, and not shown
 LATIN = b"-- Z\xfcrich -- -- \xe2\x82\xac\tand \xf0\x9f\x94\x8b --\t"   # a comment with bytes over 127, in UTF-8 and not, and tabs
 WORD = re.compile(rb"[A-Za-z](?:[A-Za-z0-9]|-(?=[A-Za-z0-9]))*|-?[0-9]+")   # a name or a number, where a token starts

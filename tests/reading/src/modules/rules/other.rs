@@ -1,11 +1,11 @@
 //! Where the other one stands, for a refusal that is about two things: the
 //! name or label that was there first, the module that does not offer the
 //! symbol, the definition that holds the OID, the range before, the part of a
-//! table or the name in a list that does not fit.
+//! table, the column or the name in a list that does not fit.
 
 use super::{
     classes, oid_values, ranges_of, Chains, Definition, Kind, Module, Names, Refusal, Restriction,
-    Settled, Tables, NOT_ACCESSIBLE,
+    Settled, Tables, NOT_ACCESSIBLE, READ_CREATE, READ_WRITE,
 };
 
 /// The module derives, and the refusal is the one that it gets.
@@ -18,6 +18,7 @@ pub fn other(m: &Module, refusal: Refusal) -> Option<usize> {
         16 => range_before(m, place),
         18 => earlier_label(m, place),
         20 => of_table(m, place),
+        21 => created_column(m, place),
         22 => hidden_object(m, place),
         _ => None,
     };
@@ -84,6 +85,8 @@ fn range_before(m: &Module, place: usize) -> Option<usize> {
     Some(ranges[at - 1].place)
 }
 
+/// A label that was there counts before a number that was there; a number out
+/// of range is wrong by itself.
 fn earlier_label(m: &Module, place: usize) -> Option<usize> {
     m.definitions.iter().find_map(|d| {
         let Restriction::Labels(labels) = &d.syntax.as_ref()?.restriction else {
@@ -91,10 +94,12 @@ fn earlier_label(m: &Module, place: usize) -> Option<usize> {
         };
         let at = labels.iter().position(|label| label.name.start == place)?;
         let again = &labels[at];
-        let first = labels[..at]
+        let earlier = &labels[..at];
+        let by_name = earlier
             .iter()
-            .find(|label| label.name.word == again.name.word || label.number == again.number)?;
-        Some(first.name.start)
+            .find(|label| label.name.word == again.name.word);
+        let by_number = || earlier.iter().find(|label| label.number == again.number);
+        Some(by_name.or_else(by_number)?.name.start)
     })
 }
 
@@ -148,6 +153,25 @@ fn wrong_column(tables: &Tables, row: usize) -> Option<usize> {
         })
     };
     again.or_else(elsewhere).map(|k| columns[k].name.start)
+}
+
+/// For a read-write column, the first read-create one in the list of its row's
+/// SEQUENCE type. This clause counts before the others of rule 21, which are
+/// about one object.
+fn created_column(m: &Module, place: usize) -> Option<usize> {
+    let names = Names::new(m);
+    let settled = settled(m, &names);
+    let tables = Tables::new(m, &names, &settled);
+    let i = definition_at(m, place)?;
+    if m.definitions[i].access != READ_WRITE {
+        return None;
+    }
+    let columns = &m.definitions[tables.sequence(tables.row_above(i)?)].columns;
+    let mut objects = columns
+        .iter()
+        .map(|column| &m.definitions[tables.object(&column.name)]);
+    let created = objects.find(|d| d.access == READ_CREATE)?;
+    Some(created.name.start)
 }
 
 /// The first not-accessible object in OBJECTS, unless the OID is wrong by
