@@ -1,7 +1,6 @@
 -- `piece_end` is right: it is where what is found ends.
 -- Assumes nothing.
 use mathlib.Core.Path.{sym, _∙_}
-use native.Mathlib.Omega.{arith}
 use borrow.Author.Needs.{needs}
 use Rattle.outside.proofs.Ends.{found-end, refused-end, past-end}
 use Rattle.outside.proofs.piece_end.Statement.{statement}
