@@ -198,6 +198,18 @@ test_explain_clauses() {
     says "a notification under 1" "4:1: refused 22: 'n' is a notification whose next-to-last number is not 0" "n NOTIFICATION-TYPE $rest"
 }
 
+# What a row stands against is named in the sentence.
+test_explain_tables() {
+    table='tb OBJECT-TYPE SYNTAX SEQUENCE OF TbEntry MAX-ACCESS not-accessible STATUS current DESCRIPTION "" ::= { t 1 }
+en OBJECT-TYPE SYNTAX TbEntry MAX-ACCESS not-accessible STATUS current DESCRIPTION "" INDEX { ca } ::= { tb 1 }
+TbEntry ::= SEQUENCE { ca Integer32, cb Integer32 }
+ca OBJECT-TYPE SYNTAX Integer32 MAX-ACCESS not-accessible STATUS current DESCRIPTION "" ::= { en 1 }
+cb OBJECT-TYPE SYNTAX Integer32 MAX-ACCESS read-write STATUS current DESCRIPTION "" ::= { en 2 }'
+    says "a column that is not listed" "8:1: refused 20: 'cb' is at the OID of the row 'en' plus one number, and the row's SEQUENCE type does not list it" "$(printf '%s' "$table" | sed 's/, cb Integer32//')"
+    says "a row that augments a column" "5:1: refused 20: 'en' augments 'ca', which is no row with INDEX" "$(printf '%s' "$table" | sed 's/INDEX/AUGMENTS/')"
+    says "a row that is read" "5:1: refused 21: 'en' is a table or a row, and these are not-accessible" "$(printf '%s' "$table" | sed '2s/not-accessible/read-only/')"
+}
+
 # 300 characters of two bytes stand before the place, and 300 behind it: on either side up to 100 bytes are shown, and none is cut.
 test_explain_long_line() {
     many=$(printf '%300s' '' | sed "s/ /$(printf '\303\251')/g")

@@ -95,16 +95,11 @@ fn wide(x: u32) -> usize {
 // An item of an enumeration. One that stands against none has a number out of range.
 pub fn print_item(text: &[u8], refusal: Refusal, out: Output) -> Output {
     let clause = refusal.clause;
-    match clause {
-        1 => print(out, b" is the label of an earlier item"),
-        2 => print_and_other(text, refusal, b" has the number of an earlier item", out),
-        _ => print_unclear_item(refusal, out),
-    }
-}
-
-fn print_unclear_item(refusal: Refusal, out: Output) -> Output {
     if has_other(refusal) {
-        return print(out, b" has the label or the number of an earlier item");
+        if clause == 2 {
+            return print_and_other(text, refusal, b" has the number of an earlier item", out);
+        }
+        return print(out, b" is the label of an earlier item");
     }
     print(
         out,

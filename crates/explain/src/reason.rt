@@ -7,6 +7,7 @@ use crate::range::print_order;
 use crate::table::print_access;
 use crate::table::print_notification;
 use crate::table::print_table;
+use crate::table::print_table_other;
 use crate::unread::print_unread;
 use crate::word::print_word;
 use buffer::byte_at;
@@ -126,8 +127,8 @@ pub fn print_other(text: &[u8], refusal: Refusal, out: Output) -> Output {
         15 => print(out, b" holds the OID"),
         16 => print(out, b" starts the range before it"),
         18 => print(out, b" is the earlier item"),
+        20 => print_table_other(refusal.clause, out),
         21 => print(out, b" is the read-create one"),
-        22 => print(out, b" is listed here"),
-        _ => print(out, b" is what it stands against"),
+        _ => print(out, b" is listed here"),
     }
 }

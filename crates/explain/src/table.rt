@@ -71,6 +71,14 @@ fn print_augments(text: &[u8], refusal: Refusal, out: Output) -> Output {
     print(out, b" augments itself, and is no row with INDEX")
 }
 
+// What the other one is, by the clause.
+pub fn print_table_other(clause: u8, out: Output) -> Output {
+    match clause {
+        5 | 6 => print(out, b" is listed here"),
+        _ => print(out, b" is what it stands against"),
+    }
+}
+
 // The clause of the rules on access.
 pub fn print_access(text: &[u8], refusal: Refusal, out: Output) -> Output {
     let clause = refusal.clause;
