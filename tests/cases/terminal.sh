@@ -26,7 +26,7 @@ test_terminal_control_bytes() {
         report "$words: in a pipe bytes are as they are" "$?"
     done
     python3 tests/at_terminal.py --output ./mib explain "$name" >"$scratch/output" 2>&1 </dev/null
-    tr -d '\r' <"$scratch/output" | grep -qxF '\x1b[2J' && tr -d '\r' <"$scratch/output" | grep -qx '^'
+    tr -d '\r' <"$scratch/output" | grep -qxF '\x1b[2J' && tr -d '\r' <"$scratch/output" | grep -qxF '^'
     report "explain: a line of a file with control bytes" "$?"
     python3 tests/at_terminal.py --output ./mib hint octets 255a 411B5B0D >"$scratch/output" 2>&1 </dev/null
     [ "$(tr -d '\r' <"$scratch/output")" = "$(line printed 'A\x1b[\x0d')" ]
