@@ -199,6 +199,7 @@ TEXTS = {
     "one convention": one_convention,
     "names alike": names_alike,
     "parents": deep_parents,
+    "an end too early": lambda: fitted("T DEFINITIONS ::= BEGIN IMPORTS a", itertools.repeat(",a"), "", ""),
     "blanks": lambda: fitted(HEAD, itertools.repeat(" "), "", TAIL),
     "comments": lambda: fitted(HEAD, itertools.repeat("----"), "", TAIL),
     "a text": lambda: fitted(HEAD.replace('DESCRIPTION ""', 'DESCRIPTION "', 1).split('DESCRIPTION "', 1)[0] + 'DESCRIPTION "', itertools.repeat("x"), "", '" ::= { iso 9 }\n' + TAIL),
