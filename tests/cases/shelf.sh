@@ -27,13 +27,14 @@ test_shelf_folder() {
 
 # A folder's files, in the order of their names, those of folders in it too; and names that end with a byte 0.
 test_shelf_folders() {
-    mkdir "$scratch/modules" "$scratch/modules/c"
+    mkdir "$scratch/modules" "$scratch/modules/c" "$scratch/modules/.hidden"
+    cp tests/texts/whole "$scratch/modules/.hidden/e"
     cp tests/texts/whole "$scratch/modules/d"
     cp tests/texts/open "$scratch/modules/c/b e"
     cp tests/texts/twice "$scratch/modules/a"
     expect "shelf: a folder" 1 "$(line "$scratch/modules/a" refused 9 207)
 $(line "$scratch/modules/c/b e" refused 3 2)
-$(line "$scratch/modules/d" accepted 2)" "$(line files 3)" shelf "$scratch/modules"
+$(line "$scratch/modules/d" accepted 2)" "$(line files 3)" shelf "$scratch/modules/"
     expect "shelf: a folder beside a file" 1 "$(line tests/texts/whole accepted 2)
 $(line "$scratch/modules/c/b e" refused 3 2)" "$(line files 2)" shelf tests/texts/whole "$scratch/modules/c"
     printf '%s\0' tests/texts/whole "$scratch/modules/c/b e" "$scratch/no${tab}
