@@ -8,6 +8,8 @@
  *   mib_print_integer
  *   mib_set_row        What does a set of RowStatus do to a row?
  *
+ * mib_refusal_text and mib_row_text say their numbers in words.
+ *
  * Nothing is asked of the arguments but what C asks of any pointer and length: so many elements are there, and they stay
  * there during the call. What cannot be answered is refused by a number. A NULL pointer is an empty buffer, whatever
  * length comes with it.
@@ -58,9 +60,10 @@ extern "C" {
 #define MIB_LONGEST_VALUE 1024
 #define MIB_LONGEST_HINT 255
 
-/* A call of mib_read takes up to a megabyte and a half of stack, as measured; a thread that calls it has this much left.
- * The other calls take little. */
-#define MIB_STACK_BYTES (2 * 1024 * 1024)
+/* A call of mib_read takes up to 1,260 kilobytes of stack, of 1,024 bytes, as tests/stack measures it in the example in C:
+ * 1,205 on most texts, and the most on the longest chain of OID heads. A thread that calls it has a quarter more left,
+ * which is this much. The other calls take little. (Of the programs card takes 1,404, and explain 1,904.) */
+#define MIB_STACK_BYTES (1600 * 1024)
 
 /* ---- Records ---- */
 
@@ -240,10 +243,20 @@ struct mib_step {
  */
 static inline struct mib_step mib_set_row(uint64_t state, int64_t value, int complete, int willing);
 
+/* ---- Numbers in words ---- */
+
+/*
+ * What a number means, in a short sentence for people: mib_refusal_text of a number that mib_read or a printer answers,
+ * mib_row_text of one that mib_set_row answers. There are two, since 10 and 12 of a row are not those of a reading. Any
+ * other number has a sentence too. It is never NULL, and stays there; nobody frees it or writes to it.
+ */
+static inline const char *mib_refusal_text(size_t number);
+static inline const char *mib_row_text(size_t number);
+
 /* ---- The library's own functions ---- */
 
 /*
- * The functions above call these. A slice is a pointer and then a count of elements. Here no pointer may be NULL, even
+ * The four calls above call these. A slice is a pointer and then a count of elements. Here no pointer may be NULL, even
  * with count 0. Each answer goes into `answer`, as far as it reaches: number, place and count or length; of a row, number
  * and next state. Words of `answer` that the answer doesn't have never change.
  */
@@ -318,6 +331,86 @@ static inline struct mib_step mib_set_row(uint64_t state, int64_t value, int com
     step.number = answer[0];
     step.next = answer[1];
     return step;
+}
+
+static inline const char *mib_refusal_text(size_t number)
+{
+    switch (number) {
+    case MIB_READ_ACCEPTED:
+        return "accepted";
+    case MIB_READ_SHORT_BUFFER:
+        return "a lent buffer is too short";
+    case MIB_READ_LONG_TEXT:
+        return "the text has more than 65,536 bytes";
+    case MIB_READ_NO_TOKEN:
+        return "no token starts here";
+    case MIB_READ_FORBIDDEN_BYTE:
+        return "this byte may not stand in a text";
+    case MIB_READ_LONG_NAME:
+        return "the name has more than 64 bytes";
+    case MIB_READ_NUMBER_RANGE:
+        return "the number is not from -2147483648 to 4294967295";
+    case MIB_READ_GRAMMAR:
+        return "this may not stand here, or the text ends too early";
+    case MIB_READ_MANY_DEFINITIONS:
+        return "this is the 513th definition, and a module may have 512";
+    case MIB_READ_NAME_TWICE:
+        return "the name is defined or imported a second time, or is iso";
+    case MIB_READ_NOT_OFFERED:
+        return "the module that it is imported from does not offer this symbol";
+    case MIB_READ_NOT_KNOWN:
+        return "the name is neither defined nor imported as what is needed here";
+    case MIB_READ_NO_ROOT:
+        return "the heads of the OID never reach a built-in name";
+    case MIB_READ_LONG_OID:
+        return "the OID has more than 128 numbers";
+    case MIB_READ_MANY_NUMBERS:
+        return "with this OID those of the module pass 8,192 numbers";
+    case MIB_READ_OID_TWICE:
+        return "an earlier definition holds the OID";
+    case MIB_READ_RANGE_ORDER:
+        return "the range has its low number not below its high one, or does not lie above the one before it";
+    case MIB_READ_RANGE_LIMITS:
+        return "a range or size may not stand on this type, or is outside its limits";
+    case MIB_READ_LABEL_TWICE:
+        return "the label or its number stands there already, or the number is out of range";
+    case MIB_READ_CONVENTION:
+        return "the SYNTAX of a convention names none of SMI's eight types, imported";
+    case MIB_READ_TABLE:
+        return "a rule on tables, rows and columns is broken";
+    case MIB_READ_ACCESS:
+        return "a rule on access is broken";
+    case MIB_READ_NOTIFICATION:
+        return "the notification's next-to-last number is not 0, or it lists a not-accessible object";
+    case MIB_PRINT_SHORT_BUFFER:
+        return "the output buffer is too short";
+    case MIB_PRINT_LONG_VALUE:
+        return "the value has more than 1,024 octets";
+    case MIB_PRINT_BAD_HINT:
+        return "the hint is none for such a value";
+    case MIB_PRINT_BAD_OCTET:
+        return "the octet is not of the form that the hint gives it";
+    case MIB_PRINT_INTEGER_RANGE:
+        return "the integer is not from -2147483648 to 4294967295";
+    default:
+        return "no call answers this number";
+    }
+}
+
+static inline const char *mib_row_text(size_t number)
+{
+    switch (number) {
+    case MIB_ROW_NO_ERROR:
+        return "noError: the set is done";
+    case MIB_ROW_WRONG_VALUE:
+        return "wrongValue: the set value is refused";
+    case MIB_ROW_INCONSISTENT_VALUE:
+        return "inconsistentValue: the set value does not fit the row's state";
+    case MIB_ROW_NO_SUCH_STATE:
+        return "the row was handed in with a state over 3";
+    default:
+        return "no call answers this number";
+    }
 }
 
 #ifdef __cplusplus

@@ -3,6 +3,7 @@
 
 at_terminal.py COMMAND WORD...            types one case of a row, and the end of the input
 at_terminal.py --errors COMMAND WORD...   has its standard error at the terminal alone; its input is this one's, and its output is dropped
+at_terminal.py --output COMMAND WORD...   has its output and its standard error at the terminal; its input is this one's
 """
 import os
 import pty
@@ -33,9 +34,9 @@ def typed_at(command):
     return said
 
 
-def errors_of(command):
+def written_by(command, output):
     master, terminal = pty.openpty()
-    child = subprocess.Popen(command, stdout=subprocess.DEVNULL, stderr=terminal)
+    child = subprocess.Popen(command, stdout=terminal if output else subprocess.DEVNULL, stderr=terminal)
     os.close(terminal)
     said = shown(master)
     child.wait()
@@ -43,4 +44,7 @@ def errors_of(command):
 
 
 words = sys.argv[1:]
-sys.stdout.buffer.write(errors_of(words[1:]) if words[0] == "--errors" else typed_at(words))
+if words[0] in ("--errors", "--output"):
+    sys.stdout.buffer.write(written_by(words[1:], words[0] == "--output"))
+else:
+    sys.stdout.buffer.write(typed_at(words))

@@ -22,10 +22,12 @@ sys.path.insert(0, os.path.dirname(os.path.abspath(__file__)))
 import ask
 
 KINDS = {1: "identity", 2: "plain OID", 3: "object identity", 4: "object", 5: "textual convention", 6: "SEQUENCE type", 7: "notification"}
-OTHERS = {9, 15, 16, 18, 20}
+OTHERS = {9, 10, 15, 16, 18, 20, 21, 22}
+IN_SENTENCE = {10}   # the other one is named in the sentence, and not shown
 LATIN = b"-- Z\xfcrich -- -- \xe2\x82\xac\tand \xf0\x9f\x94\x8b --\t"   # a comment with bytes over 127, in UTF-8 and not, and tabs
 WORD = re.compile(rb"[A-Za-z](?:[A-Za-z0-9]|-(?=[A-Za-z0-9]))*|-?[0-9]+")   # a name or a number, where a token starts
 CUT = b".."
+LONGEST = 210   # bytes of a line that are shown
 # The order in which what may stand is named: capital words, words that are lower too, names, marks, and the rest.
 CAPITALS = """UNITS TEXTUAL-CONVENTION SYNTAX STRING STATUS SIZE SEQUENCE REVISION REFERENCE ORGANIZATION OF OCTET OBJECTS OBJECT-TYPE
 OBJECT-IDENTITY OBJECT NOTIFICATION-TYPE MODULE-IDENTITY MAX-ACCESS LAST-UPDATED INTEGER INDEX IMPORTS IMPLIED IDENTIFIER FROM END DISPLAY-HINT
@@ -116,21 +118,23 @@ def ending_of(text, place, listing):
     return " may not stand here; %s may" % may if may else " stands behind the module's END"
 
 
-def words_at(text, place, number):
+def words_at(text, place):
     """What the sentence holds: the word at the place in quotes, where it is a name or a number."""
-    word = WORD.match(text, place) if number > 7 else None
+    word = WORD.match(text, place)
     return [b"'%s'" % word.group()] if word else []
 
 
-def block_differs(name, text, place, number, lines):
-    """What is wrong with the three lines on a place, or None."""
+def block_differs(name, text, place, number, words, lines):
+    """What is wrong with the three lines on a place, or None. The sentence holds the words."""
     sentence, shown, mark = lines
     wanted = head(name, text, place, number)
     if not sentence.startswith(wanted) or sentence == wanted:
         return "%r, not %r" % (sentence, wanted)
-    for word in words_at(text, place, number):
+    for word in words:
         if word not in sentence[len(wanted):]:
             return "%r without %r" % (sentence, word)
+    if len(shown) > LONGEST:
+        return "a line of %d bytes" % len(shown)
     at = marked(shown, mark)
     if at is None or not is_part(text, place, shown, at):
         return "%r below %r for the place %d" % (mark, shown, place)
@@ -139,10 +143,12 @@ def block_differs(name, text, place, number, lines):
 
 def refused_differs(name, text, answer, lines):
     number, place, other = answer
-    places = [place] + ([] if other is None else [other])
-    if len(lines) != 3 * len(places):
-        return "%d lines, not %d: %r" % (len(lines), 3 * len(places), lines[:1])
-    found = [block_differs(name, text, at, number, lines[3 * k:3 * k + 3]) for k, at in enumerate(places)]
+    blocks = [(at, words_at(text, at) if number > 7 else []) for at in (place, other) if at is not None]
+    if number in IN_SENTENCE:
+        blocks = [(place, blocks[0][1] + [WORD.match(text, other).group()])]
+    if len(lines) != 3 * len(blocks):
+        return "%d lines, not %d: %r" % (len(lines), 3 * len(blocks), lines[:1])
+    found = [block_differs(name, text, at, number, words, lines[3 * k:3 * k + 3]) for k, (at, words) in enumerate(blocks)]
     return next(filter(None, found), None)
 
 

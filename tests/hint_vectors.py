@@ -5,9 +5,10 @@ hint_vectors.py          writes crates/hint_tool/stdin and crates/hint_tool/stdo
 hint_vectors.py --check  says whether the two files are those of the reading, and exits 1 where they are not
 
 What a case should print is written out by hand beside it, or computed by the reading where it is long. Every expectation
-that stands by hand is held against the reading too.
+that stands by hand is held against the reading too, which is handed the octets in plain pairs of digits.
 """
 import os
+import re
 import sys
 
 sys.dont_write_bytecode = True
@@ -123,7 +124,6 @@ CASES = [
     ('octets', '4x', 'DEADBEEF', T + 'deadbeef'),
     ('octets', '3d.3o', '00ffff000040', T + '65535.100'),
     # octets that are no ASCII
-    ('octets', '1a', '41427f', T + 'AB\x7f'),
     ('octets', '1a', '414280', refused(33, 2)),
     ('octets', '*2a.', '0241424380', refused(33, 4)),
     ('octets', '1d.255a', '80ff', refused(33, 1)),
@@ -208,7 +208,7 @@ CASES = [
     ('integer', 'a', '5', refused(32)),
 ]
 
-# octets as tools of SNMP print them
+# octets as tools of SNMP print them: with something behind each or nothing, single digits between marks, a heading
 CASES += [
     ('octets', '1x:', '07 E6 0B', T + '7:e6:b'),
     ('octets', '1x:', '07 E6 0B ', T + '7:e6:b'),
@@ -216,25 +216,87 @@ CASES += [
     ('octets', '1x:', '07:e6:0b:', T + '7:e6:b'),
     ('octets', '1x:', '07e6 0b:0c', T + '7:e6:b:c'),
     ('octets', '1d.1d.1d.1d', 'C0 A8 00 01', T + '192.168.0.1'),
+    ('octets', '1x:', '07  e6', T + '7:e6'),
+    ('octets', '1x:', ' 07', T + '7'),
+    ('octets', '1x:', '  07 \x0be6 \x0c', T + '7:e6'),
+    ('octets', '1x:', '07\re6', T + '7:e6'),
+    ('octets', '1x:', '00-1B-44-11-3A-B7', T + '0:1b:44:11:3a:b7'),
+    ('octets', '1x:', '0:1b:2:3', T + '0:1b:2:3'),
+    ('octets', '1x:', '0-1b-2-3', T + '0:1b:2:3'),
+    ('octets', '1x:', '07:e', T + '7:e'),
+    ('octets', '1x:', 'e:', T + 'e'),
+    ('octets', '1x:', '07: e6', T + '7:e6'),
+    ('octets', '1x:', '1:0203:4', T + '1:2:3:4'),
+    ('octets', '1x:', '01 2:3 04', T + '1:2:3:4'),
+    ('octets', '1x:', '0x07E6', T + '7:e6'),
+    ('octets', '1x:', '0X07 e6', T + '7:e6'),
+    ('octets', '1x:', ' 0x 7:e6', T + '7:e6'),
+    ('octets', '1x:', 'Hex-STRING: 00 1B 44 11 3A B7 ', T + '0:1b:44:11:3a:b7'),
+    ('octets', '1x:', ' Hex-STRING:001b', T + '0:1b'),
+    ('octets', '1x', '0x', T),
+    ('octets', '1x', 'Hex-STRING: ', T),
+    ('octets', '1x', ' ', T),
 ]
 
+# texts with line ends, other control bytes or backslashes: one line each. Bytes over 127 stay as they are. The reading prints all bytes as
+# they are, so that these stand by hand alone
+LINES = [
+    ('octets', '255a', '0a', T + '\\x0a'),
+    ('octets', '255a', '0d0a', T + '\\x0d\\x0a'),
+    ('octets', '255a', '4109420943', T + 'A\\x09B\\x09C'),
+    ('octets', '255a', '001b5b316d1f207e7f', T + '\\x00\\x1b[1m\\x1f ~\\x7f'),
+    ('octets', '255a', '5c6e', T + '\\x5cn'),
+    ('octets', '255a', '5c783061', T + '\\x5cx0a'),
+    ('octets', '1x\\', '0102', T + '1\\x5c2'),
+    ('octets', '255t', 'c3a90ac285', T + '\u00e9\\x0a\u0085'),
+    ('octets', '1a', '41427f', T + 'AB\\x7f'),
+]
+
+# words that are no octets: odd runs, single digits between blanks, marks behind no octet, other headings
+NO_OCTETS = ['0', 'abc', '07abc', 'abc:07', '07:abc', '0 7', '1 2', '07 8', '1: 2', '07::e6', '07:-e6', '07 :e6', ':07', '-07', '07.08', '07,08', '0g',
+             '0x0', '0x:07', '0x07 0x08', '0x0x07', 'x07', 'Hex-STRING:5', 'Hex-STRING 07', 'hex-string: 07', 'STRING: 07', 'Hex-STRING: 0x07', '07\0']
+
 # words that are none of these: the line `misfit` beside a message on standard error, and the list goes on
-NO_CASE = ['', 'octets', 'octets\t1x', 'octets\t1x\t0', 'octets\t1x\t0g', 'octets\t1x\t01\tmore', 'integer\td\t', 'integer\td\t+5', 'integer\td\t1.5', 'bytes\t1x\t01',
-           'octets\t1x\t07  e6', 'octets\t1x\t07::e6', 'octets\t1x\t:07', 'octets\t1x\t 07', 'octets\t1x\t0 7', 'octets\t1x\t07-e6', 'octets\t1x\t07:e']
+NO_CASE = ['', 'octets', 'octets\t1x', 'octets\t1x\t01\tmore', 'integer\td\t', 'integer\td\t+5', 'integer\td\t1.5', 'bytes\t1x\t01']
+NO_CASE += ['octets\t1x\t' + word for word in NO_OCTETS]
+
+
+BLANKS = '[\\t-\\r ]*'
+HEX = '[0-9A-Fa-f]'
+# digits in pairs; or one digit by itself, with a colon or a hyphen directly behind it or before it
+RUN = f'(?:(?:{HEX}{{2}})+(?!{HEX})|(?<!{HEX}){HEX}(?=[:-])|(?<=[:-]){HEX}(?!{HEX}))'
+
+
+def plain(word):
+    """The octets that a word writes, in pairs of hex digits; or None."""
+    body = re.sub(f'\\A{BLANKS}(?:Hex-STRING:|0[xX])?', '', word)
+    if not re.fullmatch(f'{BLANKS}(?:{RUN}[:-]?{BLANKS})*', body):
+        return None
+    return ''.join(run if len(run) % 2 == 0 else '0' + run for run in re.findall(RUN, body))
 
 
 def encoded(text):
     return text.encode('utf-8', 'surrogatepass')
 
 
+def line(kind, hint, value):
+    return b'\t'.join([kind.encode(), encoded(hint), value.encode()])
+
+
 def build():
     wrong = 0
-    given = [b'\t'.join([kind.encode(), encoded(hint), value.encode()]) for kind, hint, value, _ in CASES]
-    wanted = ask.lines('hint', given)
+    for word in NO_OCTETS:
+        if plain(word) is not None:
+            print('hint_vectors: %r: by hand no octets, read %s' % (word, plain(word)), file=sys.stderr)
+            wrong += 1
+    given = [line(kind, hint, value) for kind, hint, value, _ in CASES]
+    wanted = ask.lines('hint', [line(kind, hint, plain(value) if kind == 'octets' else value) for kind, hint, value, _ in CASES])
     for case, (_, _, _, by_hand), read in zip(given, CASES, wanted):
         if by_hand is not None and encoded(by_hand) != read:
             print('hint_vectors: %r: by hand %r, read %r' % (case, by_hand, read), file=sys.stderr)
             wrong += 1
+    given += [line(kind, hint, value) for kind, hint, value, _ in LINES]
+    wanted += [encoded(by_hand) for _, _, _, by_hand in LINES]
     middle = len(given) // 2
     given[middle:middle] = [w.encode() for w in NO_CASE]
     wanted[middle:middle] = [b'misfit'] * len(NO_CASE)

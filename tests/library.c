@@ -2,6 +2,7 @@
  * Tests of include/mib.h over the library: C99, and C++ too. What is expected was worked out from document 01.
  * The argument is the file of its whole case. Says on standard error what failed; the last line of standard output
  * has the counts. Exit status: 0 when all passed.
+ * With the word list it lists the header's sizes and words instead, to be compared with those of the wrapper in Rust.
  */
 #include <stdio.h>
 #include <string.h>
@@ -309,8 +310,78 @@ static void test_answers(void)
     check("of a row, nor does a third", answer[0] == 0 && answer[1] == 0 && answer[2] == LENT && answer[3] == LENT);
 }
 
+/* ---- Numbers in words ---- */
+
+/* How many numbers are tried: each up to 50, and some beyond. */
+#define WORDED 55
+
+static size_t worded(size_t k)
+{
+    static const size_t beyond[] = {255, 256, 65536, 4294967295u};
+
+    return k <= 50 ? k : beyond[k - 51];
+}
+
+/* What mib_read and the printers answer, and what mib_set_row answers. */
+static int of_refusals(size_t number)
+{
+    return number <= 22 || (number >= 30 && number <= 34);
+}
+
+static int of_rows(size_t number)
+{
+    return number == 0 || number == 10 || number == 12 || number == 40;
+}
+
+/* A number that is answered has words that no other number has, and all others have those of 50. */
+static int words_fit(const char *(*words)(size_t), int (*answered)(size_t), size_t number)
+{
+    const char *found = words(number);
+    size_t k;
+
+    if (!found || strlen(found) == 0)
+        return 0;
+    if (!answered(number))
+        return strcmp(found, words(50)) == 0;
+    for (k = 0; k < WORDED; k++)
+        if (worded(k) != number && strcmp(found, words(worded(k))) == 0)
+            return 0;
+    return 1;
+}
+
+static void test_words(void)
+{
+    size_t k;
+
+    for (k = 0; k < WORDED; k++) {
+        check("each number of a refusal has words", words_fit(mib_refusal_text, of_refusals, worded(k)));
+        check("each number of a row has words", words_fit(mib_row_text, of_rows, worded(k)));
+    }
+    check("the words of 15", strcmp(mib_refusal_text(MIB_READ_OID_TWICE), "an earlier definition holds the OID") == 0);
+    check("the words of 30", strcmp(mib_refusal_text(MIB_PRINT_SHORT_BUFFER), "the output buffer is too short") == 0);
+    check("10 of a reading", strstr(mib_refusal_text(MIB_READ_NOT_OFFERED), "does not offer") != NULL);
+    check("10 of a row", strcmp(mib_row_text(MIB_ROW_WRONG_VALUE), "wrongValue: the set value is refused") == 0);
+    check("a number of more than 32 bits", strcmp(mib_refusal_text((size_t)1 << 32), mib_refusal_text(50)) == 0);
+    check("any other number", strcmp(mib_refusal_text(50), "no call answers this number") == 0 &&
+                                  strcmp(mib_row_text(50), "no call answers this number") == 0);
+}
+
+/* The same list as examples/rust/examples/list.rs prints. */
+static void list(void)
+{
+    size_t k;
+
+    printf("sizes\t%d\t%d\t%d\t%d\t%d\n", MIB_RECORD_WORDS, MIB_NUMBER_WORDS, MIB_OCTETS_OUT, MIB_INTEGER_OUT, MIB_STACK_BYTES);
+    for (k = 0; k < WORDED; k++)
+        printf("%zu\t%s\t%s\n", worded(k), mib_refusal_text(worded(k)), mib_row_text(worded(k)));
+}
+
 int main(int count, char **words)
 {
+    if (count == 2 && strcmp(words[1], "list") == 0) {
+        list();
+        return 0;
+    }
     if (count > 1)
         load(words[1]);
     test_accepted();
@@ -320,6 +391,7 @@ int main(int count, char **words)
     test_integers();
     test_rows();
     test_answers();
+    test_words();
     printf("%u passed, %u failed\n", passed, failed);
     return failed != 0;
 }

@@ -46,8 +46,29 @@ SINGLE = [
     ("1" + "0" * 40, "no", "no", "1" + "0" * 40, "-", 40, 10 ** 40),
 ]
 
+# states and set values by their names, with their numbers in brackets or not; what is printed is the number
+NAMED = [
+    ("notReady", "yes", "yes", "active", 1, 0, 1),
+    ("notReady(3)", "no", "yes", "notInService(2)", 2, 12, 3),
+    ("none", "yes", "no", "createAndGo", 4, 0, 1),
+    ("none(0)", "no", "yes", "createAndWait(5)", 5, 0, 3),
+    ("active", "no", "no", "notInService", 2, 10, 1),
+    ("active(1)", "yes", "yes", "notReady", 3, 10, 1),
+    ("active", "yes", "yes", "active(1)", 1, 0, 1),
+    ("notInService", "no", "no", "destroy(6)", 6, 0, 0),
+    ("notInService(2)", "no", "no", "createAndGo(4)", 4, 12, 2),
+    ("1", "yes", "no", "notReady(3)", 3, 10, 1),
+    ("0", "yes", "yes", "createAndWait", 5, 0, 2),
+    ("none", "yes", "yes", "4", 4, 0, 1),
+    ("3", "no", "no", "destroy", 6, 0, 0),
+    ("4", "yes", "yes", "active", 1, 40, 4),
+]
+
 # words that do not fit: the line `misfit`, and the list goes on
-BAD = ["x\tyes\tyes", "-1\tyes\tyes", "1\tYes\tyes", "1\tyes\t", "1\tyes\tyes\tactive", "1\tyes", "1\tyes\tyes\t1\t1", "", "1 yes yes"]
+BAD = ["x\tyes\tyes", "-1\tyes\tyes", "1\tYes\tyes", "1\tyes\t", "1\tyes\tyes\tActive", "1\tyes", "1\tyes\tyes\t1\t1", "", "1 yes yes",
+       "notReady(2)\tyes\tyes", "active(01)\tyes\tyes", "active(1\tyes\tyes", "active()\tyes\tyes", "active 1\tyes\tyes", "none(\tyes\tyes",
+       "createAndGo\tyes\tyes", "destroy\tyes\tyes", "notExist\tyes\tyes", "1\tyes\tyes\tnone", "1\tyes\tyes\tnone(0)", "1\tyes\tyes\tactive(2)",
+       "1\tyes\tyes\tdestroy(-6)", "1\tyes\tyes\tcreateAndGo(4) ", "1\tyes\tyes\tcreate", "--words\t1\tyes\tyes", "1\tyes\tyes\t--words"]
 
 
 def cell(state, value, complete, willing):
@@ -93,6 +114,11 @@ def vectors():
     for state, complete, willing, value, name, number, following in SINGLE:
         cases.append(f"{state}\t{complete}\t{willing}\t{value}")
         lines.append(f"{value}\t{name}\t{number}\t{following}")
+    for state, complete, willing, value, printed, number, following in NAMED:
+        cases.append(f"{state}\t{complete}\t{willing}\t{value}")
+        lines.append(f"{printed}\t{NAMES[printed]}\t{number}\t{following}")
+    cases.append("notReady\tno\tyes")   # each value of a state that is named
+    lines += ["1\tactive\t12\t3", "2\tnotInService\t12\t3", "3\tnotReady\t10\t3", "4\tcreateAndGo\t12\t3", "5\tcreateAndWait\t12\t3", "6\tdestroy\t0\t0"]
     cases[3:3] = BAD[:5]
     lines[18:18] = ["misfit"] * 5   # behind the six lines of each of the first three cases
     cases += BAD[5:]

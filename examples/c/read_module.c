@@ -1,6 +1,6 @@
 /*
  * Reads an SMIv2 module and prints the name and the dotted OID of each definition, or - for a type, with a tab between
- * them; or the refusal's number and place. Then it asks the other two questions.
+ * them; or the refusal's number and place, and what it means. Then it asks the other two questions.
  *
  * Build and run, in the repository:
  *
@@ -61,7 +61,7 @@ static int show_module(size_t length)
     size_t k;
 
     if (reading.number != MIB_READ_ACCEPTED) {
-        printf("refused\t%zu\t%zu\n", reading.number, reading.place);
+        printf("refused\t%zu\t%zu\t%s\n", reading.number, reading.place, mib_refusal_text(reading.number));
         return 1;
     }
     printf("accepted\t%zu\n", reading.count);
@@ -78,7 +78,8 @@ static void show_value(void)
     struct mib_printing printing = mib_print_octets(hint, sizeof hint, octets, sizeof octets, out, sizeof out);
 
     if (printing.number != MIB_PRINT_DONE) {
-        printf("value refused\t%zu\t%zu\n", printing.number, printing.place);
+        printf("value refused\t%zu\t%zu\t%s\n", printing.number, printing.place,
+               mib_refusal_text(printing.number));
         return;
     }
     fputs("value\t", stdout);
@@ -91,7 +92,7 @@ static void show_row(void)
 {
     struct mib_step step = mib_set_row(MIB_ROW_NOT_READY, MIB_SET_ACTIVE, 0, 1);
 
-    printf("row\t%zu\t%" PRIu64 "\n", step.number, step.next);
+    printf("row\t%zu\t%" PRIu64 "\t%s\n", step.number, step.next, mib_row_text(step.number));
 }
 
 int main(int argc, char **argv)

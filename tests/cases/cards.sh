@@ -61,3 +61,33 @@ test_cards_against_the_reading() {
     done
     report "card: 4,000 texts as the reading of the paper has them, with every answer among them" "$problem"
 }
+
+# The card in words: with tabs in a pipe, in columns at a terminal; the syntax in one line, without comments.
+test_cards_in_words() {
+    expect "card --words: the README's module" 0 "$(line accepted 15)
+$(line identity quayUps 1.3.6.1.4.1.64999.1 - - - -)
+$(line 'textual convention' QuayTemperature - integer - current 'Integer32 (-400..1250)')
+$(line 'plain OID' quayUpsObjects 1.3.6.1.4.1.64999.1.1 - - - -)
+$(line 'plain OID' quayUpsNotifications 1.3.6.1.4.1.64999.1.2 - - - -)
+$(line 'plain OID' quayUpsEvents 1.3.6.1.4.1.64999.1.2.0 - - - -)
+$(line object quayUpsModel 1.3.6.1.4.1.64999.1.1.1 octets read-only current 'DisplayString (SIZE (0..63))')
+$(line object quayUpsSource 1.3.6.1.4.1.64999.1.1.2 enumerated read-only current 'INTEGER { mains(1), battery(2), bypass(3) }')
+$(line object quayUpsTimeLeft 1.3.6.1.4.1.64999.1.1.3 TimeTicks read-only current TimeTicks)
+$(line object quayUpsBatteryTable 1.3.6.1.4.1.64999.1.1.4 table not-accessible current 'SEQUENCE OF QuayUpsBatteryEntry')
+$(line object quayUpsBatteryEntry 1.3.6.1.4.1.64999.1.1.4.1 row not-accessible current QuayUpsBatteryEntry)
+$(line 'SEQUENCE type' QuayUpsBatteryEntry - - - - -)
+$(line object quayUpsBatteryIndex 1.3.6.1.4.1.64999.1.1.4.1.1 integer not-accessible current 'Integer32 (1..64)')
+$(line object quayUpsBatteryCharge 1.3.6.1.4.1.64999.1.1.4.1.2 Gauge32 read-only current 'Gauge32 (0..100)')
+$(line object quayUpsBatteryTemperature 1.3.6.1.4.1.64999.1.1.4.1.3 integer read-only current QuayTemperature)
+$(line notification quayUpsOnBattery 1.3.6.1.4.1.64999.1.2.0.1 - - current -)" "" card --words examples/QUAY-UPS-MIB
+    expect "card --words: one that is refused, and one that is missing" 2 "tests/texts/open
+$(line refused 3 2)" "$scratch/missing: No such file or directory" card --words tests/texts/open "$scratch/missing"
+    sed 's/mains(1), battery(2)/mains(1), -- the usual -- -- and\n  battery(2)/' examples/QUAY-UPS-MIB >"$scratch/commented"
+    ./mib card --words "$scratch/commented" | grep -qxF "$(line object quayUpsSource 1.3.6.1.4.1.64999.1.1.2 enumerated read-only current 'INTEGER { mains(1), battery(2), bypass(3) }')"
+    report "card --words: a syntax in one line" "$?"
+    python3 tests/at_terminal.py --output ./mib card --words tests/texts/whole </dev/null 2>&1 | tr -d '\r' >"$scratch/output"
+    printf '%s\n' "$(line accepted 2)" \
+        'identity            t  1.9    -           -                      -           -' \
+        'plain OID           a  1.9.1  -           -                      -           -' | cmp -s - "$scratch/output"
+    report "card --words: columns at a terminal" "$?"
+}

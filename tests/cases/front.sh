@@ -11,7 +11,7 @@ test_front_help() {
     ./mib --help >"$scratch/output" 2>"$scratch/errors"
     [ "$?" = 0 ] && grep -q '^usage: mib COMMAND' "$scratch/output" && [ ! -s "$scratch/errors" ]
     report "mib --help" "$?"
-    for word in card explain shelf tokens hint row install; do
+    for word in card explain shelf tokens hint row prepare install; do
         ./mib "$word" --help >"$scratch/output" 2>"$scratch/errors"
         [ "$?" = 0 ] && grep -q "^usage: mib $word" "$scratch/output" && [ ! -s "$scratch/errors" ]
         report "mib $word --help" "$?"
@@ -19,6 +19,38 @@ test_front_help() {
         report "mib help $word" "$?"
     done
     expect "help on what is no command" 2 "" "'rows' is no command" help rows
+    ./mib --help | tr '\n' ' ' >"$scratch/output"
+    grep -q 'imports from SNMPv2-SMI and SNMPv2-TC alone' "$scratch/output" && grep -q 'Left out are conformance macros, macro definitions' "$scratch/output" &&
+        grep -q "this reader's limit and not the module's fault" "$scratch/output"
+    report "the help says what is read and what is left out" "$?"
+    expect "the version" 0 "mib 1.0" "" --version
+}
+
+# A wrong command is one line.
+test_front_one_line() {
+    ./mib cards >"$scratch/output" 2>"$scratch/errors"
+    [ "$?" = 2 ] && [ ! -s "$scratch/output" ] && [ "$(cat "$scratch/errors")" = "mib: 'cards' is no command; mib --help lists them" ]
+    report "a wrong command gives one line" "$?"
+}
+
+# Where files are named, - is standard input; behind -- each word is a file's name; any other word with a hyphen is said.
+test_front_names() {
+    for words in card explain tokens shelf; do
+        ./mib "$words" - <tests/texts/whole >"$scratch/output" 2>"$scratch/errors"
+        [ "$?" = 0 ] && grep -q 'accepted\|derived' "$scratch/output"
+        report "$words reads standard input" "$?"
+    done
+    cp tests/texts/whole "$scratch/-whole"
+    cp tests/texts/open "$scratch/-"
+    here=$PWD
+    (cd "$scratch" && "$here/mib" shelf -- -whole - --help </dev/null) >"$scratch/output" 2>"$scratch/errors"
+    [ "$?" = 2 ] && [ "$(cat "$scratch/output")" = "$(line ./-whole accepted 2)
+$(line ./- refused 3 2)" ] && grep -q '^./--help: No such file' "$scratch/errors"
+    report "behind -- each word is a file's name" "$?"
+    for words in card explain shelf tokens; do
+        expect "$words: an option that it does not have" 2 "" "'-x' is no option" "$words" -x tests/texts/whole
+    done
+    expect "--words is an option of card" 2 "" "--words is no option of explain" explain --words tests/texts/whole
 }
 
 # A full disk is said, and has status 2.
@@ -51,6 +83,8 @@ test_front_install() {
     [ "$installed" = "$whole_card
 $(line printed -0.05)" ]
     report "an installed mib runs by itself" "$?"
+    cmp -s docs/RULES.md "$(PATH=/usr/bin:/bin "$scratch/installed/mib" --help | sed -n 's/.*with an example: //p')"
+    report "the help of an installed mib names a page on the rules that is there" "$?"
 }
 
 test_front_install_refused() {
@@ -69,29 +103,62 @@ test_front_install_in_part() {
     report "a folder without the programs is no installation" "$?"
 }
 
-# A build that is older than the sources: mib has the program proved again, and says so.
+# A build that is older than the sources: mib has the programs proved again, and says so.
 test_front_building_again() {
-    touch -t 200001010000 target/mib/row
+    touch -t 200001010000 target/mib/stamp
     ./mib row 0 yes yes 4 >"$scratch/output" 2>"$scratch/errors" </dev/null
-    [ "$(cat "$scratch/output")" = "$(line 4 createAndGo 0 1)" ] && grep -q 'proving and linking row' "$scratch/errors"
+    [ "$(cat "$scratch/output")" = "$(line 4 createAndGo 0 1)" ] && grep -q 'proving and linking the programs' "$scratch/errors"
     report "mib builds again when a source is newer than the build" "$?"
 }
 
 # Two at once: one waits for the other, and both answer. A lock whose holder was killed holds nobody up.
 test_front_building_once() {
-    touch -t 200001010000 target/mib/row
+    touch -t 200001010000 target/mib/stamp
     (flock 9 && exec sleep 60) 9>>target/mib/lock &
     holder=$!
     sleep 1
     kill "$holder"
     ./mib row 0 yes yes 4 >"$scratch/first" 2>"$scratch/errors" </dev/null &
     first=$!
-    ./mib row 0 yes yes 4 >"$scratch/output" 2>>"$scratch/errors" </dev/null
+    ./mib hint integer d-2 -5 >"$scratch/output" 2>>"$scratch/errors" </dev/null
     wait "$first"
     [ "$(cat "$scratch/first" "$scratch/output")" = "$(line 4 createAndGo 0 1)
-$(line 4 createAndGo 0 1)" ] && [ "$(grep -c 'proving and linking row' "$scratch/errors")" = 1 ] &&
-        ! grep -vE 'proving and linking row|waiting for another build' "$scratch/errors"
+$(line printed -0.05)" ] && [ "$(grep -c 'proving and linking the programs' "$scratch/errors")" = 1 ] &&
+        ! grep -vE 'proving and linking the programs|waiting for another build|mib: proved [0-9]+ of [0-9]+' "$scratch/errors"
     report "two commands at once build once" "$?"
+}
+
+# prepare proves all at once, says how far it is, that it is done once and where the log is; after it nothing waits. A kit that is slow
+# stands in for the real one, and has two crates proved at once.
+test_front_prepare() {
+    mkdir "$scratch/bin" "$scratch/copy" "$scratch/copy/crates"
+    cp mib "$scratch/copy"
+    printf '%s\n' 'base:' 'card: base' 'card_words: base' 'explain: base' 'shelf: base' 'tokens: base' 'hint_tool: base' 'row: base more' 'more: a b c' 'apart: base' 'a: base' 'b: base' 'c:' >"$scratch/copy/crates.txt"
+    cat >"$scratch/bin/rt" <<'END OF TEXT'
+#!/bin/sh
+mkdir -p target/bin
+for crate in base a b c more card card_words explain shelf tokens; do echo "rt: $crate proved (1 s)"; done
+sleep 3
+for crate in hint_tool row; do echo "rt: $crate proved (1 s)"; done
+for program in card card_words explain shelf tokens hint_tool row; do
+    printf '#!/bin/sh\necho answered; echo 0 >&3\n' >"target/bin/$program"
+    chmod +x "target/bin/$program"
+done
+END OF TEXT
+    chmod +x "$scratch/bin/rt"
+    PATH=$scratch/bin:$PATH "$scratch/copy/mib" prepare >"$scratch/output" 2>"$scratch/errors" </dev/null
+    [ "$?" = 0 ] && [ ! -s "$scratch/output" ] && grep -q 'this is done once' "$scratch/errors" && grep -q "the log is .*/target/mib/log" "$scratch/errors" &&
+        grep -qx 'mib: proved 10 of 12' "$scratch/errors" && grep -qx 'mib: proved 12 of 12' "$scratch/errors"
+    report "prepare says how far it is" "$?"
+    for word in card explain tokens; do
+        [ "$(PATH=/usr/bin:/bin "$scratch/copy/mib" "$word" tests/texts/whole 2>&1)" = answered ]
+        report "$word does not wait after prepare" "$?"
+    done
+    rm "$scratch/copy/target/bin/row"
+    printf '#!/bin/sh\necho "rt: row FAILED"\nexit 1\n' >"$scratch/bin/rt"
+    PATH=$scratch/bin:$PATH "$scratch/copy/mib" prepare >"$scratch/output" 2>"$scratch/errors" </dev/null
+    [ "$?" = 2 ] && grep -q 'are not proved' "$scratch/errors" && grep -q 'rt: row FAILED' "$scratch/errors" && [ ! -e "$scratch/copy/target/mib/stamp.new" ]
+    report "prepare says what is not proved" "$?"
 }
 
 # Without rt, and with sources that are newer than the build, mib says what to install. Where nothing can be written, it says so in a
@@ -105,4 +172,12 @@ test_front_building_refused() {
     "$scratch/mib" row 3 no yes >"$scratch/output" 2>"$scratch/errors" </dev/null
     [ $? = 2 ] && [ ! -s "$scratch/output" ] && [ "$(wc -l <"$scratch/errors")" = 1 ] && grep -q 'a repository that can be written to' "$scratch/errors"
     report "mib in a repository that cannot be written to" "$?"
+}
+
+# Each text is answered within so many kilobytes of stack, a quarter more than tests/stack measures.
+test_front_stack() {
+    tests/stack --under 1800 target/bin/card target/bin/card_words target/bin/shelf >&2
+    report "card and shelf run with 1,800 KB of stack" "$?"
+    tests/stack --under 2400 target/bin/explain >&2
+    report "explain runs with 2,400 KB" "$?"
 }

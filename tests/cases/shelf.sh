@@ -25,6 +25,26 @@ test_shelf_folder() {
     report "shelf: a folder as standard input is said" "$?"
 }
 
+# A folder's files, in the order of their names, those of folders in it too; and names that end with a byte 0.
+test_shelf_folders() {
+    mkdir "$scratch/modules" "$scratch/modules/c"
+    cp tests/texts/whole "$scratch/modules/d"
+    cp tests/texts/open "$scratch/modules/c/b e"
+    cp tests/texts/twice "$scratch/modules/a"
+    expect "shelf: a folder" 1 "$(line "$scratch/modules/a" refused 9 207)
+$(line "$scratch/modules/c/b e" refused 3 2)
+$(line "$scratch/modules/d" accepted 2)" "$(line files 3)" shelf "$scratch/modules"
+    expect "shelf: a folder beside a file" 1 "$(line tests/texts/whole accepted 2)
+$(line "$scratch/modules/c/b e" refused 3 2)" "$(line files 2)" shelf tests/texts/whole "$scratch/modules/c"
+    printf '%s\0' tests/texts/whole "$scratch/modules/c/b e" "$scratch/no${tab}
+such" | ./mib shelf -0 >"$scratch/output" 2>"$scratch/errors"
+    [ "$?" = 2 ] && [ "$(cat "$scratch/output")" = "$(line tests/texts/whole accepted 2)
+$(line "$scratch/modules/c/b e" refused 3 2)" ] && grep -q '^such: No such file' "$scratch/errors" && grep -qx "unread${tab}1" "$scratch/errors"
+    report "shelf -0: names that end with a byte 0" "$?"
+    expect "shelf -0 stands alone" 2 "" "-0 stands alone" shelf -0 tests/texts/whole
+    expect "shelf: standard input beside a folder" 2 "" "standard input is not read beside a folder" shelf - "$scratch/modules"
+}
+
 test_shelf_many_files() {
     started=$(date +%s)
     yes tests/texts/whole | head -n 4000 | ./mib shelf >"$scratch/output" 2>"$scratch/errors"

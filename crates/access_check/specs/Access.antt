@@ -5,10 +5,11 @@ use mathlib.Core.Bool.{Bool, not, _&&_, _||_}
 use mathlib.Core.List.{List}
 use Prim.Native.Nat.{ℕ}
 use lib.Dec.{eqb, ltb}
-use Rattle.index.specs.First.{any}
+use Rattle.index.specs.First.{first, any}
 use Rattle.rule.specs.Rule.{Rule}
+use Rattle.definition.specs.declared.Span.{Span}
 use Rattle.module_table.specs.Definition.{entry}
-use Rattle.module_table.specs.Module.{rule-of-definitions}
+use Rattle.module_table.specs.Module.{name-at, rule-of-definitions}
 use Rattle.module_table.specs.declared.Definition.{Definition}
 use Rattle.object_tree.specs.Words.{counter32, counter64, not-accessible, accessible-for-notify, read-only, read-write, read-create, is-object, is-table, is-row, numbered}
 use Rattle.index.specs.Choice.{if_then_else_}
@@ -17,6 +18,10 @@ use Rattle.sequence_list.specs.Named.{type-of, columns-of, named-at}
 -- token i names an object of this access
 unfoldable pub has-access : List Definition → List ℕ → ℕ → ℕ → Bool
 has-access ds values access i = eqb (numbered ds (named-at ds values i) .access) access
+
+-- the first token of a list that names an object of this access; the end of the list where none does
+abbrev pub first-with : List Definition → List ℕ → ℕ → Span → ℕ
+first-with ds values access s = first (has-access ds values access) (s .from) (s .to)
 
 -- the SEQUENCE type of a number names a read-create object. Where refusal 20 is kept, what the SEQUENCE type of a row names are its columns
 unfoldable pub creates : List Definition → List ℕ → ℕ → Bool
@@ -60,7 +65,19 @@ access-clause ds values k =
     if unfit-counter (entry ds k) then 4 else
     0
 
+-- the list of the SEQUENCE type of the row of definition k
+abbrev pub row-list : List Definition → ℕ → Span
+row-list ds k = columns-of ds (type-of (numbered ds (entry ds k .parent)))
+
+-- the token that definition k stands against by a clause: of a clash, the name of the first read-create column that is listed; else its
+-- own name
+unfoldable pub access-other : List Definition → List ℕ → ℕ → ℕ → ℕ
+access-other ds values k clause =
+    if eqb clause 1 then numbered ds (named-at ds values (first-with ds values read-create (row-list ds k))) .name .0 else
+    name-at ds k
+
 -- 21: access rules
 unfoldable pub access-broken : List Definition → List ℕ → Rule
 access-broken ds values =
-    rule-of-definitions 21 ds (λ k. ltb 0 (access-clause ds values k)) (access-clause ds values) (λ k. k)
+    rule-of-definitions 21 ds (λ k. ltb 0 (access-clause ds values k)) (access-clause ds values)
+    (λ k. access-other ds values k (access-clause ds values k))

@@ -37,11 +37,11 @@ is-faulty ds values numbers check k = ltb 0 (check-clause ds values numbers chec
 unfoldable pub written-type : List Definition → ℕ → ℕ
 written-type ds k = cond (is-written-column ds (entry ds k)) (type-of (numbered ds (entry ds k .parent))) 0
 
--- what there is to say of definition k, at fault by a clause
-abbrev pub found : List Definition → ℕ → ℕ → ℕ → Finding
-found ds number clause k = record {
+-- what there is to say of definition k, at fault by a clause, which stands against a token
+abbrev pub found : List Definition → ℕ → ℕ → ℕ → ℕ → Finding
+found ds number clause k other = record {
   number = number;
   clause = clause;
   token = entry ds k .name;
-  other = entry ds k .name;
+  other = record { 0 = other };
 }

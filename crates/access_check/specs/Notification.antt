@@ -8,11 +8,11 @@ use lib.ListN.{length, getD}
 use Rattle.index.specs.First.{any}
 use Rattle.rule.specs.Rule.{Rule}
 use Rattle.module_table.specs.Definition.{entry}
-use Rattle.module_table.specs.Module.{oid-in, rule-of-definitions}
+use Rattle.module_table.specs.Module.{oid-in, name-at, rule-of-definitions}
 use Rattle.module_table.specs.declared.Definition.{Definition}
 use Rattle.object_tree.specs.Words.{not-accessible, is-notification}
 use Rattle.index.specs.Choice.{if_then_else_}
-use Rattle.access_check.specs.Access.{has-access}
+use Rattle.access_check.specs.Access.{has-access, first-with}
 
 -- 1: its OID has fewer than two numbers
 abbrev pub is-short : List ℕ → Bool
@@ -35,10 +35,15 @@ notification-clause ds values numbers k =
     if lists-hidden ds values (entry ds k) then 3 else
     0
 
+-- the token that definition k stands against by a clause: the first name in OBJECTS of a not-accessible object; else its own name
+unfoldable pub notification-other : List Definition → List ℕ → ℕ → ℕ → ℕ
+notification-other ds values k clause =
+    if eqb clause 3 then first-with ds values not-accessible (entry ds k .objects) else name-at ds k
+
 -- 22: rules on notifications
 unfoldable pub notification-broken : List Definition → List ℕ → List ℕ → Rule
 notification-broken ds values numbers =
     rule-of-definitions 22 ds
     (λ k. ltb 0 (notification-clause ds values numbers k))
     (notification-clause ds values numbers)
-    (λ k. k)
+    (λ k. notification-other ds values k (notification-clause ds values numbers k))

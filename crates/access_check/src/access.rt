@@ -1,8 +1,9 @@
 // The clauses of refusal 21 that are about one object.
 ghost use mathlib.Core.Path.{_≡_};
 ghost use Rattle.module_table.specs.Definition.{definitions-in};
-ghost use Rattle.access_check.specs.Access.{has-access, open-table, created-alone, unfit-counter};
+ghost use Rattle.access_check.specs.Access.{has-access, first-with, open-table, created-alone, unfit-counter};
 ghost use Rattle.access_check.specs.Found.{own-clause};
+use definition::Span;
 use index::TokenIndex;
 use module_table::Definition;
 use object_tree::ACCESSIBLE_FOR_NOTIFY;
@@ -23,6 +24,21 @@ pub fn has_access(values: &[u32], definitions: &[usize], access: usize, i: Token
 {
     let d = numbered(definitions, named_at(values, definitions, i));
     d.access == access
+}
+
+// The first token of a list that names an object of this access; the end of the list where none does.
+pub fn first_with(values: &[u32], definitions: &[usize], access: usize, list: Span) -> usize
+    ensures { λ r. ⌜ r ≡ first-with (definitions-in (now (definitions .entry))) (now (values .entry)) access list ⌝ }
+{
+    let to = list.to;
+    let mut i = list.from;
+    while i < to {
+        if has_access(values, definitions, access, TokenIndex(i)) {
+            return i;
+        }
+        i += 1;
+    }
+    i
 }
 
 // Whether a table or a row isn't not-accessible.

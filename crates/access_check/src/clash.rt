@@ -3,8 +3,9 @@ ghost use mathlib.Core.Path.{_≡_};
 ghost use lib.ListN.{length};
 ghost use Rattle.index.specs.First.{first};
 ghost use Rattle.module_table.specs.Definition.{definitions-in};
-ghost use Rattle.access_check.specs.Access.{clashes};
+ghost use Rattle.access_check.specs.Access.{clashes, access-other};
 ghost use Rattle.access_check.specs.Found.{written-type};
+use crate::access::first_with;
 use crate::access::has_access;
 use index::RecordIndex;
 use index::TokenIndex;
@@ -17,6 +18,7 @@ use object_tree::is_row;
 use object_tree::numbered;
 use sequence_list::PLACES;
 use sequence_list::columns_of;
+use sequence_list::named_at;
 use sequence_list::type_of;
 
 // The SEQUENCE type of the row of a read-write column; 0 for any other definition.
@@ -56,4 +58,18 @@ pub fn first_clash(values: &[u32], definitions: &[usize]) -> usize
         k += 1;
     }
     k
+}
+
+// The token that definition k stands against by a clause of refusal 21: the name of the read-create column of a clash, or its own.
+pub fn access_other(values: &[u32], definitions: &[usize], clause: u8, k: RecordIndex) -> TokenIndex
+    ensures { λ r. ⌜ r .0 ≡ access-other (definitions-in (now (definitions .entry))) (now (values .entry)) (k .0) clause ⌝ }
+{
+    let d = definition_at(definitions, k);
+    if clause == 1 {
+        let list = columns_of(definitions, type_of(numbered(definitions, d.parent)));
+        let i = first_with(values, definitions, READ_CREATE, list);
+        let column = numbered(definitions, named_at(values, definitions, TokenIndex(i)));
+        return column.name;
+    }
+    d.name
 }

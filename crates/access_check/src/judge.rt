@@ -6,10 +6,13 @@ ghost use Rattle.access_check.specs.Access.{access-broken};
 ghost use Rattle.access_check.specs.Notification.{notification-broken};
 ghost use Rattle.access_check.specs.Found.{found};
 use crate::Check;
+use crate::clash::access_other;
 use crate::clash::first_clash;
 use crate::fault::clause_at;
 use crate::fault::first_fault;
+use crate::notification::notification_other;
 use index::RecordIndex;
+use index::TokenIndex;
 use module_table::count;
 use module_table::definition_at;
 use rule::Finding;
@@ -22,9 +25,15 @@ const NOTIFICATION_BROKEN: u8 = 22;
 
 const CLASH: u8 = 1;
 
-// What there is to say of definition k, at fault by a clause.
-fn found(definitions: &[usize], number: u8, clause: u8, k: RecordIndex) -> Finding
-    ensures { λ r. ⌜ r ≡ found (definitions-in (now (definitions .entry))) number clause (k .0) ⌝ }
+// What there is to say of definition k, at fault by a clause, which stands against a token.
+fn found(
+    definitions: &[usize],
+    number: u8,
+    clause: u8,
+    k: RecordIndex,
+    other: TokenIndex,
+) -> Finding
+    ensures { λ r. ⌜ r ≡ found (definitions-in (now (definitions .entry))) number clause (k .0) (other .0) ⌝ }
 {
     let d = definition_at(definitions, k);
     let token = d.name;
@@ -32,7 +41,7 @@ fn found(definitions: &[usize], number: u8, clause: u8, k: RecordIndex) -> Findi
         number,
         clause,
         token,
-        other: token,
+        other,
     }
 }
 
@@ -44,17 +53,15 @@ pub fn judge_access(values: &[u32], definitions: &[usize], numbers: &[u32]) -> J
     let clash = first_clash(values, definitions);
     let fault = first_fault(values, definitions, numbers, Check::Access);
     if (clash < n) & (clash <= fault) {
-        return Judgement::Broken(found(definitions, ACCESS_BROKEN, CLASH, RecordIndex(clash)));
+        let k = RecordIndex(clash);
+        let other = access_other(values, definitions, CLASH, k);
+        return Judgement::Broken(found(definitions, ACCESS_BROKEN, CLASH, k, other));
     }
     if fault < n {
-        let clause = clause_at(
-            values,
-            definitions,
-            numbers,
-            Check::Access,
-            RecordIndex(fault),
-        );
-        return Judgement::Broken(found(definitions, ACCESS_BROKEN, clause, RecordIndex(fault)));
+        let k = RecordIndex(fault);
+        let clause = clause_at(values, definitions, numbers, Check::Access, k);
+        let other = access_other(values, definitions, clause, k);
+        return Judgement::Broken(found(definitions, ACCESS_BROKEN, clause, k, other));
     }
     Judgement::Kept
 }
@@ -66,19 +73,10 @@ pub fn judge_notifications(values: &[u32], definitions: &[usize], numbers: &[u32
     let n = count(definitions);
     let fault = first_fault(values, definitions, numbers, Check::Notification);
     if fault < n {
-        let clause = clause_at(
-            values,
-            definitions,
-            numbers,
-            Check::Notification,
-            RecordIndex(fault),
-        );
-        return Judgement::Broken(found(
-            definitions,
-            NOTIFICATION_BROKEN,
-            clause,
-            RecordIndex(fault),
-        ));
+        let k = RecordIndex(fault);
+        let clause = clause_at(values, definitions, numbers, Check::Notification, k);
+        let other = notification_other(values, definitions, clause, k);
+        return Judgement::Broken(found(definitions, NOTIFICATION_BROKEN, clause, k, other));
     }
     Judgement::Kept
 }

@@ -4,8 +4,8 @@ ghost use lib.ListN.{length};
 ghost use Prim.Native.Nat.{_≤_};
 ghost use Rattle.module_table.specs.Definition.{definitions-in};
 ghost use Rattle.module_table.specs.Module.{oid-in};
-ghost use Rattle.access_check.specs.Notification.{is-short, is-not-zeroed, lists-hidden, notification-clause};
-use crate::access::has_access;
+ghost use Rattle.access_check.specs.Notification.{is-short, is-not-zeroed, lists-hidden, notification-clause, notification-other};
+use crate::access::first_with;
 use index::RecordIndex;
 use index::TokenIndex;
 use module_table::Definition;
@@ -38,15 +38,7 @@ fn lists_hidden(values: &[u32], definitions: &[usize], d: Definition) -> bool
     ensures { λ r. ⌜ r ≡ lists-hidden (definitions-in (now (definitions .entry))) (now (values .entry)) d ⌝ }
 {
     let list = d.objects;
-    let to = list.to;
-    let mut i = list.from;
-    while i < to {
-        if has_access(values, definitions, NOT_ACCESSIBLE, TokenIndex(i)) {
-            return true;
-        }
-        i += 1;
-    }
-    false
+    first_with(values, definitions, NOT_ACCESSIBLE, list) < list.to
 }
 
 // The first clause that puts definition k at fault, which is a notification; 0 where none does.
@@ -72,4 +64,20 @@ pub fn notification_clause(
         return 3;
     }
     0
+}
+
+// The token that definition k stands against by a clause: a name in its OBJECTS, or its own.
+pub fn notification_other(
+    values: &[u32],
+    definitions: &[usize],
+    clause: u8,
+    k: RecordIndex,
+) -> TokenIndex
+    ensures { λ r. ⌜ r .0 ≡ notification-other (definitions-in (now (definitions .entry))) (now (values .entry)) (k .0) clause ⌝ }
+{
+    let d = definition_at(definitions, k);
+    if clause == 3 {
+        return TokenIndex(first_with(values, definitions, NOT_ACCESSIBLE, d.objects));
+    }
+    d.name
 }

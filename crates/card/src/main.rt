@@ -119,6 +119,18 @@ fn print_argument(i: usize, named: bool, page: &mut [u8], laid: Laid) -> Laid
     print_card(&buf[0..count], page, laid)
 }
 
+// The same line where standard output is a terminal: the name is shown, behind what is laid.
+fn show_name(name: &[u8], page: &[u8], laid: Laid) -> Laid
+    requires { ⌜ laid .at ≤ length (now page) ⌝ }
+    ensures { λ r. ⌜ r .at ≡ 0 ⌝ }
+{
+    let done = write_out(page, laid);
+    Laid {
+        at: 0,
+        out: output::end_line(output::show(done.out, name)),
+    }
+}
+
 // A line with a file's name.
 fn write_name(name: &[u8], page: &mut [u8], laid: Laid) -> Laid
     requires name { ⌜ length (now name) ≤ longest-path ⌝ }
@@ -126,6 +138,10 @@ fn write_name(name: &[u8], page: &mut [u8], laid: Laid) -> Laid
     requires inside { ⌜ laid .at ≤ page-size ⌝ }
     ensures { λ r. ⌜ r .at ≤ page-size ⌝ }
 {
+    let out = laid.out;
+    if out.terminal {
+        return show_name(name, page, laid);
+    }
     let start = make_room(page, laid);
     let next = buffer::copy(name, page, start.at);
     laid_to(start, buffer::put(page, next, b'\n'))

@@ -64,6 +64,10 @@ longest-oid = 128
 abbrev pub name : List ℕ → List ℕ → List ℕ
 name text words = take (min (getD words 2 0) longest-name) (drop (getD words 1 0) text)
 
+-- the bytes of its syntax, by offset and length
+abbrev pub syntax : List ℕ → List ℕ → List ℕ
+syntax text words = take (getD words 6 0) (drop (getD words 5 0) text)
+
 -- its sub-identifiers, by first index and count: 128 at most
 abbrev pub sub-identifiers : List ℕ → List ℕ → List ℕ
 sub-identifiers numbers words = take (min (getD words 4 0) longest-oid) (drop (getD words 3 0) numbers)

@@ -4,7 +4,7 @@ ghost use Prim.Native.Nat.{_+_, _≤_, min};
 ghost use lib.ListN.{length, getD};
 ghost use Rattle.buffer.specs.Buffer.{Wrote};
 ghost use Rattle.digit.specs.Digits.{digits};
-ghost use Rattle.card_line.specs.Line.{IsPart, field, accepted-line, refused-line, head, pointed, dotted, name, sub-identifiers};
+ghost use Rattle.card_line.specs.Line.{IsPart, field, accepted-line, refused-line, head, pointed, dotted, name, syntax, sub-identifiers};
 ghost use Rattle.card_line.specs.Line.{name-field, oid-field, definition-fields, attribute-fields, record-line};
 ghost use Rattle.card_line.specs.Line.{longest-oid, field-room, head-room, number-room, pointed-room, oid-room, definition-room};
 ghost use Rattle.card_line.specs.Line.{attributes-room, line-room};
@@ -19,21 +19,25 @@ const TAB: u8 = 9;
 const LINE_END: u8 = 10;
 
 // The words of a record that a line shows.
-const KIND: usize = 0;
+pub const KIND: usize = 0;
 
 const NAME_OFFSET: usize = 1;
 
-const NAME_LENGTH: usize = 2;
+pub const NAME_LENGTH: usize = 2;
 
 const OID_FIRST: usize = 3;
 
 const OID_COUNT: usize = 4;
 
-const ACCESS: usize = 7;
+const SYNTAX_OFFSET: usize = 5;
 
-const STATUS: usize = 8;
+const SYNTAX_LENGTH: usize = 6;
 
-const CLASS: usize = 9;
+pub const ACCESS: usize = 7;
+
+pub const STATUS: usize = 8;
+
+pub const CLASS: usize = 9;
 
 // The most bytes of a name, and the most numbers of an OID. A module with more is refused, so nothing is cut; by these bounds a line
 // has room whatever the words say.
@@ -96,7 +100,7 @@ pub fn write_head(answer: Answer, out: &mut [u8], at: usize) -> usize
 }
 
 // A word of a record; 0 past its end.
-fn word(words: &[u32], i: usize) -> u32
+pub fn word(words: &[u32], i: usize) -> u32
     ensures { λ r. ⌜ r ≡ getD (now (words .entry)) i 0 ⌝ }
 {
     if i < words.len() { words[i] } else { 0 }
@@ -138,7 +142,7 @@ fn at_most(n: usize, most: usize) -> usize
 }
 
 // The bytes of a name.
-fn name_of<'a>(text: &'a [u8], words: &[u32]) -> &'a [u8]
+pub fn name_of<'a>(text: &'a [u8], words: &[u32]) -> &'a [u8]
     ensures { λ r. ⌜ now r ≡ name (now (text .entry)) (now (words .entry)) ⌝ }
 {
     let part = part_of(
@@ -163,6 +167,20 @@ fn oid_of<'a>(numbers: &'a [u32], words: &[u32]) -> &'a [u32]
     let from = part.from;
     let to = part.to;
     &numbers[from..to]
+}
+
+// The bytes of a syntax.
+pub fn syntax_of<'a>(text: &'a [u8], words: &[u32]) -> &'a [u8]
+    ensures { λ r. ⌜ now r ≡ syntax (now (text .entry)) (now (words .entry)) ⌝ }
+{
+    let part = part_of(
+        text.len(),
+        word(words, SYNTAX_OFFSET) as usize,
+        word(words, SYNTAX_LENGTH) as usize,
+    );
+    let from = part.from;
+    let to = part.to;
+    &text[from..to]
 }
 
 // Writes a sub-identifier, and answers the place after it.
@@ -202,6 +220,15 @@ fn write_dotted(numbers: &[u32], out: &mut [u8], at: usize) -> usize
     }
     let next = write_number(numbers[0], out, at);
     write_pointed(&numbers[1..], out, next)
+}
+
+// Writes the OID of a record, or a hyphen.
+pub fn write_oid_of(words: &[u32], numbers: &[u32], out: &mut [u8], at: usize) -> usize
+    requires { ⌜ at + oid-room ≤ length (now out) ⌝ }
+    ensures bytes { λ r. ⌜ Wrote (dotted (sub-identifiers (now (numbers .entry)) (now (words .entry)))) at r (now (out .entry)) (now (out .exit)) ⌝ }
+    ensures short { λ r. ⌜ r ≤ at + oid-room ⌝ }
+{
+    write_dotted(oid_of(numbers, words), out, at)
 }
 
 // Writes a name and a tab.

@@ -2,7 +2,7 @@
 ghost use mathlib.Core.Path.{_≡_};
 ghost use Prim.Native.Nat.{_+_, _≤_};
 ghost use lib.ListN.{length};
-use crate::file::read_file;
+use crate::file::read_named;
 
 // Puts the program's arguments at the start of buf with a byte 0, which none of them can hold, between them, and
 // answers how many bytes that takes; or one more than buf has, where it cannot hold them.
@@ -59,8 +59,8 @@ pub struct Named {
     pub failed: bool,
 }
 
-// Puts argument i at the start of one buffer, and what the file of that name holds at the start of the other, until it ends or the
-// buffer is full. Of a name that is too long for a file's, as much is kept as fits.
+// Puts argument i at the start of one buffer, and what the file of that name holds, or standard input where it is a hyphen, at the start
+// of the other, until it ends or the buffer is full. Of a name that is too long for a file's, as much is kept as fits.
 pub fn read_argument(i: usize, name: &mut [u8], buf: &mut [u8]) -> Named
     ensures name { λ r. ⌜ r .name ≤ length (now (name .entry)) ⌝ }
     ensures bytes { λ r. ⌜ r .count ≤ length (now (buf .entry)) ⌝ }
@@ -73,7 +73,7 @@ pub fn read_argument(i: usize, name: &mut [u8], buf: &mut [u8]) -> Named
             failed: true,
         };
     }
-    let content = read_file(&name[..n], buf);
+    let content = read_named(&name[..n], buf);
     Named {
         name: n,
         count: content.count,

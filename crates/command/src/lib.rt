@@ -11,5 +11,6 @@ pub use file::Content;
 pub use file::read_file;
 pub use list::List;
 pub use list::NO_LINE;
+pub use list::first_ended_by;
 pub use list::first_in_list;
 pub use list::next_in_list;

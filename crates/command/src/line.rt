@@ -1,13 +1,14 @@
 // The lines of a list that is read through a buffer.
 ghost use mathlib.Core.Path.{_≡_};
-ghost use Prim.Native.Nat.{ℕ, _+_, _≤_};
+ghost use Prim.Native.Nat.{ℕ, _+_, _≤_, _<_};
 ghost use lib.ListN.{length};
 ghost use Rattle.command.specs.Within.{LineWithin, LinesWithin, PartWithin};
 
-// The bytes of the buffer that are read and not used yet: from `from` up to, not including, `to`.
+// The bytes of the buffer that are read and not used yet: from `from` up to, not including, `to`; and the byte that ends a line.
 pub struct Lines {
     pub from: usize,
     pub to: usize,
+    pub end: u8,
 }
 
 // What comes next in a list.
@@ -22,18 +23,34 @@ pub enum Line {
     End,
 }
 
-// Where a line ends that runs up to `end`: before a carriage return, where one ends it.
-fn before_return(buf: &[u8], from: usize, end: usize) -> usize
-    requires { ⌜ PartWithin from end (length (now buf)) ⌝ }
-    ensures { λ r. ⌜ PartWithin from r end ⌝ }
+// Where a line that runs up to `last` ends: before a carriage return, where one stands before a line feed.
+fn before_return(buf: &[u8], from: usize, last: usize, end: u8) -> usize
+    requires { ⌜ PartWithin from last (length (now buf)) ⌝ }
+    ensures { λ r. ⌜ PartWithin from r last ⌝ }
 {
-    if from == end {
-        return end;
+    if from == last {
+        return last;
     }
-    if buf[end - 1] == b'\r' {
-        return end - 1;
+    if end != b'\n' {
+        return last;
     }
-    end
+    if buf[last - 1] == b'\r' {
+        return last - 1;
+    }
+    last
+}
+
+// What stands behind the end of a line.
+fn behind(found: usize, to: usize, end: u8) -> Lines
+    requires { ⌜ found < to ⌝ }
+    ensures ordered { λ r. ⌜ r .from ≤ r .to ⌝ }
+    ensures inside { λ r. ⌜ r .to ≡ to ⌝ }
+{
+    Lines {
+        from: found + 1,
+        to,
+        end,
+    }
 }
 
 // The next line of the input. It is in the buffer already, or what the buffer holds is moved to its front and more is
@@ -44,14 +61,15 @@ pub fn next_line(fd: i32, buf: &mut [u8], lines: Lines) -> Line
 {
     let from = lines.from;
     let to = lines.to;
-    let end = bytes::scan::find(buf, from, to, b'\n');
-    if end < to {
-        let last = before_return(buf, from, end);
-        return Line::At(from, last, Lines { from: end + 1, to });
+    let end = lines.end;
+    let found = bytes::scan::find(buf, from, to, end);
+    if found < to {
+        let last = before_return(buf, from, found, end);
+        return Line::At(from, last, behind(found, to, end));
     }
     let held = to - from;
     move_to_front(buf, from, held);
-    read_line(fd, buf, held)
+    read_line(fd, buf, held, end)
 }
 
 // Moves the `held` bytes from index `from` on to the front of the buffer.
@@ -68,7 +86,7 @@ fn move_to_front(buf: &mut [u8], from: usize, held: usize)
 
 // Reads on behind the buffer's first `held` bytes, which hold no line end, until a line is whole. The turns are
 // counted, since nothing says that an input ends; no run uses them up.
-fn read_line(fd: i32, buf: &mut [u8], held: usize) -> Line
+fn read_line(fd: i32, buf: &mut [u8], held: usize, end: u8) -> Line
     requires { ⌜ held ≤ length (now buf) ⌝ }
     ensures { λ r. ⌜ LineWithin r (length (now (buf .entry))) ⌝ }
 {
@@ -77,7 +95,7 @@ fn read_line(fd: i32, buf: &mut [u8], held: usize) -> Line
     while turns > 0 {
         turns -= 1;
         if to == buf.len() {
-            return Line::TooLong(skip_line(fd, buf));
+            return Line::TooLong(skip_line(fd, buf, end));
         }
         let came = read_more(fd, buf, to);
         if came.failed {
@@ -85,28 +103,28 @@ fn read_line(fd: i32, buf: &mut [u8], held: usize) -> Line
         }
         let more = came.count;
         if more == 0 {
-            return last_line(buf, to);
+            return last_line(buf, to, end);
         }
-        let end = bytes::scan::find(buf, to, to + more, b'\n');
+        let found = bytes::scan::find(buf, to, to + more, end);
         to += more;
-        if end < to {
-            let last = before_return(buf, 0, end);
-            return Line::At(0, last, Lines { from: end + 1, to });
+        if found < to {
+            let last = before_return(buf, 0, found, end);
+            return Line::At(0, last, behind(found, to, end));
         }
     }
     Line::End
 }
 
 // What the end of the input leaves: a last line without a line end, or nothing.
-fn last_line(buf: &[u8], to: usize) -> Line
+fn last_line(buf: &[u8], to: usize, end: u8) -> Line
     requires { ⌜ to ≤ length (now buf) ⌝ }
     ensures { λ r. ⌜ ((size : ℕ) → to ≤ size → LineWithin r size) ⌝ }
 {
     if to == 0 {
         return Line::End;
     }
-    let last = before_return(buf, 0, to);
-    Line::At(0, last, Lines { from: to, to })
+    let last = before_return(buf, 0, to, end);
+    Line::At(0, last, Lines { from: to, to, end })
 }
 
 // How many bytes came in: none at the end of the input, and where it cannot be read.
@@ -130,7 +148,7 @@ fn read_more(fd: i32, buf: &mut [u8], held: usize) -> More
 }
 
 // Reads on to the end of a line, and answers what stands behind it. Where the input cannot be read, the next line says so.
-fn skip_line(fd: i32, buf: &mut [u8]) -> Lines
+fn skip_line(fd: i32, buf: &mut [u8], end: u8) -> Lines
     ensures { λ r. ⌜ LinesWithin r (length (now (buf .entry))) ⌝ }
 {
     let mut turns = u64::MAX;
@@ -140,10 +158,14 @@ fn skip_line(fd: i32, buf: &mut [u8]) -> Lines
         if to == 0 {
             break;
         }
-        let end = bytes::scan::find(buf, 0, to, b'\n');
-        if end < to {
-            return Lines { from: end + 1, to };
+        let found = bytes::scan::find(buf, 0, to, end);
+        if found < to {
+            return behind(found, to, end);
         }
     }
-    Lines { from: 0, to: 0 }
+    Lines {
+        from: 0,
+        to: 0,
+        end,
+    }
 }

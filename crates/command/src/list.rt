@@ -29,7 +29,14 @@ pub struct List {
 pub fn first_in_list(buf: &mut [u8]) -> List
     ensures { λ r. ⌜ ListWithin r (length (now (buf .entry))) ⌝ }
 {
-    next_in_list(buf, nothing_read(0, false))
+    first_ended_by(buf, b'\n')
+}
+
+// The first line of a list whose lines end with this byte.
+pub fn first_ended_by(buf: &mut [u8], end: u8) -> List
+    ensures { λ r. ⌜ ListWithin r (length (now (buf .entry))) ⌝ }
+{
+    next_in_list(buf, nothing_read(0, end, false))
 }
 
 // The line behind the last one.
@@ -40,7 +47,9 @@ pub fn next_in_list(buf: &mut [u8], list: List) -> List
     ensures later { λ r. ⌜ list .line < r .line ⌝ }
 {
     let line = list.line + 1;
-    match next_line(STDIN_FILENO, buf, list.rest) {
+    let before = list.rest;
+    let end = before.end;
+    match next_line(STDIN_FILENO, buf, before) {
         Line::At(from, to, rest) => List {
             line,
             from,
@@ -57,17 +66,21 @@ pub fn next_in_list(buf: &mut [u8], list: List) -> List
             rest,
             failed: false,
         },
-        Line::Failed => nothing_read(NO_LINE, true),
-        Line::End => nothing_read(NO_LINE, false),
+        Line::Failed => nothing_read(NO_LINE, end, true),
+        Line::End => nothing_read(NO_LINE, end, false),
     }
 }
 
 // A list of which nothing is in the buffer, whatever its size.
-fn nothing_read(line: u64, failed: bool) -> List
+fn nothing_read(line: u64, end: u8, failed: bool) -> List
     ensures within { λ r. ⌜ ListWithin r 0 ⌝ }
     ensures line { λ r. ⌜ r .line ≡ line ⌝ }
 {
-    let rest = Lines { from: 0, to: 0 };
+    let rest = Lines {
+        from: 0,
+        to: 0,
+        end,
+    };
     List {
         line,
         from: 0,

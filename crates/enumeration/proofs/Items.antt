@@ -7,7 +7,6 @@ use mathlib.Core.List.{List}
 use Prim.Native.Nat.{ℕ, _≤_, _<_}
 use native.Mathlib.Decide.{decLt}
 use native.Mathlib.Omega.{arith}
-use borrow.Author.Tests.{lt-ltb, le-ltb}
 use lib.Dec.{ltb}
 use Rattle.index.specs.First.{first, any}
 use Rattle.index.proofs.Search.{true-false, first-from, first-inside, first-holds, first-passed, first-is, first-end, first-none, first-same}
@@ -17,7 +16,7 @@ use Rattle.rule.specs.declared.Judgement.the-variants.{Kept, Broken}
 use Rattle.definition.specs.Members.{is-name}
 use Rattle.definition.specs.declared.Span.{Span}
 use Rattle.sub_type.specs.Number.{end-in, is-outside}
-use Rattle.enumeration.specs.Item.{Spelling, item-number, has-label, has-number, first-alike, item-clause, label-again, number-misfit}
+use Rattle.enumeration.specs.Item.{Spelling, item-number, first-label, first-number, item-clause, label-again, number-misfit}
 use Rattle.enumeration.specs.Refusal.{item-rule}
 use Rattle.sub_type.specs.declared.Limits.{Limits}
 use Rattle.enumeration.proofs.Labels.{smaller, smaller-first, smaller-second}
@@ -71,19 +70,9 @@ module _ (a b : ℕ → Bool) (from to : ℕ) where
           none (λ (i : ℕ). a i || b i) ∙ sym (smaller-second _ _ (omega (arith, none a, none b)) ∙ none b)
       go (no h) = inside-first (omega arith)
 
-smaller-test : (a b i : ℕ) → ltb (smaller a b) i ≡ (ltb a i || ltb b i)
-smaller-test a b i = go (decLt a b) (decLt a i) (decLt b i)
-  where
-    go : Dec (a < b) → Dec (a < i) → Dec (b < i) → ltb (smaller a b) i ≡ (ltb a i || ltb b i)
-    go (yes h) (yes p) d = rw (smaller-first a b h) (simp (lt-ltb a i p))
-    go (yes h) (no p) d = rw (smaller-first a b h) (simp (le-ltb a i (omega arith), le-ltb b i (omega arith)))
-    go (no h) (yes p) d = rw (smaller-second a b (omega arith)) (simp (lt-ltb a i p, lt-ltb b i (omega arith)))
-    go (no h) (no p) (yes q) = rw (smaller-second a b (omega arith)) (simp (le-ltb a i (omega arith), lt-ltb b i q))
-    go (no h) (no p) (no q) = rw (smaller-second a b (omega arith)) (simp (le-ltb a i (omega arith), le-ltb b i (omega arith)))
-
 -- the clauses by their tests: the name, whether the label or the number is there again, whether the number is outside
 clauses : (name label number out : Bool)
-    → ltb 0 (cond name (cond (label || number) 1 (cond out 2 0)) 0) ≡ ((name && label) || (name && (out || number)))
+    → ltb 0 (cond name (cond label 1 (cond number 2 (cond out 3 0))) 0) ≡ ((name && label) || (name && (out || number)))
 clauses true true number out = refl
 clauses true false true true = refl
 clauses true false true false = refl
@@ -91,24 +80,20 @@ clauses true false false true = refl
 clauses true false false false = refl
 clauses false label number out = refl
 
-kind-broken : (name again out : Bool) → ltb 0 (cond name (cond again 1 (cond out 2 0)) 0) ≡ true
-    → _≡_ {A = ℕ} (cond name (cond again 1 (cond out 2 0)) 0) (cond again 1 2)
-kind-broken true true out e = refl
-kind-broken true false true e = refl
-kind-broken true false false e = absurd (let z : _≡_ {A = ℕ} 0 1 = cc in omega arith)
-kind-broken false again out e = absurd (let z : _≡_ {A = ℕ} 0 1 = cc in omega arith)
+kind-broken : (name label number out : Bool) → ltb 0 (cond name (cond label 1 (cond number 2 (cond out 3 0))) 0) ≡ true
+    → _≡_ {A = ℕ} (cond name (cond label 1 (cond number 2 (cond out 3 0))) 0) (cond label 1 (cond number 2 3))
+kind-broken true true number out e = refl
+kind-broken true false true out e = refl
+kind-broken true false false true e = refl
+kind-broken true false false false e = absurd (let z : _≡_ {A = ℕ} 0 1 = cc in omega arith)
+kind-broken false label number out e = absurd (let z : _≡_ {A = ℕ} 0 1 = cc in omega arith)
 
 module _ (x : Spelling) (cs vs : List ℕ) (limits : Limits) (from : ℕ) where
-  -- the first that is alike
-  pub alike-first : (i : ℕ) → first-alike x cs vs from i ≡ smaller (first (has-label x cs i) from i) (first (has-number cs vs i) from i)
-  alike-first i = first-either (has-label x cs i) (has-number cs vs i) from i
-
   -- an item breaks the rule where its label is there again, or its number is or is outside
   broken-either : (i : ℕ) → ltb 0 (item-clause x cs vs limits from i) ≡ (label-again x cs from i || number-misfit cs vs limits from i)
   unfolding item-clause label-again number-misfit any
   broken-either i =
-      rw (alike-first i, smaller-test (first (has-label x cs i) from i) (first (has-number cs vs i) from i) i)
-      (clauses (is-name cs i) (ltb (first (has-label x cs i) from i) i) (ltb (first (has-number cs vs i) from i) i) (is-outside limits (item-number cs vs i)))
+      clauses (is-name cs i) (ltb (first-label x cs from i) i) (ltb (first-number cs vs from i) i) (is-outside limits (item-number cs vs i))
 
   -- so the first that breaks it is the first of the two kinds
   pub broken-first : (to : ℕ)
@@ -127,9 +112,10 @@ module _ (x : Spelling) (cs vs : List ℕ) (limits : Limits) (from : ℕ) where
 
   -- which clause it breaks
   pub broken-clause : (i : ℕ) → ltb 0 (item-clause x cs vs limits from i) ≡ true
-      → item-clause x cs vs limits from i ≡ cond (ltb (first-alike x cs vs from i) i) 1 2
+      → item-clause x cs vs limits from i ≡ cond (ltb (first-label x cs from i) i) 1 (cond (ltb (first-number cs vs from i) i) 2 3)
   unfolding item-clause
-  broken-clause i e = kind-broken (is-name cs i) (ltb (first-alike x cs vs from i) i) (is-outside limits (item-number cs vs i)) e
+  broken-clause i e =
+      kind-broken (is-name cs i) (ltb (first-label x cs from i) i) (ltb (first-number cs vs from i) i) (is-outside limits (item-number cs vs i)) e
 
 -- ---- the judgement
 
@@ -147,15 +133,17 @@ module _
         never-broken (item-rule x cs vs limits s)
         (λ i l h. first-passed (λ (i : ℕ). ltb 0 (item-clause x cs vs limits (s .from) i)) (s .from) (end-in cs s) i l (omega (arith, is)))
 
-    pub items-broken : token < end-in cs s → (clause other : ℕ) → other ≡ first-alike x cs vs (s .from) token → clause ≡ cond (ltb other token) 1 2
+    pub items-broken : token < end-in cs s → (label number clause other : ℕ) → label ≡ first-label x cs (s .from) token
+        → number ≡ first-number cs vs (s .from) token → clause ≡ cond (ltb label token) 1 (cond (ltb number token) 2 3)
+        → other ≡ cond (ltb label token) label number
         → Broken (record { number = 18; clause = clause; token = record { 0 = token }; other = record { 0 = other } }) ≡ judge-one (item-rule x cs vs limits s)
     unfolding item-rule
-    items-broken h clause other alike kind =
+    items-broken h label number clause other same-label same-number kind against =
         broken-at (item-rule x cs vs limits s) _
         (record {
           index = token;
           inside = (token-from, h);
-          found = rw (broken-clause x cs vs limits (s .from) token breaks, kind, alike);
+          found = rw (broken-clause x cs vs limits (s .from) token breaks, kind, against, same-label, same-number);
           breaks = breaks;
           none-before = λ i l k. first-passed test (s .from) (end-in cs s) i l (omega (arith, is));
         })

@@ -38,17 +38,27 @@ has-label x cs i j = is-name cs j && same (spelled x j) (spelled x i)
 abbrev pub has-number : List ℕ → List ℕ → ℕ → ℕ → Bool
 has-number cs vs i j = is-name cs j && same-number (item-number cs vs j) (item-number cs vs i)
 
--- the first item that has the same label or the same number as that of token i; token i itself where there is none
-abbrev pub first-alike : Spelling → List ℕ → List ℕ → ℕ → ℕ → ℕ
-first-alike x cs vs from i = first (λ (j : ℕ). has-label x cs i j || has-number cs vs i j) from i
+-- the first item that has the label of that of token i; token i itself where none before it has
+abbrev pub first-label : Spelling → List ℕ → ℕ → ℕ → ℕ
+first-label x cs from i = first (has-label x cs i) from i
 
--- 18: 1 where token i is the label of an item that has the label or the number of an earlier one, 2 where its number is outside
--- the limits
+-- the first item that has the number of that of token i; token i itself where none before it has
+abbrev pub first-number : List ℕ → List ℕ → ℕ → ℕ → ℕ
+first-number cs vs from i = first (has-number cs vs i) from i
+
+-- 18, where token i is the label of an item: 1 where an earlier item has the label; else 2 where one has the number; else 3 where the
+-- number is outside the limits
 unfoldable pub item-clause : Spelling → List ℕ → List ℕ → Limits → ℕ → ℕ → ℕ
 item-clause x cs vs limits from i =
     if is-name cs i then
-    (if ltb (first-alike x cs vs from i) i then 1 else if is-outside limits (item-number cs vs i) then 2 else 0)
+    (if ltb (first-label x cs from i) i then 1 else if ltb (first-number cs vs from i) i then 2
+    else if is-outside limits (item-number cs vs i) then 3 else 0)
     else 0
+
+-- what it stands against: the first item that has the label, where one before it has; else the first that has the number, which is
+-- itself where none before it has
+abbrev pub item-other : Spelling → List ℕ → List ℕ → ℕ → ℕ → ℕ
+item-other x cs vs from i = if ltb (first-label x cs from i) i then first-label x cs from i else first-number cs vs from i
 
 -- token i is a label that an earlier item has
 unfoldable pub label-again : Spelling → List ℕ → ℕ → ℕ → Bool

@@ -9,7 +9,7 @@ ghost use Rattle.index.specs.Choice.{if_then_else_};
 ghost use Rattle.index.specs.First.{first, any};
 ghost use Rattle.rule.specs.Rule.{judge-one};
 ghost use Rattle.definition.specs.Members.{is-name};
-ghost use Rattle.enumeration.specs.Item.{spelling-in, has-label, has-number, first-alike, label-again, number-misfit};
+ghost use Rattle.enumeration.specs.Item.{spelling-in, has-label, has-number, first-label, first-number, label-again, number-misfit};
 ghost use Rattle.enumeration.specs.Tree.{label-turns, number-turns, Ready, Answered, Clear};
 ghost use Rattle.enumeration.specs.Refusal.{item-rule};
 use crate::Enumeration;
@@ -242,7 +242,7 @@ fn first_number_misfit(classes: &[u8], values: &[u32], limits: Limits, span: Spa
 
 // The first label with the spelling of the token at which the span ends; that token where there is none.
 fn first_same_label(text: &[u8], starts: &[u32], ends: &[u32], classes: &[u8], span: Span) -> usize
-    ensures { λ r. ⌜ r ≡ first (has-label (spelling-in (now (text .entry)) (now (starts .entry)) (now (ends .entry))) (now (classes .entry)) (span .to)) (span .from) (span .to) ⌝ }
+    ensures { λ r. ⌜ r ≡ first-label (spelling-in (now (text .entry)) (now (starts .entry)) (now (ends .entry))) (now (classes .entry)) (span .from) (span .to) ⌝ }
 {
     let to = span.to;
     let mut j = span.from;
@@ -258,7 +258,7 @@ fn first_same_label(text: &[u8], starts: &[u32], ends: &[u32], classes: &[u8], s
 // The first label of an item with the number of that at whose label the span ends; that label where there is none.
 fn first_same_number(classes: &[u8], values: &[u32], span: Span) -> usize
     requires { ⌜ span .to ≤ 65536 ⌝ }
-    ensures { λ r. ⌜ r ≡ first (has-number (now (classes .entry)) (now (values .entry)) (span .to)) (span .from) (span .to) ⌝ }
+    ensures { λ r. ⌜ r ≡ first-number (now (classes .entry)) (now (values .entry)) (span .from) (span .to) ⌝ }
 {
     let to = span.to;
     let mut j = span.from;
@@ -271,31 +271,28 @@ fn first_same_number(classes: &[u8], values: &[u32], span: Span) -> usize
     j
 }
 
-// The first item that has the same label or the same number as that of token i; token i itself where there is none.
-fn first_alike(
-    text: &[u8],
-    starts: &[u32],
-    ends: &[u32],
-    classes: &[u8],
-    values: &[u32],
-    span: Span,
-) -> usize
-    requires { ⌜ span .to ≤ 65536 ⌝ }
-    ensures { λ r. ⌜ r ≡ first-alike (spelling-in (now (text .entry)) (now (starts .entry)) (now (ends .entry))) (now (classes .entry)) (now (values .entry)) (span .from) (span .to) ⌝ }
+// The clause of refusal 18 that the item of a token breaks, by the first items that have its label and its number: one of them is
+// earlier, or else the number is outside.
+fn item_clause(label: usize, number: usize, token: usize) -> u8
+    ensures { λ r. ⌜ r ≡ (if ltb label token then 1 else if ltb number token then 2 else 3) ⌝ }
 {
-    let label = first_same_label(text, starts, ends, classes, span);
-    let number = first_same_number(classes, values, span);
-    lesser(label, number)
-}
-
-// The clause of refusal 18 that the item of a token breaks, by the first item that is alike: it is there again, or it is outside.
-fn item_clause(alike: usize, token: usize) -> u8
-    ensures { λ r. ⌜ r ≡ (if ltb alike token then 1 else 2) ⌝ }
-{
-    if alike < token {
+    if label < token {
         return 1;
     }
-    2
+    if number < token {
+        return 2;
+    }
+    3
+}
+
+// What it stands against, by the same two.
+fn item_other(label: usize, number: usize, token: usize) -> usize
+    ensures { λ r. ⌜ r ≡ (if ltb label token then label else number) ⌝ }
+{
+    if label < token {
+        return label;
+    }
+    number
 }
 
 // Refusal 18 on the items of an enumeration.
@@ -318,19 +315,14 @@ pub fn judge_items(
     let number = first_number_misfit(classes, values, limits, Span { from, to });
     let token = lesser(label, number);
     if token < to {
-        let other = first_alike(
-            text,
-            starts,
-            ends,
-            classes,
-            values,
-            Span { from, to: token },
-        );
+        let before = Span { from, to: token };
+        let same_label = first_same_label(text, starts, ends, classes, before);
+        let same_number = first_same_number(classes, values, before);
         return Judgement::Broken(Finding {
             number: 18,
-            clause: item_clause(other, token),
+            clause: item_clause(same_label, same_number, token),
             token: TokenIndex(token),
-            other: TokenIndex(other),
+            other: TokenIndex(item_other(same_label, same_number, token)),
         });
     }
     Judgement::Kept

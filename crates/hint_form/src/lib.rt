@@ -4,8 +4,16 @@ ghost use mathlib.Core.Path.{_≡_};
 ghost use mathlib.Core.Bool.{cond, not, _&&_};
 ghost use lib.Dec.{eqb};
 ghost use lib.ListN.{length};
-ghost use Rattle.hint_form.specs.Hint.{found, is-pieces, read-hint, digit, mark, mark-at, mark-size, number-at, allowed, longest, length-place, starred, base-of};
+ghost use Rattle.character.specs.Cut.{cut, stuck-at};
+ghost use Rattle.hint_form.specs.Hint.{found, is-pieces, piece-size, read-hint, digit, mark, mark-at, mark-size, number-at, allowed, longest, length-place, starred, base-of};
+
+mod fault;
+
 use buffer::byte_at;
+use character::Search;
+pub use fault::Fault;
+pub use fault::integer_fault;
+pub use fault::octets_fault;
 
 // One octet-format specification. A separator or terminator of 0 is none.
 pub struct Piece {
@@ -177,6 +185,20 @@ pub fn piece_at(hint: &[u8], i: usize) -> Found
     )
 }
 
+// The first place at which no piece starts, if there is one.
+fn first_stuck(hint: &[u8]) -> Search
+    ensures { λ r. ⌜ r ≡ stuck-at (cut (piece-size (now (hint .entry))) (length (now (hint .entry)))) ⌝ }
+{
+    let mut i = 0;
+    while i < hint.len() {
+        let Found::Whole(_, next) = piece_at(hint, i) else {
+            return Search::At(i);
+        };
+        i = next;
+    }
+    Search::Nowhere
+}
+
 // Whether a hint is 1 to 255 bytes that are pieces.
 pub fn is_hint(hint: &[u8]) -> bool
     ensures { λ r. ⌜ r ≡ is-pieces (read-hint (now (hint .entry))) ⌝ }
@@ -187,14 +209,10 @@ pub fn is_hint(hint: &[u8]) -> bool
     if 255 < hint.len() {
         return false;
     }
-    let mut i = 0;
-    while i < hint.len() {
-        let Found::Whole(_, next) = piece_at(hint, i) else {
-            return false;
-        };
-        i = next;
+    match first_stuck(hint) {
+        Search::At(_) => false,
+        Search::Nowhere => true,
     }
-    true
 }
 
 // The base that a format letter means.

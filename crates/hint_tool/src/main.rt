@@ -1,8 +1,10 @@
 // What a value looks like under a DISPLAY-HINT.
 //
-// hint_tool octets HINT HEX and hint_tool integer HINT NUMBER print one line: `printed` and the text as it is, or
-// `refused`, the refusal's number and its place, tabs between. Without arguments it reads the same words from standard
-// input, a case a line, with tabs between them.
+// hint_tool octets HINT HEX and hint_tool integer HINT NUMBER print one line: `printed` and the text, or `refused`, the
+// refusal's number and its place, tabs between; a bad hint is explained on standard error. Without arguments it reads the same
+// words from standard input, a case a line, with tabs between them, and answers each in one line.
+mod reason;
+
 use command::List;
 use command::NO_LINE;
 use hint::Answer;
@@ -15,6 +17,9 @@ ghost use Prim.Native.Nat.{_≤_};
 ghost use lib.ListN.{length};
 ghost use Rattle.command.specs.Within.{ListWithin};
 ghost use Rattle.hint.specs.Answer.{length-of};
+
+// The refusal of a hint that is none.
+const BAD_HINT: u64 = 32;
 
 fn main() {
     let mut space = io::large_buffer();
@@ -81,62 +86,80 @@ fn answer_case(case: &[u8], separator: u8, line: u64, out: Output) -> Output {
     complain(out, line, kind, b"is neither octets nor integer")
 }
 
-// Prints octets, which are written in hexadecimal, by a hint. A blank or a colon may stand between two pairs of digits.
+// Prints octets, which are written in hexadecimal as tools print them, by a hint.
 fn answer_octets(hint_word: &[u8], hex: &[u8], line: u64, out: Output) -> Output {
-    let mut digits = io::large_buffer();
-    if digits.len() < hex.len() {
-        return complain_long(out, line);
-    }
-    let n = words::join_pairs(hex, &mut digits);
-    answer_digits(hint_word, hex, &digits[0..n], line, out)
-}
-
-// The same of the digits alone, which `hex` holds.
-fn answer_digits(hint_word: &[u8], hex: &[u8], digits: &[u8], line: u64, out: Output) -> Output {
     let mut space = io::large_buffer();
-    let Octets::Are(n) = words::read_hex(digits, &mut space) else {
+    let Octets::Are(n) = words::read_octets(hex, &mut space) else {
         return complain(
             out,
             line,
             hex,
-            b"is not pairs of hex digits, each with a blank or a colon behind it or none",
+            b"is no octets in hex digits, as mib help hint has them",
         );
     };
-    print_octets(hint_word, &space[..n], out)
+    print_octets(hint_word, &space[..n], line, out)
 }
 
-fn print_octets(hint_word: &[u8], octets: &[u8], out: Output) -> Output {
+fn print_octets(hint_word: &[u8], octets: &[u8], line: u64, out: Output) -> Output {
     let mut text = io::buffer();
     let answer = hint::octets(hint_word, octets, &mut text);
-    print_answer(answer, &text, out)
+    explain_octets(answer, hint_word, line);
+    print_answer(answer, &text, line, out)
+}
+
+// Whether what is wrong with a hint is said: not in a list, where thousands of cases may have the same hint.
+fn is_explained(answer: Answer, line: u64) -> bool {
+    line == 0 && answer.number() == BAD_HINT
+}
+
+// Says what is wrong with a hint for octets, if it is.
+fn explain_octets(answer: Answer, hint_word: &[u8], line: u64) {
+    if is_explained(answer, line) {
+        reason::explain(hint_word, hint_form::octets_fault(hint_word));
+    }
+}
+
+// The same of a hint for integers.
+fn explain_integer(answer: Answer, hint_word: &[u8], line: u64) {
+    if is_explained(answer, line) {
+        reason::explain(hint_word, hint_form::integer_fault(hint_word));
+    }
 }
 
 // Prints an integer by a hint. One of more than 18 digits is out of range whatever it is, and goes as one that is.
 fn answer_integer(hint_word: &[u8], number: &[u8], line: u64, out: Output) -> Output {
     match words::read_number(number) {
-        Number::Is(value) => print_integer(hint_word, value, out),
-        Number::Beyond(_) => print_integer(hint_word, 4294967296, out),
+        Number::Is(value) => print_integer(hint_word, value, line, out),
+        Number::Beyond(_) => print_integer(hint_word, 4294967296, line, out),
         Number::IsNot => complain(out, line, number, b"is no number"),
     }
 }
 
-fn print_integer(hint_word: &[u8], value: i64, out: Output) -> Output {
+fn print_integer(hint_word: &[u8], value: i64, line: u64, out: Output) -> Output {
     let mut text = io::buffer();
     let answer = hint::integer(hint_word, value, &mut text);
-    print_answer(answer, &text, out)
+    explain_integer(answer, hint_word, line);
+    print_answer(answer, &text, line, out)
 }
 
 // Prints the text that was printed, or the refusal.
-fn print_answer(answer: Answer, text: &[u8], out: Output) -> Output
+fn print_answer(answer: Answer, text: &[u8], line: u64, out: Output) -> Output
     requires { ⌜ length-of answer ≤ length (now text) ⌝ }
 {
     let n = answer.length();
     if answer.number() == 0 {
-        let out = print(out, b"printed\t");
-        let out = print(out, &text[0..n]);
-        return output::end_line(out);
+        return print_text(&text[0..n], line, out);
     }
     print_refusal(answer, output::refuse(out))
+}
+
+// Prints a text: in a list so that it is one line, whatever its bytes are.
+fn print_text(text: &[u8], line: u64, out: Output) -> Output {
+    let out = print(out, b"printed\t");
+    if line == 0 {
+        return output::end_line(output::show(out, text));
+    }
+    output::end_line(output::show_in_list(out, text))
 }
 
 fn print_refusal(answer: Answer, out: Output) -> Output {

@@ -46,14 +46,18 @@ oid-in numbers d = take (d .count) (drop (d .start .0) numbers)
 abbrev pub oid-of : Module → ℕ → List ℕ
 oid-of m k = oid-in (m .numbers) (at m k)
 
--- a rule over the definitions in text order, each placed at its name, with the clause and the definition that it stands against
+-- the token of the name of definition k
+abbrev pub name-at : List Definition → ℕ → ℕ
+name-at ds k = entry ds k .name .0
+
+-- a rule over the definitions in text order, each placed at its name, with the clause and the token that it stands against
 abbrev pub rule-of-definitions : ℕ → List Definition → (ℕ → Bool) → (ℕ → ℕ) → (ℕ → ℕ) → Rule
 rule-of-definitions number ds breach clause other = record {
   number = number;
   from = 0;
   to = length ds;
   breach = breach;
-  place = λ k. entry ds k .name .0;
+  place = name-at ds;
   clause = clause;
-  other = λ k. entry ds (other k) .name .0;
+  other = other;
 }

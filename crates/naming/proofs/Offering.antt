@@ -16,7 +16,7 @@ use Rattle.scope.specs.Token.{classes-of, spelled}
 use Rattle.scope.specs.Import.{is-import, offered}
 use Rattle.scope.specs.Held.{import-word}
 use Rattle.naming.specs.Rules.{not-offered}
-use Rattle.naming.specs.Told.{plain, offer-at}
+use Rattle.naming.specs.Told.{offer-at, missing}
 use Rattle.naming.specs.declared.offer.Offer.the-variants.{Word, Missing}
 
 -- what holds of the opposite of a test
@@ -69,6 +69,6 @@ module _ (ms : List Meaning) (i : ℕ) where
     unfolding not-offered
     offer-next w e = judging-next g h {test = false} (sym (word-kept w e)) refl
 
-    pub offer-judged : Missing ≡ offer-at ms i → Broken (plain 10 i) ≡ judge-one (not-offered ms)
+    pub offer-judged : Missing ≡ offer-at ms i → Broken (missing ms i) ≡ judge-one (not-offered ms)
     unfolding not-offered
     offer-judged e = judging-broken g h {test = true} (sym (missing-broken e)) refl _ refl

@@ -5,15 +5,16 @@ use mathlib.Core.List.{List, [], _∷_}
 use Prim.Native.Nat.{ℕ}
 use lib.Dec.{eqb}
 use lib.ListN.{length, getD}
+use Rattle.index.specs.Choice.{if_then_else_}
 use Rattle.index.specs.First.{first, any}
 use Rattle.rule.specs.Rule.{Rule, plain-rule}
 use Rattle.lexicon.specs.Word.{same}
 use Rattle.token.specs.Token.{Meaning}
-use Rattle.symbol.specs.Symbol.{iso-name}
+use Rattle.symbol.specs.Symbol.{iso-name, is-module}
 use Rattle.definition.specs.Landmark.{definitions}
 use Rattle.module_table.specs.Module.{most-definitions}
 use Rattle.scope.specs.Token.{classes-of, spelled}
-use Rattle.scope.specs.Import.{imports-end, is-import, offered}
+use Rattle.scope.specs.Import.{imports-end, is-import, source, offered}
 use Rattle.scope.specs.Lead.{introduces, leads-to}
 use Rattle.outline.specs.Outline.{outline}
 use Rattle.name_kind.specs.Need.{need-at}
@@ -49,10 +50,21 @@ introduced-again ms = record {
   other = λ i. first-name ms i;
 }
 
--- 10: a symbol that the module named doesn't offer
+-- how the module named at token i doesn't offer a symbol: 1 where it is built in, 2 where it isn't, and offers none
+abbrev pub offer-clause : List Meaning → ℕ → ℕ
+offer-clause ms i = if is-module (spelled ms i) then 1 else 2
+
+-- 10: a symbol that the module named doesn't offer; against the name of that module
 unfoldable pub not-offered : List Meaning → Rule
-not-offered ms =
-    plain-rule 10 0 (imports-end (classes-of ms)) (λ i. is-import (classes-of ms) i && not (offered ms i)) (λ i. i)
+not-offered ms = record {
+  number = 10;
+  from = 0;
+  to = imports-end (classes-of ms);
+  breach = λ i. is-import (classes-of ms) i && not (offered ms i);
+  place = λ i. i;
+  clause = λ i. offer-clause ms (source (classes-of ms) i);
+  other = λ i. source (classes-of ms) i;
+}
 
 -- token i is used as a name, and its name isn't known in the kind needed
 unfoldable pub is-unknown : List Meaning → ℕ → Bool

@@ -18,9 +18,9 @@ use Rattle.symbol.specs.Symbol.{iso-name}
 use Rattle.module_table.specs.Definition.{width, definitions-in}
 use Rattle.outline.specs.Outline.{outline}
 use Rattle.scope.specs.Token.{classes-of, spelled}
-use Rattle.scope.specs.Import.{imports-end, is-import, offered}
+use Rattle.scope.specs.Import.{imports-end, is-import, source, offered}
 use Rattle.scope.specs.Held.{import-word}
-use Rattle.naming.specs.Rules.{introduces-name}
+use Rattle.naming.specs.Rules.{introduces-name, offer-clause}
 use Rattle.naming.specs.Values.{value-at, values-of}
 use Rattle.naming.specs.declared.Names.{Names}
 use Rattle.naming.specs.declared.Names.the-variants.{Named, Broken}
@@ -39,6 +39,15 @@ Introduces ms i (Again j) =
 -- token i of the imports: its value, or that its module doesn't offer it
 abbrev pub offer-at : List Meaning → ℕ → Offer
 offer-at ms i = cond (is-import (classes-of ms) i && not (offered ms i)) Missing (Word (import-word ms i))
+
+-- what there is to say of token i, an import that its module doesn't offer
+abbrev pub missing : List Meaning → ℕ → Finding
+missing ms i = record {
+  number = 10;
+  clause = offer-clause ms (source (classes-of ms) i);
+  token = record { 0 = i };
+  other = record { 0 = source (classes-of ms) i };
+}
 
 -- where rule 10 is kept, the values of the imports are those of the symbols
 abbrev pub ImportsFilled : List Meaning → Judgement → List ℕ → Type 0

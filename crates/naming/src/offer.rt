@@ -6,17 +6,19 @@ ghost use Rattle.rule.specs.Rule.{judge-one};
 ghost use Rattle.token.specs.Cut.{meanings-in};
 ghost use Rattle.scope.specs.Token.{TokensHeld};
 ghost use Rattle.scope.specs.Import.{imports-end};
-ghost use Rattle.naming.specs.Rules.{not-offered};
-ghost use Rattle.naming.specs.Told.{offer-at, ImportsFilled};
-use crate::plain_finding;
+ghost use Rattle.naming.specs.Rules.{offer-clause, not-offered};
+ghost use Rattle.naming.specs.Told.{offer-at, missing, ImportsFilled};
 use index::TokenIndex;
 use module_table::Lead;
 use module_table::word_for;
+use rule::Finding;
 use rule::Judgement;
 use scope::imports_end;
 use scope::is_import;
 use scope::is_offered;
 use scope::name_at;
+use scope::source;
+use symbol::part::names_module;
 use symbol::part::symbol_named;
 
 // What a token of the imports is worth: its value, or that its module doesn't offer it.
@@ -50,6 +52,36 @@ fn offer_at(
     Offer::Word(word_for(Lead::Import(k)))
 }
 
+// The clause of refusal 10, by the token that names the module: whether that one is built in.
+fn offer_clause(text: &[u8], classes: &[u8], starts: &[u32], ends: &[u32], at: usize) -> u8
+    requires { ⌜ TokensHeld (now text) (now classes) (now starts) (now ends) ⌝ }
+    ensures { λ r. ⌜ r ≡ offer-clause (meanings-in (now (text .entry))) at ⌝ }
+{
+    if classes.len() <= at {
+        return 2;
+    }
+    let name = name_at(classes, starts, ends, TokenIndex(at));
+    if names_module(text, name.start, name.end) {
+        return 1;
+    }
+    2
+}
+
+// What there is to say of token i, an import that its module doesn't offer.
+fn missing_finding(text: &[u8], classes: &[u8], starts: &[u32], ends: &[u32], i: usize) -> Finding
+    requires tokens { ⌜ TokensHeld (now text) (now classes) (now starts) (now ends) ⌝ }
+    requires index { ⌜ i < length (now classes) ⌝ }
+    ensures { λ r. ⌜ r ≡ missing (meanings-in (now (text .entry))) i ⌝ }
+{
+    let module = source(classes, i);
+    Finding {
+        number: 10,
+        clause: offer_clause(text, classes, starts, ends, module),
+        token: TokenIndex(i),
+        other: TokenIndex(module),
+    }
+}
+
 // Refusal 10, at the first import that its module doesn't offer. Where it is kept, the imports have their values.
 pub fn judge_offers(
     text: &[u8],
@@ -69,7 +101,7 @@ pub fn judge_offers(
     while i < end {
         let offer = offer_at(text, classes, starts, ends, end, i);
         let Offer::Word(word) = offer else {
-            return Judgement::Broken(plain_finding(10, i));
+            return Judgement::Broken(missing_finding(text, classes, starts, ends, i));
         };
         values[i] = word;
         i += 1;

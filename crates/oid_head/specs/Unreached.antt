@@ -6,13 +6,13 @@ use mathlib.Core.List.{List}
 use Prim.Native.Nat.{ℕ, _<_}
 use Rattle.rule.specs.Rule.{Rule, finding}
 use Rattle.rule.specs.declared.Finding.{Finding}
-use Rattle.module_table.specs.Module.{Module, at, count-of, rule-of-definitions}
+use Rattle.module_table.specs.Module.{Module, at, count-of, name-at, rule-of-definitions}
 use Rattle.module_table.specs.declared.Definition.{Definition}
 use Rattle.oid_head.specs.Oid.{has-value, reaches}
 
 -- a rule of one clause that stands against nothing else
 abbrev pub plain-over : ℕ → List Definition → (ℕ → Bool) → Rule
-plain-over number ds breach = rule-of-definitions number ds breach (λ k. 0) (λ k. k)
+plain-over number ds breach = rule-of-definitions number ds breach (λ k. 0) (name-at ds)
 
 -- what there is to say where definition k breaks such a rule
 abbrev pub finding-at : ℕ → List Definition → ℕ → Finding

@@ -9,7 +9,7 @@ use Rattle.index.proofs.Search.{true-false}
 use Rattle.lexicon.specs.Word.{same}
 use Rattle.lexicon.proofs.Words.{same-equal}
 use Rattle.module_table.specs.Definition.{entry}
-use Rattle.module_table.specs.Module.{oid-in, rule-of-definitions}
+use Rattle.module_table.specs.Module.{oid-in, name-at, rule-of-definitions}
 use Rattle.module_table.specs.declared.Definition.{Definition}
 use Rattle.oid_holder.specs.Holder.{is-holder, holds-oid, held-twice}
 
@@ -39,4 +39,4 @@ held-alike ds a b same-oids = λ i.
     rule-of-definitions 15 ds
     (λ k. is-holder (entry ds k) && any (λ j. is-holder (entry ds j) && same (same-oids j i) (same-oids k i)) 0 k)
     (λ k. 0)
-    (λ k. first (λ j. is-holder (entry ds j) && same (same-oids j i) (same-oids k i)) 0 k)
+    (λ k. name-at ds (first (λ j. is-holder (entry ds j) && same (same-oids j i) (same-oids k i)) 0 k))

@@ -11,7 +11,7 @@ use Rattle.rule.specs.Rule.{Rule}
 use Rattle.lexicon.specs.Word.{same}
 use Rattle.definition.specs.Landmark.{identity, object-identity, object, notification}
 use Rattle.module_table.specs.Definition.{entry}
-use Rattle.module_table.specs.Module.{oid-in, rule-of-definitions}
+use Rattle.module_table.specs.Module.{oid-in, name-at, rule-of-definitions}
 use Rattle.module_table.specs.declared.Definition.{Definition}
 
 -- a definition that holds its OID: kinds 1, 3, 4 and 7
@@ -30,7 +30,10 @@ earlier-holder ds numbers k = first (holds-oid ds numbers k) 0 k
 -- 15: an OID already held by an earlier definition, both of these kinds
 unfoldable pub held-twice : List Definition → List ℕ → Rule
 held-twice ds numbers =
-    rule-of-definitions 15 ds (λ k. is-holder (entry ds k) && any (holds-oid ds numbers k) 0 k) (λ k. 0) (earlier-holder ds numbers)
+    rule-of-definitions 15 ds
+    (λ k. is-holder (entry ds k) && any (holds-oid ds numbers k) 0 k)
+    (λ k. 0)
+    (λ k. name-at ds (earlier-holder ds numbers k))
 
 -- the key of the OID of definition j, by which definitions are chained
 abbrev pub key-at : List Definition → List ℕ → ℕ → ℕ

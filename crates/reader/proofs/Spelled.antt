@@ -2,7 +2,7 @@
 -- judged alike.
 -- Assumes nothing.
 use mathlib.Core.Path.{_≡_, refl, sym, ap, _∙_}
-use mathlib.Core.Bool.{Bool, true, cond, _||_}
+use mathlib.Core.Bool.{Bool, true, cond}
 use mathlib.Core.List.{List, [], _∷_}
 use Prim.Native.Nat.{ℕ, zero, suc, _-_}
 use lib.Dec.{ltb}
@@ -18,7 +18,7 @@ use Rattle.definition.specs.declared.Span.{Span}
 use Rattle.module_table.specs.declared.Definition.{Definition}
 use Rattle.module_table.specs.Definition.{entry}
 use Rattle.sub_type.specs.declared.Limits.{Limits}
-use Rattle.enumeration.specs.Item.{has-label, has-number, first-alike, item-clause}
+use Rattle.enumeration.specs.Item.{has-label, first-label, item-clause, item-other}
 use Rattle.enumeration.specs.Refusal.{item-rule}
 use Rattle.syntax_check.specs.Refusal.{item-test-rule, items-of, item-rule-of, rules-over, range-rule-of, indirect-convention}
 use Rattle.syntax_check.specs.declared.Demand.the-variants.{Order}
@@ -31,15 +31,17 @@ module _ (cs vs : List ℕ) (x y : ℕ → List ℕ) (agree : (i : ℕ) → is-n
     label-same : (j : ℕ) → has-label x cs i j ≡ has-label y cs i j
     label-same j = answers (is-name cs j) (λ e. rw (agree j e, agree i name)) (λ e. rw e)
 
-    alike-same : (from : ℕ) → first-alike x cs vs from i ≡ first-alike y cs vs from i
-    alike-same from =
-        ap (λ (test : ℕ → Bool). first test from i) (λ t. λ j. label-same j t || has-number cs vs i j)
+    first-same : (from : ℕ) → first-label x cs from i ≡ first-label y cs from i
+    first-same from = ap (λ (test : ℕ → Bool). first test from i) (λ t. λ j. label-same j t)
+
+    other-same : (from : ℕ) → item-other x cs vs from i ≡ item-other y cs vs from i
+    other-same from = rw (first-same from)
 
   clause-same : (limits : Limits) (from i : ℕ) → item-clause x cs vs limits from i ≡ item-clause y cs vs limits from i
   unfolding item-clause
   clause-same limits from i =
       answers (is-name cs i)
-      (λ e. rw (alike-same i e from))
+      (λ e. rw (first-same i e from))
       (λ e. rw e)
 
   -- where an item breaks the rule, it is a name
@@ -58,7 +60,7 @@ module _ (cs vs : List ℕ) (x y : ℕ → List ℕ) (agree : (i : ℕ) → is-n
     breach-same = λ t. λ i. ltb 0 (clause-same limits (s .from) i t)
 
     abbrev says : (ℕ → List ℕ) → ℕ → Judgement
-    says z k = Broken (record { number = 18; clause = item-clause z cs vs limits (s .from) k; token = record { 0 = k }; other = record { 0 = first-alike z cs vs (s .from) k } })
+    says z k = Broken (record { number = 18; clause = item-clause z cs vs limits (s .from) k; token = record { 0 = k }; other = record { 0 = item-other z cs vs (s .from) k } })
 
     -- what is said of a label is the same
     says-same : (k : ℕ) → is-name cs k ≡ true → says x k ≡ says y k
@@ -66,7 +68,7 @@ module _ (cs vs : List ℕ) (x y : ℕ → List ℕ) (agree : (i : ℕ) → is-n
       number = 18;
       clause = clause-same limits (s .from) k t;
       token = record { 0 = k };
-      other = record { 0 = alike-same k name (s .from) t };
+      other = record { 0 = other-same k name (s .from) t };
     })
 
     item-judged : judge-one (rule-by x) ≡ judge-one (rule-by y)

@@ -7,7 +7,7 @@ ghost use Rattle.symbol.specs.Symbol.{symbol-of};
 ghost use Rattle.definition.specs.Landmark.{class-at};
 ghost use Rattle.definition.specs.Fields.{find};
 ghost use Rattle.scope.specs.Token.{spelled, TokensHeld};
-ghost use Rattle.scope.specs.Import.{imports-end, can-be-imported, is-symbol, is-import, offered};
+ghost use Rattle.scope.specs.Import.{imports-end, can-be-imported, is-symbol, is-import, source, offered};
 use crate::spelling::name_at;
 use definition::is_lower;
 use definition::is_macro;
@@ -84,7 +84,16 @@ pub fn is_import(classes: &[u8], end: usize, i: usize) -> bool
     is_symbol(classes, i)
 }
 
-// Whether the module named offers the symbol at token i, which is symbol k. The module's name stands behind the next FROM.
+// The module that the symbol at token i is imported from: its name stands behind the next FROM.
+pub fn source(classes: &[u8], i: usize) -> usize
+    requires few { ⌜ length (now classes) ≤ 65536 ⌝ }
+    requires index { ⌜ i ≤ length (now classes) ⌝ }
+    ensures { λ r. ⌜ r ≡ source (now (classes .entry)) i ⌝ }
+{
+    find(classes, terminal::FROM, i) + 1
+}
+
+// Whether the module named offers the symbol at token i, which is symbol k.
 pub fn is_offered(
     text: &[u8],
     classes: &[u8],
@@ -101,10 +110,10 @@ pub fn is_offered(
     if SYMBOLS <= k {
         return false;
     }
-    let source = find(classes, terminal::FROM, i.0) + 1;
-    if classes.len() <= source {
+    let module = source(classes, i.0);
+    if classes.len() <= module {
         return false;
     }
-    let module = name_at(classes, starts, ends, TokenIndex(source));
-    names_source(text, module.start, module.end, k)
+    let name = name_at(classes, starts, ends, TokenIndex(module));
+    names_source(text, name.start, name.end, k)
 }

@@ -7,6 +7,7 @@ mod spelling;
 pub use import::imports_end;
 pub use import::is_import;
 pub use import::is_offered;
+pub use import::source;
 use index::RecordIndex;
 pub use lookup::leads_to;
 pub use name_table::NAME_WORDS;

@@ -13,7 +13,7 @@ use Rattle.index.specs.First.{any}
 use Rattle.index.proofs.Search.{true-false, any-at, any-none, any-first, any-some, first-holds, first-from}
 use Rattle.index.proofs.Collected.{filled-more}
 use Rattle.module_table.specs.declared.Definition.{Definition}
-use Rattle.sequence_list.specs.Named.{columns-of, names-object, repeats, is-stranger, names-stranger}
+use Rattle.sequence_list.specs.Named.{columns-of, names-object, repeats, is-stranger, names-stranger, first-repeated, first-stranger}
 use Rattle.sequence_list.specs.Held.{places, first-named, names-some, parent-named, verdict-of, VerdictTable, Stamped, Answered}
 use Rattle.object_tree.proofs.Parents.{both}
 use Rattle.sequence_list.proofs.Asking.{none-asked-of}
@@ -62,6 +62,23 @@ module _ (ds : List Definition) (values : List ℕ) (type : ℕ) where
       go false false true = refl
       go false false false = refl
 
+  -- what the first tokens at fault say
+  pub repeats-found : first-repeated ds values type < columns-of ds type .to → repeats ds values type ≡ true
+  unfolding repeats any
+  repeats-found h = lt-ltb _ _ h
+
+  pub repeats-none : columns-of ds type .to ≤ first-repeated ds values type → repeats ds values type ≡ false
+  unfolding repeats any
+  repeats-none h = le-ltb _ _ h
+
+  pub stranger-found : (parent : ℕ) → first-stranger ds values type parent < columns-of ds type .to → names-stranger ds values type parent ≡ true
+  unfolding names-stranger any
+  stranger-found parent h = lt-ltb _ _ h
+
+  pub stranger-none : (parent : ℕ) → columns-of ds type .to ≤ first-stranger ds values type parent → names-stranger ds values type parent ≡ false
+  unfolding names-stranger any
+  stranger-none parent h = le-ltb _ _ h
+
   -- the verdict, test by test
   pub verdict-twice : repeats ds values type ≡ true → 3 ≡ verdict-of ds values type
   unfolding verdict-of
@@ -98,6 +115,10 @@ none-stamped = record { long = length-replicate {A = ℕ} places 0; below = λ n
     go : (number : ℕ) → Dec (number < places) → getD (replicate places 0) number 0 < 1
     go number (yes h) = omega (arith, getD-replicate {A = ℕ} places number 0 0 h)
     go number (no h) = omega (arith, List·getD-eq-default {A = ℕ} (replicate places 0) 0 {n = number} (omega (arith, length-replicate {A = ℕ} places 0)))
+
+-- what does not reach a stamp reaches no later one
+pub stamped-more : {marks : List ℕ} {a b : ℕ} → Stamped marks a → a ≤ b → Stamped marks b
+stamped-more s h = record { long = s .long; below = λ number. omega (arith, s .below number) }
 
 module _ (ds : List Definition) (values : List ℕ) (verdicts parents : List ℕ) where
   pub noting-start : length verdicts ≡ places → length parents ≡ places → Noting ds values verdicts parents (replicate places 0) 0

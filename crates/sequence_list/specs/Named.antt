@@ -5,7 +5,7 @@ use mathlib.Core.Bool.{Bool, cond, not, _&&_}
 use mathlib.Core.List.{List}
 use Prim.Native.Nat.{ℕ, suc}
 use lib.Dec.{ltb, eqb}
-use Rattle.index.specs.First.{any}
+use Rattle.index.specs.First.{first, any}
 use Rattle.definition.specs.declared.Span.{Span}
 use Rattle.module_table.specs.Module.{most-definitions}
 use Rattle.module_table.specs.declared.Definition.{Definition}
@@ -45,6 +45,11 @@ unfoldable pub repeats : List Definition → List ℕ → ℕ → Bool
 repeats ds values type =
     any (is-repeated ds values (columns-of ds type .from)) (columns-of ds type .from) (columns-of ds type .to)
 
+-- the first token of its list that names such an object; the end of the list where none does
+abbrev pub first-repeated : List Definition → List ℕ → ℕ → ℕ
+first-repeated ds values type =
+    first (is-repeated ds values (columns-of ds type .from)) (columns-of ds type .from) (columns-of ds type .to)
+
 -- token i names an object that has another parent than the definition of this number
 unfoldable pub is-stranger : List Definition → List ℕ → ℕ → ℕ → Bool
 is-stranger ds values parent i =
@@ -53,3 +58,7 @@ is-stranger ds values parent i =
 -- the SEQUENCE type names one
 unfoldable pub names-stranger : List Definition → List ℕ → ℕ → ℕ → Bool
 names-stranger ds values type parent = any (is-stranger ds values parent) (columns-of ds type .from) (columns-of ds type .to)
+
+-- the first token of its list that names one; the end of the list where none does
+abbrev pub first-stranger : List Definition → List ℕ → ℕ → ℕ → ℕ
+first-stranger ds values type parent = first (is-stranger ds values parent) (columns-of ds type .from) (columns-of ds type .to)

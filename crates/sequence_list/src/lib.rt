@@ -13,6 +13,8 @@ pub use verdict::ALIKE;
 pub use verdict::MIXED;
 pub use verdict::REPEATING;
 pub use verdict::collect_verdicts;
+pub use verdict::first_repeated;
+pub use verdict::first_stranger;
 
 // How many entries such an array has: one for each number of a definition, counted from 1, and one for 0.
 pub const PLACES: usize = MOST_DEFINITIONS + 1;

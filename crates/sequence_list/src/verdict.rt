@@ -3,7 +3,7 @@ ghost use mathlib.Core.Path.{_≡_};
 ghost use Prim.Native.Nat.{_+_, _<_};
 ghost use lib.ListN.{length};
 ghost use Rattle.module_table.specs.Definition.{definitions-in};
-ghost use Rattle.sequence_list.specs.Named.{repeats, is-stranger, names-stranger};
+ghost use Rattle.sequence_list.specs.Named.{is-stranger, first-repeated, first-stranger};
 ghost use Rattle.sequence_list.specs.Held.{places, first-named, parent-named, verdict-of, VerdictTable, Stamped, Answered, Marked};
 use crate::PLACES;
 use crate::name::columns_of;
@@ -31,17 +31,17 @@ fn mark(marks: &mut [usize; PLACES], number: usize, stamp: usize) -> bool
     (number != 0) & (before == stamp)
 }
 
-// Whether the SEQUENCE type of a number names an object twice. The objects of its list are marked with a stamp of its own, over all marks
-// before.
-fn repeats(
+// The first token of the list of the SEQUENCE type of a number that names an object which one before it names too; the end of the list
+// where none does. The objects of the list are marked with a stamp of its own, over all marks before.
+fn search_repeated(
     values: &[u32],
     definitions: &[usize],
     number: usize,
     marks: &mut [usize; PLACES],
-) -> bool
+) -> usize
     requires stamped { ⌜ Stamped (now marks) (number + 1) ⌝ }
     requires inside { ⌜ number < places ⌝ }
-    ensures { λ r. ⌜ Answered r (repeats (definitions-in (now (definitions .entry))) (now (values .entry)) number) (now (marks .exit)) (number + 1 + 1) ⌝ }
+    ensures { λ r. ⌜ Answered r (first-repeated (definitions-in (now (definitions .entry))) (now (values .entry)) number) (now (marks .exit)) (number + 1 + 1) ⌝ }
 {
     let list = columns_of(definitions, number);
     let stamp = number + 1;
@@ -49,11 +49,20 @@ fn repeats(
     let mut i = list.from;
     while i < to {
         if mark(marks, named_at(values, definitions, TokenIndex(i)), stamp) {
-            return true;
+            return i;
         }
         i += 1;
     }
-    false
+    i
+}
+
+// That token, by marks of its own.
+pub fn first_repeated(values: &[u32], definitions: &[usize], number: usize) -> usize
+    requires { ⌜ number < places ⌝ }
+    ensures { λ r. ⌜ r ≡ first-repeated (definitions-in (now (definitions .entry))) (now (values .entry)) number ⌝ }
+{
+    let mut marks = [0usize; PLACES];
+    search_repeated(values, definitions, number, &mut marks)
 }
 
 // The first token of the type's list that names an object; its end where none does.
@@ -90,20 +99,20 @@ fn is_stranger(values: &[u32], definitions: &[usize], parent: usize, i: TokenInd
     (named != 0) & (d.parent != parent)
 }
 
-// Whether the type names an object of another parent.
-fn names_stranger(values: &[u32], definitions: &[usize], number: usize, parent: usize) -> bool
-    ensures { λ r. ⌜ r ≡ names-stranger (definitions-in (now (definitions .entry))) (now (values .entry)) number parent ⌝ }
+// The first token of the type's list that names an object of another parent; its end where none does.
+pub fn first_stranger(values: &[u32], definitions: &[usize], number: usize, parent: usize) -> usize
+    ensures { λ r. ⌜ r ≡ first-stranger (definitions-in (now (definitions .entry))) (now (values .entry)) number parent ⌝ }
 {
     let list = columns_of(definitions, number);
     let to = list.to;
     let mut i = list.from;
     while i < to {
         if is_stranger(values, definitions, parent, TokenIndex(i)) {
-            return true;
+            return i;
         }
         i += 1;
     }
-    false
+    i
 }
 
 // What is noted of the list of the SEQUENCE type of a number.
@@ -117,19 +126,15 @@ fn verdict_of(
     requires inside { ⌜ number < places ⌝ }
     ensures { λ r. ⌜ Answered r (verdict-of (definitions-in (now (definitions .entry))) (now (values .entry)) number) (now (marks .exit)) (number + 1 + 1) ⌝ }
 {
-    if repeats(values, definitions, number, marks) {
+    let list = columns_of(definitions, number);
+    if search_repeated(values, definitions, number, marks) < list.to {
         return REPEATING;
     }
-    let list = columns_of(definitions, number);
     if list.to <= first_named(values, definitions, number) {
         return NAMELESS;
     }
-    if names_stranger(
-        values,
-        definitions,
-        number,
-        parent_named(values, definitions, number),
-    ) {
+    let parent = parent_named(values, definitions, number);
+    if first_stranger(values, definitions, number, parent) < list.to {
         return MIXED;
     }
     ALIKE

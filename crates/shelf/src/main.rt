@@ -1,7 +1,8 @@
 // Reads many modules in one go.
 //
 // shelf FILE... prints a line for each file: its name, `accepted` and the count of definitions; or its name, `refused`, the number and the
-// place; with tabs between them. Without arguments the names are lines of standard input. At the end a summary goes to standard error.
+// place; with tabs between them. Without arguments the names are lines of standard input, and with -0 each ends with a byte 0. At the end a
+// summary goes to standard error.
 ghost use lib.ListN.{length};
 ghost use Rattle.command.specs.Within.{ListWithin};
 use card_line::write_head;
@@ -37,9 +38,25 @@ fn main() {
 
 fn read_files(counts: &mut [u64], out: Output) -> Output {
     if os::arg_count() <= 1 {
-        return read_list(counts, out);
+        return read_list(b'\n', counts, out);
+    }
+    if is_ended_by_zero() {
+        return read_list(0, counts, out);
     }
     read_arguments(counts, out)
+}
+
+// Whether the one argument is -0: the names come on standard input, and a byte 0 ends each.
+fn is_ended_by_zero() -> bool {
+    let mut word = io::buffer();
+    let n = os::arg(1, &mut word);
+    if n != 2 {
+        return false;
+    }
+    if word[0] != b'-' {
+        return false;
+    }
+    word[1] == b'0'
 }
 
 // Reads the files that the arguments name.
@@ -65,17 +82,17 @@ fn read_argument(i: usize, counts: &mut [u64], out: Output) -> Output {
     answer_file(&name[0..n], file.failed, &text[0..count], counts, out)
 }
 
-// Reads the files that the lines of standard input name.
-fn read_list(counts: &mut [u64], out: Output) -> Output {
+// Reads the files that the lines of standard input name, which end with this byte.
+fn read_list(end: u8, counts: &mut [u64], out: Output) -> Output {
     let mut space = io::large_buffer();
     output::say_waiting(
         b"mib shelf: waiting for the names of files, a line each; Ctrl-D ends them\n",
     );
-    read_lines(&mut space, counts, out)
+    read_lines(end, &mut space, counts, out)
 }
 
-fn read_lines(space: &mut [u8], counts: &mut [u64], out: Output) -> Output {
-    let mut list = command::first_in_list(space);
+fn read_lines(end: u8, space: &mut [u8], counts: &mut [u64], out: Output) -> Output {
+    let mut list = command::first_ended_by(space, end);
     let mut next = out;
     while list.line < NO_LINE {
         next = read_line(space, list, counts, next);
@@ -177,7 +194,7 @@ fn print_line(name: &[u8], answer: Answer, out: Output) -> Output {
     let mut line = [0u8; 64];
     let next = buffer::put(&mut line, 0, b'\t');
     let end = write_head(answer, &mut line, next);
-    let out = output::print(out, name);
+    let out = output::show(out, name);
     output::print(out, &line[0..end])
 }
 

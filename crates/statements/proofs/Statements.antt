@@ -7,6 +7,12 @@ use Rattle.token.specs.Cut.{meanings-in}
 use Rattle.row_status.specs.RowStatus.{Outcome}
 use Rattle.digit.proofs.Numeral.{digits-back, zero-digits, no-leading-zero}
 use Rattle.reader.specs.Buffers.{answer-to, examined-to}
+use Rattle.grammar.specs.Automaton.{run}
+use Rattle.grammar.specs.Grammar.{smi-module}
+use Rattle.grammar.specs.Rule.{yield}
+use Rattle.grammar.specs.Table.{module-automaton}
+use Rattle.grammar.proofs.Begun.{begun}
+use Rattle.grammar.proofs.Theorem.{grammar-theorem}
 use Rattle.statements.specs.Statements.{Statements}
 use Rattle.statements.proofs.Breaches.{Ordered}
 use Rattle.statements.proofs.Rising.{rules-in-order, rules-placed}
@@ -31,6 +37,7 @@ statements = record {
   second-demand = λ text. second-demand text (order text) (rules-placed (meanings-in text));
   quotes = quotes-alike answer-to;
   third-demand = λ text. third-demand text (order text);
+  what-may-stand = λ classes. begun (yield smi-module) classes (run module-automaton classes) (grammar-theorem classes);
   of-derivation = of-derivation;
   read-settled = read-once answer-to;
   examine-settled = read-once examined-to;

@@ -2,7 +2,7 @@
 -- Assumes nothing.
 use mathlib.Core.Path.{_≡_, refl, ap}
 use mathlib.Core.Logic.{_⊎_, inl, inr, ⊎-elim}
-use mathlib.Core.Bool.{Bool, true, false, cond, not, _&&_, _||_}
+use mathlib.Core.Bool.{Bool, true, false, cond, not, _&&_}
 use mathlib.Core.List.{List}
 use Prim.Native.Nat.{ℕ, _-_, _<_}
 use native.Mathlib.Omega.{arith}
@@ -163,8 +163,11 @@ module _ (ms : List Meaning) where
 
   -- ---- the items of an enumeration
 
-  abbrev alike : ℕ → ℕ → Bool
-  alike i j = has-label (spelled ms) (stage .classes) i j || has-number (stage .classes) (stage .values) i j
+  abbrev same-label : ℕ → ℕ → Bool
+  same-label i = has-label (spelled ms) (stage .classes) i
+
+  abbrev same-number : ℕ → ℕ → Bool
+  same-number i = has-number (stage .classes) (stage .values) i
 
   item-told : (l : Limits) (s : Span) (i : ℕ) → ltb 0 (item-clause (spelled ms) (stage .classes) (stage .values) l (s .from) i) ≡ true
       → (is-name (stage .classes) i ≡ true) × Misnumbered ms stage l s i
@@ -172,14 +175,17 @@ module _ (ms : List Meaning) where
   item-told l s i e =
       let o = clause-passed (is-name (stage .classes) i) _ e in (
         o .0,
-        clause-told (any (alike i) (s .from) i) 0 _ (o .1)
+        clause-told (any (same-label i) (s .from) i) 0 _ (o .1)
             (λ t.
-            let j = found (alike i) (s .from) i t in
-            ⊎-elim
-            (λ label. let x = both (is-name (stage .classes) (j .0)) _ label in label-twice (j .0) (j .1) (j .2) (x .0) (same-equal _ _ (x .1)))
-            (λ number. let x = both (is-name (stage .classes) (j .0)) _ number in number-twice (j .0) (j .1) (j .2) (x .0) (x .1))
-            (either (has-label (spelled ms) (stage .classes) i (j .0)) _ (j .3)))
-            (λ e. clause-told (is-outside l (item-number (stage .classes) (stage .values) i)) 1 _ e outside clause-none),
+            let j = found (same-label i) (s .from) i t in
+            let x = both (is-name (stage .classes) (j .0)) _ (j .3) in
+            label-twice (j .0) (j .1) (j .2) (x .0) (same-equal _ _ (x .1)))
+            (λ e. clause-told (any (same-number i) (s .from) i) 1 _ e
+            (λ t.
+            let j = found (same-number i) (s .from) i t in
+            let x = both (is-name (stage .classes) (j .0)) _ (j .3) in
+            number-twice (j .0) (j .1) (j .2) (x .0) (x .1))
+            (λ e. clause-told (is-outside l (item-number (stage .classes) (stage .values) i)) 2 _ e outside clause-none)),
       )
 
   item-breach : (l : Limits) (s : Span) (i : ℕ) → is-name (stage .classes) i ≡ true → Misnumbered ms stage l s i
@@ -187,15 +193,16 @@ module _ (ms : List Meaning) where
   unfolding item-clause any
   item-breach l s i n (label-twice j a b p q) =
       clause-passing (is-name (stage .classes) i) _ n
-      (clause-here (any (alike i) (s .from) i) 0 _
-      (any-at (alike i) (s .from) i j a b (left _ (joined p (spelled-same _ _ q)))))
+      (clause-here (any (same-label i) (s .from) i) 0 _ (any-at (same-label i) (s .from) i j a b (joined p (spelled-same _ _ q))))
   item-breach l s i n (number-twice j a b p q) =
       clause-passing (is-name (stage .classes) i) _ n
-      (clause-here (any (alike i) (s .from) i) 0 _
-      (any-at (alike i) (s .from) i j a b (right (has-label (spelled ms) (stage .classes) i j) (joined p q))))
+      (clause-later (any (same-label i) (s .from) i) 0 _
+      (clause-here (any (same-number i) (s .from) i) 1 _ (any-at (same-number i) (s .from) i j a b (joined p q))))
   item-breach l s i n (outside out) =
       clause-passing (is-name (stage .classes) i) _ n
-      (clause-later (any (alike i) (s .from) i) 0 _ (clause-here (is-outside l (item-number (stage .classes) (stage .values) i)) 1 _ out))
+      (clause-later (any (same-label i) (s .from) i) 0 _
+      (clause-later (any (same-number i) (s .from) i) 1 _
+      (clause-here (is-outside l (item-number (stage .classes) (stage .values) i)) 2 _ out)))
 
   -- 18, by the syntax
   abbrev item-rule-by : Syntax → Rule

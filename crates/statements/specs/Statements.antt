@@ -19,6 +19,8 @@ use Rattle.lexicon.specs.Word.{bytes}
 use Rattle.token.specs.Token.{class-of-token, tok}
 use Rattle.token.specs.Cut.{cut, whole, refused, meanings-in}
 use Rattle.token.specs.Law.{QuotedChange}
+use Rattle.grammar.specs.Allowed.{allowed}
+use Rattle.grammar.specs.Answer.{Begins}
 use Rattle.grammar.specs.Grammar.{smi-module}
 use Rattle.grammar.specs.Derivation.{Derivation, tokens-of, tree-of}
 use Rattle.syntax.specs.Parsing.{Fault}
@@ -201,6 +203,9 @@ pub record Statements : Type 0 where
   pub third-demand : OfEveryRead
       (λ text answer records records′ numbers numbers′.
       WithinLimits text (length records) (length numbers) → Cuts text → ThirdDemand text answer)
+  -- what grammar::allows says, and explain by it, of what may stand where 7 refuses: exactly the classes with which some derived sequence,
+  -- however long, begins so
+  pub what-may-stand : (classes : List ℕ) → (allowed classes ≡ true) ↔ Begins smi-module classes
   -- the module that the rules are stated over is that of the text's derivation: its definitions with their kinds and fields are those of
   -- the identity and of the defs, its imports those of the groups, and each name that is used stands where the grammar has one of that sort
   pub of-derivation : (text : List ℕ) (d : Derivation class-of-token smi-module) → tokens-of class-of-token smi-module d ≡ cut text .tokens

@@ -8,7 +8,7 @@ use Prim.Native.Nat.{ℕ, _+_, _≤_}
 use Prim.Native.String.{String}
 use lib.Dec.{ltb, eqb}
 use lib.ListN.{length, getD}
-use Rattle.index.specs.First.{first}
+use Rattle.index.specs.First.{first, any}
 use Rattle.lexicon.specs.Word.{bytes, same, joined, start-of, between}
 use Rattle.symbol.specs.declared.Sort.{Sort}
 
@@ -30,6 +30,10 @@ pub record Symbol : Type 0 where
 -- the modules that can be imported from
 unfoldable pub modules : List (List ℕ)
 modules = bytes "SNMPv2-SMI" ∷ bytes "SNMPv2-TC" ∷ []
+
+-- a name is that of one of them
+unfoldable pub is-module : List ℕ → Bool
+is-module s = any (λ (k : ℕ). same s (getD modules k [])) 0 (length modules)
 
 -- `iso`, and its OID
 unfoldable pub iso-name : List ℕ

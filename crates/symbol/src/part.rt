@@ -1,10 +1,10 @@
-// Of a name that stands from start to end of a text: which symbol it is, whether it is `iso`, and whether it is the module that offers a
-// symbol.
+// Of a name that stands from start to end of a text: which symbol it is, whether it is `iso`, whether it is a module that can be
+// imported from, and whether it is the one that offers a symbol.
 ghost use mathlib.Core.Path.{_≡_};
 ghost use Prim.Native.Nat.{_+_, _<_};
 ghost use lib.ListN.{length};
 ghost use Rattle.lexicon.specs.Word.{same, between, Within};
-ghost use Rattle.symbol.specs.Symbol.{symbol-count, symbol-names, symbol-of, module-name, iso-name, start-in, part, Joined};
+ghost use Rattle.symbol.specs.Symbol.{symbol-count, symbol-names, symbol-of, is-module, module-name, iso-name, start-in, part, Joined};
 use crate::start as start_in;
 use crate::table::ISO;
 use crate::table::MODULE_NAMES;
@@ -72,6 +72,15 @@ pub fn names_iso(text: &[u8], start: usize, end: usize) -> bool
     ensures { λ r. ⌜ r ≡ same (between (now (text .entry)) start end) iso-name ⌝ }
 {
     same_spelling(text, start, end, &ISO, 0, ISO.len())
+}
+
+// Whether it is one of the modules that can be imported from.
+pub fn names_module(text: &[u8], start: usize, end: usize) -> bool
+    requires { ⌜ Within (now text) start end ⌝ }
+    ensures { λ r. ⌜ r ≡ is-module (between (now (text .entry)) start end) ⌝ }
+{
+    is_name_of(text, start, end, &MODULE_NAMES, &MODULE_STARTS, 0)
+        | is_name_of(text, start, end, &MODULE_NAMES, &MODULE_STARTS, 1)
 }
 
 // Whether it is the module that offers symbol k.

@@ -9,7 +9,7 @@ use Rattle.module_table.specs.Definition.{entry}
 use Rattle.module_table.specs.declared.Definition.{Definition}
 use Rattle.object_tree.specs.Words.{is-object}
 use Rattle.index.specs.Choice.{if_then_else_}
-use Rattle.table_check.specs.Refusal.{other-by}
+use Rattle.table_check.specs.Refusal.{other-token}
 
 -- the first of an object's clauses, by the first of each part; 0 for what is no object
 abbrev pub picked : Definition → ℕ → ℕ → ℕ
@@ -21,5 +21,5 @@ found ds values k clause = record {
   number = 20;
   clause = clause;
   token = entry ds k .name;
-  other = entry ds (other-by ds values k clause) .name;
+  other = record { 0 = other-token ds values k clause };
 }

@@ -1,10 +1,12 @@
-// The definition that an object at fault stands against, by the clause.
+// What an object at fault stands against, by the clause: a definition, or a name in its list.
 ghost use mathlib.Core.Path.{_≡_};
+ghost use Prim.Native.Nat.{_<_};
 ghost use lib.ListN.{length};
 ghost use Rattle.index.specs.First.{first};
 ghost use Rattle.module_table.specs.Definition.{definitions-in};
+ghost use Rattle.module_table.specs.Module.{most-definitions};
 ghost use Rattle.clause_table.specs.Clause.{is-of};
-ghost use Rattle.table_check.specs.Refusal.{definition-or, type-against, row-against, table-against, other-by};
+ghost use Rattle.table_check.specs.Refusal.{definition-or, type-against, row-against, table-against, other-by, other-token};
 use index::RecordIndex;
 use index::TokenIndex;
 use module_table::count;
@@ -13,6 +15,8 @@ use object_tree::ROW;
 use object_tree::TABLE;
 use object_tree::is_object;
 use object_tree::number_at;
+use sequence_list::first_repeated;
+use sequence_list::first_stranger;
 use sequence_list::type_of;
 
 // Whether definition r is an object of this class whose SEQUENCE type has this number.
@@ -85,8 +89,8 @@ fn table_against(definitions: &[usize], k: RecordIndex) -> RecordIndex
     first
 }
 
-// What definition k stands against by a clause.
-pub fn other_by(values: &[u32], definitions: &[usize], k: RecordIndex, clause: u8) -> RecordIndex
+// The definition that definition k stands against by a clause.
+fn other_by(values: &[u32], definitions: &[usize], k: RecordIndex, clause: u8) -> RecordIndex
     ensures { λ r. ⌜ r .0 ≡ other-by (definitions-in (now (definitions .entry))) (now (values .entry)) (k .0) clause ⌝ }
 {
     if clause == 1 {
@@ -94,12 +98,6 @@ pub fn other_by(values: &[u32], definitions: &[usize], k: RecordIndex, clause: u
     }
     if clause == 2 {
         return table_against(definitions, k);
-    }
-    if clause == 5 {
-        return type_against(definitions, k);
-    }
-    if clause == 6 {
-        return type_against(definitions, k);
     }
     let d = definition_at(definitions, k);
     if clause == 7 {
@@ -111,4 +109,20 @@ pub fn other_by(values: &[u32], definitions: &[usize], k: RecordIndex, clause: u
         return definition_or(k, number_at(values, TokenIndex(from)));
     }
     k
+}
+
+// The token that it stands against: a name of its SEQUENCE type's list, or the name of a definition.
+pub fn other_token(values: &[u32], definitions: &[usize], k: RecordIndex, clause: u8) -> TokenIndex
+    requires { ⌜ k .0 < most-definitions ⌝ }
+    ensures { λ r. ⌜ r .0 ≡ other-token (definitions-in (now (definitions .entry))) (now (values .entry)) (k .0) clause ⌝ }
+{
+    let number = type_of(definition_at(definitions, k));
+    if clause == 5 {
+        return TokenIndex(first_repeated(values, definitions, number));
+    }
+    if clause == 6 {
+        return TokenIndex(first_stranger(values, definitions, number, k.0 + 1));
+    }
+    let other = definition_at(definitions, other_by(values, definitions, k, clause));
+    other.name
 }

@@ -7,7 +7,7 @@ ghost use Rattle.module_table.specs.Definition.{definitions-in};
 ghost use Rattle.module_table.specs.Module.{most-definitions};
 ghost use Rattle.table_check.specs.Refusal.{table-broken};
 ghost use Rattle.table_check.specs.Found.{picked, found};
-use crate::against::other_by;
+use crate::against::other_token;
 use clause_table::collect_name_clauses;
 use clause_table::collect_row_clauses;
 use index::RecordIndex;
@@ -37,17 +37,16 @@ fn picked(d: Definition, row: u8, name: u8) -> u8
 
 // What there is to say of definition k, at fault by this clause.
 fn found(values: &[u32], definitions: &[usize], k: RecordIndex, clause: u8) -> Finding
+    requires { ⌜ k .0 < most-definitions ⌝ }
     ensures { λ r. ⌜ r ≡ found (definitions-in (now (definitions .entry))) (now (values .entry)) (k .0) clause ⌝ }
 {
     let d = definition_at(definitions, k);
-    let other = definition_at(definitions, other_by(values, definitions, k, clause));
     let token = d.name;
-    let against = other.name;
     Finding {
         number: TABLE_BROKEN,
         clause,
         token,
-        other: against,
+        other: other_token(values, definitions, k, clause),
     }
 }
 

@@ -48,7 +48,7 @@ fn list_argument(i: usize, named: bool, out: Output) -> Output {
 }
 
 fn print_line(line: &[u8], out: Output) -> Output {
-    let out = print(out, line);
+    let out = output::show(out, line);
     output::end_line(out)
 }
 

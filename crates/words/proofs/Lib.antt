@@ -1,6 +1,6 @@
 pub mod Digits
-pub mod HexLaws
+pub mod FrontLaws
 pub mod Left
-pub mod PairLaws
+pub mod OctetLaws
 pub mod Signs
 pub mod WordLaws

@@ -1,5 +1,5 @@
 pub mod Decimal
 pub mod Flag
 pub mod Hex
-pub mod Pairs
+pub mod Octets
 pub mod Words

@@ -1,18 +1,58 @@
 //! A checked reader for SMI: what an SMIv2 module defines, what a stored value looks like under its DISPLAY-HINT, and
 //! what a set of RowStatus does to a row.
 //!
+//! ```no_run
+//! use mib::{Buffers, Module, Printer, RowState, RowValue};
+//!
+//! let text = std::fs::read("QUAY-UPS-MIB").unwrap();
+//! let mut buffers = Buffers::new();
+//! match Module::read(&text, &mut buffers) {
+//!     Ok(module) => {
+//!         for definition in &module {
+//!             println!("{} {}", definition.name, definition.oid);
+//!         }
+//!     }
+//!     Err(refusal) => println!("{refusal}"),
+//! }
+//! println!("{:?}", Printer::new().integer(b"d-2", -5));
+//! println!("{}", RowState::NotReady.set(RowValue::Active, false, true).answer);
+//! ```
+//!
 //! The answers come from a library whose functions are proved to meet their contracts; `include/mib.h` of the repository
 //! says what each number means and what is left in each buffer. Nothing is asked of an argument: what cannot be answered
-//! is refused.
+//! is refused. [`Module`], [`Printer`] and [`RowState`] give the answers as types; below them [`read`], [`print_octets`],
+//! [`print_integer`] and [`set_row`] give them as numbers, in buffers of the caller's.
 //!
-//! [`read`] takes up to a megabyte and a half of stack. The main thread has 8 MiB on most systems, and a thread that Rust
-//! spawns has 2 MiB; a thread that asks for another size asks for two megabytes more than it needs itself.
+//! Reading takes up to 1,260 KiB of stack. The main thread has 8 MiB on most systems, and a thread that Rust spawns has
+//! 2 MiB; a thread that asks for another size asks for [`STACK_BYTES`] more than it needs itself, its [`Buffers`] included.
+
+#![deny(unsafe_code)]
+
+mod module;
+mod numbered;
+mod refusal;
+mod row;
+mod value;
+
+pub use module::{Access, Buffers, Class, Definition, Definitions, Kind, Module, Oid, Status};
+pub use refusal::Refusal;
+pub use row::{RowAnswer, RowState, RowStep, RowValue};
+pub use value::Printer;
 
 /// [`read`] works on so many words of the record buffer; words beyond them never change.
 pub const RECORD_WORDS: usize = 5120;
 
 /// And on so many of the number buffer.
 pub const NUMBER_WORDS: usize = 8192;
+
+/// [`print_octets`] works on so many bytes of the output.
+pub const OCTETS_OUT: usize = 4096;
+
+/// And [`print_integer`] on so many.
+pub const INTEGER_OUT: usize = 64;
+
+/// A thread that reads a module has so much stack left: what was measured, and a quarter more.
+pub const STACK_BYTES: usize = 1600 * 1024;
 
 /// The answer to a text.
 #[derive(Debug, Clone, Copy, PartialEq, Eq)]
@@ -51,14 +91,14 @@ pub fn read(text: &[u8], records: &mut [u32], numbers: &mut [u32]) -> Reading {
     }
 }
 
-/// Prints octets by a hint for octets. The output has at least 4,096 bytes, or the value is
-/// refused by 30; bytes beyond those never change.
+/// Prints octets by a hint for octets. The output has at least [`OCTETS_OUT`] bytes, or the value is refused by 30; bytes
+/// beyond those never change.
 pub fn print_octets(hint: &[u8], octets: &[u8], out: &mut [u8]) -> Printing {
     printing(raw::print_octets(hint, octets, out))
 }
 
-/// Prints an integer by a hint for integers. The output has at least 64 bytes, or the value is
-/// refused by 30; bytes beyond those never change.
+/// Prints an integer by a hint for integers. The output has at least [`INTEGER_OUT`] bytes, or the value is refused by 30;
+/// bytes beyond those never change.
 pub fn print_integer(hint: &[u8], value: i64, out: &mut [u8]) -> Printing {
     printing(raw::print_integer(hint, value, out))
 }
@@ -84,6 +124,7 @@ fn printing(answer: [usize; 3]) -> Printing {
 /// pointer isn't null even where the slice is empty. What the library writes to is a `&mut`, which overlaps nothing else,
 /// and `answer` is the call's own. The library asks nothing else of its arguments, is proved to write within what it is
 /// lent and to return, and keeps no pointer.
+#[allow(unsafe_code)]
 mod raw {
     #[cfg(not(target_pointer_width = "64"))]
     compile_error!("the library is for machines with 64-bit sizes");

@@ -1,114 +1,43 @@
--- `is_hint` is right: at i the cut from i on is stuck where the whole cut is. The measure is what is left of the hint.
+-- `is_hint` is right: a hint of 1 to 255 bytes is pieces where its cut is stuck nowhere.
 -- Assumes nothing.
-use Prim.Native.Nat.{ℕ, _-_}
 use native.Mathlib.Omega.{arith}
-use mathlib.Core.Path.{_≡_, sym, ap, _∙_}
-use mathlib.Core.Bool.{true}
-use mathlib.Core.List.{List}
-use lib.ListN.{length}
+use mathlib.Core.Path.{sym, ap, _∙_}
 use borrow.Author.Needs.{needs}
-use borrow.Author.Tests.{lt-leb, le-leb}
-use Rattle.character.specs.Cut.{stuck-at, cut}
-use Rattle.hint_form.specs.Hint.{is-piece, piece-end, piece-size}
-use Rattle.character.proofs.CutLaws.{from-start, from-end, from-stuck}
-use Rattle.hint_form.proofs.HintLaws.{found-whole, found-nothing, piece-size-none, piece-end-after, pieces-whole, nowhere}
-use Rattle.hint_form.proofs.PieceLaws.{cut-from, stuck-step}
+use Rattle.hint_form.proofs.FaultLaws.{none-empty, none-long}
+use Rattle.hint_form.proofs.HintLaws.{nowhere, pieces-whole}
 use Rattle.hint_form.proofs.is_hint.Statement.{statement}
 use Rattle.hint_form.proofs.is_hint.Tie as tie
 
-abbrev Inv-loop : tie.InvT-loop
-Inv-loop hint i₀ i = stuck-at (cut-from hint i) ≡ stuck-at (cut (piece-size hint) (length hint))
+returns : tie.Need-returns
+returns c = sym (none-empty _ (c .if1 .taken))
 
-abbrev μ-loop : tie.MeasureT-loop
-μ-loop hint i₀ i = length hint - i
+returns-2 : tie.Need-returns-2
+returns-2 c = sym (none-long _ (c .if2 .taken))
 
-returns : tie.Need-returns Inv-loop μ-loop
-unfolding Rattle.hint_form.specs.Hint.read-hint Rattle.hint_form.specs.Hint.is-pieces
-returns c =
-    let h = c .before .before .args .hint .now in
-    simp (lt-leb 1 (length h) (omega (arith, c .if1 .taken)))
+first-stuck-requires : tie.Need-first-stuck-requires
+first-stuck-requires c κs = search needs
 
-returns-2 : tie.Need-returns-2 Inv-loop μ-loop
-unfolding Rattle.hint_form.specs.Hint.read-hint Rattle.hint_form.specs.Hint.is-pieces
-returns-2 c =
-    let h = c .before .before .before .args .hint .now in
-    simp (le-leb 1 (length h) (omega (arith, c .if2 .taken)), lt-leb (length h) 255 (c .if2 .taken))
-
-loop-holds : tie.Need-loop-holds Inv-loop μ-loop
-loop-holds c =
-    let h = c .before .before .before .args .hint .now in
-    ap stuck-at (from-start (piece-size h) (length h))
-
-piece-at-requires : tie.Need-piece-at-requires Inv-loop μ-loop
-piece-at-requires c κs = c .loop-test .taken
-
-enum-known-next : tie.Need-enum-known-next Inv-loop μ-loop
-enum-known-next c = search needs
-
-enum-told : tie.Need-enum-told Inv-loop μ-loop
+enum-told : tie.Need-enum-told
 enum-told c = search needs
 
-returns-3 : tie.Need-returns-3 Inv-loop μ-loop
-unfolding Rattle.character.specs.Cut.stuck-at
+enum-told-2 : tie.Need-enum-told-2
+enum-told-2 c = search needs
+
+returns-3 : tie.Need-returns-3
 returns-3 c =
-    let first = c .before .before .before .before .before .before in
-    let here = c .before .before .before .before .loop in
-    let h = first .before .before .args .hint .now in
-    let nothing = found-nothing h (here .i) (sym (c .enum-told .given .1) ∙ c .before .before .piece-at .ensures) in
-    let none = piece-size-none h (here .i) nothing in
-    let at = from-stuck (piece-size h) (length h) (here .i) (c .before .before .before .loop-test .taken) none in
-    let whole = pieces-whole h (omega (arith, first .if1 .left)) (c .before .before .before .before .before .if2 .left) in
-    sym (whole ∙ ap nowhere (sym (here .inv) ∙ ap stuck-at at))
+    let stuck = c .before .before in
+    let hint = stuck .before .before .before .before .args .hint .now in
+    let whole = pieces-whole hint (omega (arith, stuck .before .before .if1 .left)) (stuck .before .if2 .left) in
+    sym (whole ∙ ap nowhere (sym (stuck .first-stuck .ensures) ∙ c .enum-told .given .1))
 
--- the hint and the place of a turn of the loop, and the piece that it found there
-abbrev text : tie.After-next Inv-loop μ-loop → List ℕ
-text d = d .before .before .before .before .before .before .before .before .args .hint .now
-
-abbrev place : tie.After-next Inv-loop μ-loop → ℕ
-place d = d .before .before .before .before .loop .i
-
-there : (d : tie.After-next Inv-loop μ-loop)
-    → (is-piece (text d) (place d) ≡ true) × (d .next .given .0 .1 .0 ≡ piece-end (text d) (place d))
-there d =
-    let is = found-whole _ _ _ _ (sym (d .next .given .1) ∙ d .before .before .piece-at .ensures) in
-    (is .0, is .2)
-
-loop-less : tie.Need-loop-less Inv-loop μ-loop
-loop-less c =
-    let d = c .before in
-    omega (arith, there d .1, piece-end-after (text d) (place d), d .before .before .before .loop-test .taken)
-
-loop-again : tie.Need-loop-again Inv-loop μ-loop
-loop-again c =
-    let d = c .before in
-    let is = there d in
-    let at = d .before .before .before in
-    ap (λ (k : ℕ). stuck-at (cut-from (text d) k)) (is .1)
-    ∙ stuck-step (text d) (place d) (at .loop-test .taken) (is .0)
-    ∙ at .before .loop .inv
-
-returns-4 : tie.Need-returns-4 Inv-loop μ-loop
-unfolding Rattle.character.specs.Cut.stuck-at
+returns-4 : tie.Need-returns-4
 returns-4 c =
-    let first = c .before .before .before in
-    let h = first .before .before .args .hint .now in
-    let at = from-end (piece-size h) (length h) (c .before .loop .i) (c .loop-test .left) in
-    let whole = pieces-whole h (omega (arith, first .if1 .left)) (c .before .before .if2 .left) in
-    sym (whole ∙ ap nowhere (sym (c .before .loop .inv) ∙ ap stuck-at at))
+    let stuck = c .before .before in
+    let hint = stuck .before .before .before .before .args .hint .now in
+    let whole = pieces-whole hint (omega (arith, stuck .before .before .if1 .left)) (stuck .before .if2 .left) in
+    sym (whole ∙ ap nowhere (sym (stuck .first-stuck .ensures) ∙ c .enum-told2 .given .1))
 
 pub is-hint-spec : {M : Type 1} → statement M
 is-hint-spec =
     tie.close
-    (tie.spec
-    Inv-loop
-    μ-loop
-    returns
-    returns-2
-    loop-holds
-    piece-at-requires
-    enum-known-next
-    enum-told
-    returns-3
-    loop-less
-    loop-again
-    returns-4)
+    (tie.spec returns returns-2 first-stuck-requires enum-told enum-told-2 returns-3 returns-4)

@@ -14,11 +14,14 @@ slice-aggregate-integer c = search needs
 integer-requires : tie.Need-integer-requires
 integer-requires c κs = search needs
 
+explain-integer-requires : tie.Need-explain-integer-requires
+explain-integer-requires c κs = search needs
+
 slice-aggregate-print-answer : tie.Need-slice-aggregate-print-answer
 slice-aggregate-print-answer c = search needs
 
 print-answer-requires : tie.Need-print-answer-requires
-print-answer-requires c κs = length-fits _ _ _ _ _ (c .before .before .integer .ensures)
+print-answer-requires c κs = length-fits _ _ _ _ _ (c .before .before .before .integer .ensures)
 
 returns : tie.Need-returns
 returns c = search needs
@@ -30,6 +33,7 @@ print-integer-spec =
     buffer-requires
     slice-aggregate-integer
     integer-requires
+    explain-integer-requires
     slice-aggregate-print-answer
     print-answer-requires
     returns)

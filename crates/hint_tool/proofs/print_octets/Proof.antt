@@ -14,11 +14,14 @@ slice-aggregate-octets c = search needs
 octets-requires : tie.Need-octets-requires
 octets-requires c κs = search needs
 
+explain-octets-requires : tie.Need-explain-octets-requires
+explain-octets-requires c κs = search needs
+
 slice-aggregate-print-answer : tie.Need-slice-aggregate-print-answer
 slice-aggregate-print-answer c = search needs
 
 print-answer-requires : tie.Need-print-answer-requires
-print-answer-requires c κs = length-fits _ _ _ _ _ (c .before .before .octets .ensures)
+print-answer-requires c κs = length-fits _ _ _ _ _ (c .before .before .before .octets .ensures)
 
 returns : tie.Need-returns
 returns c = search needs
@@ -30,6 +33,7 @@ print-octets-spec =
     buffer-requires
     slice-aggregate-octets
     octets-requires
+    explain-octets-requires
     slice-aggregate-print-answer
     print-answer-requires
     returns)

@@ -9,10 +9,10 @@ use Rattle.row.proofs.answer_list.Statement.{statement}
 use Rattle.row.proofs.answer_list.Tie as tie
 
 abbrev Inv-loop : tie.InvT-loop
-Inv-loop space₀ list₀ next₀ t5 space list next = (length space ≡ length space₀) × ListWithin list (length space)
+Inv-loop space₀ in-words list₀ next₀ t6 space list next = (length space ≡ length space₀) × ListWithin list (length space)
 
 abbrev μ-loop : tie.MeasureT-loop
-μ-loop space₀ list₀ next₀ t5 space list next = no-line - list .line
+μ-loop space₀ in-words list₀ next₀ t6 space list next = no-line - list .line
 
 first-in-list-requires : tie.Need-first-in-list-requires Inv-loop μ-loop
 first-in-list-requires c κs = search needs

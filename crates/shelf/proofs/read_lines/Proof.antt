@@ -9,13 +9,13 @@ use Rattle.shelf.proofs.read_lines.Statement.{statement}
 use Rattle.shelf.proofs.read_lines.Tie as tie
 
 abbrev Inv-loop : tie.InvT-loop
-Inv-loop space₀ counts₀ list₀ next₀ t6 space counts list next = (length space ≡ length space₀) × (length counts ≡ length counts₀) × ListWithin list (length space)
+Inv-loop end space₀ counts₀ list₀ next₀ t6 space counts list next = (length space ≡ length space₀) × (length counts ≡ length counts₀) × ListWithin list (length space)
 
 abbrev μ-loop : tie.MeasureT-loop
-μ-loop space₀ counts₀ list₀ next₀ t6 space counts list next = no-line - list .line
+μ-loop end space₀ counts₀ list₀ next₀ t6 space counts list next = no-line - list .line
 
-first-in-list-requires : tie.Need-first-in-list-requires Inv-loop μ-loop
-first-in-list-requires c κs = search needs
+first-ended-by-requires : tie.Need-first-ended-by-requires Inv-loop μ-loop
+first-ended-by-requires c κs = search needs
 
 loop-holds : tie.Need-loop-holds Inv-loop μ-loop
 loop-holds c = search needs
@@ -53,7 +53,7 @@ read-lines-spec =
     (tie.spec
     Inv-loop
     μ-loop
-    first-in-list-requires
+    first-ended-by-requires
     loop-holds
     read-line-requires
     next-in-list-requires

@@ -1,8 +1,6 @@
 -- `write_seen` is right: a hidden byte is written as its number, and any other as itself.
 -- Assumes nothing.
 use native.Mathlib.Omega.{arith}
-use mathlib.Core.Path.{_≡_, refl, sym, ap, _∙_}
-use lib.ListN.{length}
 use Rattle.visible.specs.Visible.{escaped, seen}
 use Rattle.buffer.proofs.Writing.{wrote-as}
 use borrow.Author.Needs.{needs}

@@ -8,7 +8,7 @@ use Rattle.module_table.specs.Definition.{entry}
 use mathlib.Core.Path.{_≡_, refl, sym, ap, _∙_}
 use native.Mathlib.Omega.{arith}
 use Rattle.module_table.specs.Definition.{definitions-in}
-use Rattle.access_check.specs.Access.{clashes, access-clause, access-broken}
+use Rattle.access_check.specs.Access.{clashes, access-clause, access-other, access-broken}
 use Rattle.access_check.specs.Found.{own-clause, found}
 use Rattle.access_check.proofs.Faults.{first-broken, none-broken, first-earlier, second-earlier, neither, access-clash, access-own, access-either}
 use borrow.Author.Needs.{needs}
@@ -41,21 +41,29 @@ first-clash-requires c κs = search needs
 first-fault-requires : tie.Need-first-fault-requires
 first-fault-requires c κs = search needs
 
+access-other-requires : tie.Need-access-other-requires
+access-other-requires c κs = search needs
+
 found-requires : tie.Need-found-requires
 found-requires c κs = search needs
 
 returns : tie.Need-returns
 unfolding access-broken
 returns c =
-    let f = c .before .before in
+    let o = c .before in
+    let f = o .before .before in
     let s = start f in
     let ds = definitions-in (s .args .definitions .now) in
-    let e = first-earlier _ (own f) (breach f) _ _ _ (access-either ds (s .args .values .now)) (clash-is f) (fault-is f) (c .before .if1 .taken) in
+    let e = first-earlier _ (own f) (breach f) _ _ _ (access-either ds (s .args .values .now)) (clash-is f) (fault-is f) (o .before .if1 .taken) in
     first-broken (access-broken ds (s .args .values .now)) _ _ refl (sym (f .before .before .count .ensures)) (e .1) (e .0) _
-    (c .found .ensures ∙ ap (λ (x : ℕ). found ds 21 x (f .before .first-clash .result)) (access-clash ds (s .args .values .now) (f .before .first-clash .result) (e .2)))
+    (c .found .ensures ∙ ap (found ds 21 1 (f .before .first-clash .result)) (o .access-other .ensures)
+    ∙ ap (λ (x : ℕ). found ds 21 x (f .before .first-clash .result) (access-other ds (s .args .values .now) (f .before .first-clash .result) x)) (access-clash ds (s .args .values .now) (f .before .first-clash .result) (e .2)))
 
 clause-at-requires : tie.Need-clause-at-requires
 clause-at-requires c κs = search needs
+
+access-other-requires-2 : tie.Need-access-other-requires-2
+access-other-requires-2 c κs = search needs
 
 found-requires-2 : tie.Need-found-requires-2
 found-requires-2 c κs = search needs
@@ -63,13 +71,16 @@ found-requires-2 c κs = search needs
 returns-2 : tie.Need-returns-2
 unfolding access-broken
 returns-2 c =
-    let t = c .before .before in
+    let o = c .before in
+    let a = o .before in
+    let t = a .before in
     let f = t .before .before in
     let s = start f in
     let ds = definitions-in (s .args .definitions .now) in
     let e = second-earlier _ (own f) (breach f) _ _ _ (access-either ds (s .args .values .now)) (clash-is f) (fault-is f) (t .before .if1 .left) (t .if2 .taken) in
     first-broken (access-broken ds (s .args .values .now)) _ _ refl (sym (f .before .before .count .ensures)) (e .0) (t .if2 .taken) _
-    (c .found2 .ensures ∙ ap (λ (x : ℕ). found ds 21 x (f .first-fault .result)) (c .before .clause-at .ensures ∙ access-own ds (s .args .values .now) (f .first-fault .result) (e .1)))
+    (c .found2 .ensures ∙ ap (found ds 21 (a .clause-at .result) (f .first-fault .result)) (o .access-other2 .ensures)
+    ∙ ap (λ (x : ℕ). found ds 21 x (f .first-fault .result) (access-other ds (s .args .values .now) (f .first-fault .result) x)) (a .clause-at .ensures ∙ access-own ds (s .args .values .now) (f .first-fault .result) (e .1)))
 
 returns-3 : tie.Need-returns-3
 unfolding access-broken
@@ -87,9 +98,11 @@ judge-access-spec =
     count-requires
     first-clash-requires
     first-fault-requires
+    access-other-requires
     found-requires
     returns
     clause-at-requires
+    access-other-requires-2
     found-requires-2
     returns-2
     returns-3)

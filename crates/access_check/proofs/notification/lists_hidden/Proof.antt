@@ -1,58 +1,17 @@
--- `lists_hidden` is right by the law of the loop that asks.
+-- `lists_hidden` is right: the first that it lists is before the end.
 -- Assumes nothing.
-use borrow.Author.Needs.{needs}
-use mathlib.Core.Path.{sym, _∙_}
-use Prim.Native.Nat.{_-_}
-use Rattle.module_table.specs.Definition.{definitions-in}
-use Rattle.sequence_list.proofs.Asking.{Asking, asking-miss, asking-hit, asking-end}
-use Rattle.access_check.specs.Access.{has-access}
+use Rattle.index.specs.First.{any}
 use Rattle.access_check.specs.Notification.{lists-hidden}
+use borrow.Author.Needs.{needs}
 use Rattle.access_check.proofs.notification.lists_hidden.Statement.{statement}
 use Rattle.access_check.proofs.notification.lists_hidden.Tie as tie
 
-abbrev Inv-loop : tie.InvT-loop
-Inv-loop values definitions to i₀ i = Asking (has-access (definitions-in definitions) values 1) i₀ to i
+first-with-requires : tie.Need-first-with-requires
+first-with-requires c κs = search needs
 
-abbrev μ-loop : tie.MeasureT-loop
-μ-loop values definitions to i₀ i = to - i
-
-loop-holds : tie.Need-loop-holds Inv-loop μ-loop
-loop-holds c = search needs
-
-has-access-requires : tie.Need-has-access-requires Inv-loop μ-loop
-has-access-requires c κs = search needs
-
-returns : tie.Need-returns Inv-loop μ-loop
-unfolding lists-hidden
-returns c =
-    let t = c .before .before in
-    asking-hit _ _ _ _ (t .before .loop .inv) (t .loop-test .taken) (sym (c .before .has-access .ensures) ∙ c .if1 .taken)
-
-add-i : tie.Need-add-i Inv-loop μ-loop
-add-i c = search needs
-
-loop-less : tie.Need-loop-less Inv-loop μ-loop
-loop-less c = search needs
-
-loop-again : tie.Need-loop-again Inv-loop μ-loop
-loop-again c =
-    let t = c .before .before in
-    asking-miss _ _ _ _ (t .before .loop .inv) (t .loop-test .taken) (sym (c .before .has-access .ensures) ∙ c .if1 .left)
-
-returns-2 : tie.Need-returns-2 Inv-loop μ-loop
-unfolding lists-hidden
-returns-2 c = asking-end _ _ _ _ (c .before .loop .inv) (c .loop-test .left)
+returns : tie.Need-returns
+unfolding lists-hidden any
+returns c = rw (c .before .first-with .ensures)
 
 pub lists-hidden-spec : {M : Type 1} → statement M
-lists-hidden-spec =
-    tie.close
-    (tie.spec
-    Inv-loop
-    μ-loop
-    loop-holds
-    has-access-requires
-    returns
-    add-i
-    loop-less
-    loop-again
-    returns-2)
+lists-hidden-spec = tie.close (tie.spec first-with-requires returns)

@@ -12,8 +12,8 @@ find-requires c κs = search needs
 before-return-requires : tie.Need-before-return-requires
 before-return-requires c κs = search needs
 
-add-t14 : tie.Need-add-t14
-add-t14 c = search needs
+behind-requires : tie.Need-behind-requires
+behind-requires c κs = search needs
 
 same-length : tie.Need-same-length
 same-length c = search needs
@@ -45,7 +45,7 @@ next-line-spec =
     (tie.spec
     find-requires
     before-return-requires
-    add-t14
+    behind-requires
     same-length
     returns
     sub-held

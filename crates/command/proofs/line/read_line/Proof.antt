@@ -9,10 +9,10 @@ use Rattle.command.proofs.line.read_line.Statement.{statement}
 use Rattle.command.proofs.line.read_line.Tie as tie
 
 abbrev Inv-loop : tie.InvT-loop
-Inv-loop fd buf₀ held to₀ turns₀ buf to turns = (length buf ≡ length buf₀) × (to ≤ length buf₀)
+Inv-loop fd buf₀ held end to₀ turns₀ buf to turns = (length buf ≡ length buf₀) × (to ≤ length buf₀)
 
 abbrev μ-loop : tie.MeasureT-loop
-μ-loop fd buf₀ held to₀ turns₀ buf to turns = turns
+μ-loop fd buf₀ held end to₀ turns₀ buf to turns = turns
 
 loop-holds : tie.Need-loop-holds Inv-loop μ-loop
 loop-holds c = search needs
@@ -59,8 +59,8 @@ add-to c = search needs
 before-return-requires : tie.Need-before-return-requires Inv-loop μ-loop
 before-return-requires c κs = search needs
 
-add-t23 : tie.Need-add-t23 Inv-loop μ-loop
-add-t23 c = search needs
+behind-requires : tie.Need-behind-requires Inv-loop μ-loop
+behind-requires c κs = search needs
 
 same-length-4 : tie.Need-same-length-4 Inv-loop μ-loop
 same-length-4 c = search needs
@@ -101,7 +101,7 @@ read-line-spec =
     find-requires
     add-to
     before-return-requires
-    add-t23
+    behind-requires
     same-length-4
     returns-4
     loop-less

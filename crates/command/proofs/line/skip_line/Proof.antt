@@ -7,10 +7,10 @@ use Rattle.command.proofs.line.skip_line.Statement.{statement}
 use Rattle.command.proofs.line.skip_line.Tie as tie
 
 abbrev Inv-loop : tie.InvT-loop
-Inv-loop fd buf₀ turns₀ buf turns = length buf ≡ length buf₀
+Inv-loop fd buf₀ end turns₀ buf turns = length buf ≡ length buf₀
 
 abbrev μ-loop : tie.MeasureT-loop
-μ-loop fd buf₀ turns₀ buf turns = turns
+μ-loop fd buf₀ end turns₀ buf turns = turns
 
 loop-holds : tie.Need-loop-holds Inv-loop μ-loop
 loop-holds c = search needs
@@ -24,8 +24,8 @@ read-more-requires c κs = search needs
 find-requires : tie.Need-find-requires Inv-loop μ-loop
 find-requires c κs = search needs
 
-add-t12 : tie.Need-add-t12 Inv-loop μ-loop
-add-t12 c = search needs
+behind-requires : tie.Need-behind-requires Inv-loop μ-loop
+behind-requires c κs = search needs
 
 same-length : tie.Need-same-length Inv-loop μ-loop
 same-length c = search needs
@@ -61,7 +61,7 @@ skip-line-spec =
     sub-turns
     read-more-requires
     find-requires
-    add-t12
+    behind-requires
     same-length
     returns
     loop-less

@@ -47,20 +47,27 @@ first-number-misfit-requires c κs = few (c .before)
 lesser-requires : tie.Need-lesser-requires
 lesser-requires c κs = search needs
 
-first-alike-requires : tie.Need-first-alike-requires
-first-alike-requires c κs = omega (arith, c .if1 .taken, few (c .before .before .before .before))
+first-same-label-requires : tie.Need-first-same-label-requires
+first-same-label-requires c κs = search needs
+
+first-same-number-requires : tie.Need-first-same-number-requires
+first-same-number-requires c κs = omega (arith, c .before .if1 .taken, few (c .before .before .before .before .before))
 
 item-clause-requires : tie.Need-item-clause-requires
 item-clause-requires c κs = search needs
 
+item-other-requires : tie.Need-item-other-requires
+item-other-requires c κs = search needs
+
 returns : tie.Need-returns
 returns c =
-    let other = c .before in
-    let l = other .before .before in
+    let number = c .before .before in
+    let label = number .before in
+    let l = label .before .before in
     let e = l .before .before .before in
     let s = start-of e in
-    items-broken (spelling-in (s .args .text .now) (s .args .starts .now) (s .args .ends .now)) (s .args .classes .now) (s .args .values .now) (s .args .items .limits) (s .args .items .span) _ (token-is l) (omega (arith, other .before .if1 .taken, e .end-in .ensures)) _ _
-    (other .first-alike .ensures) (c .item-clause .ensures)
+    items-broken (spelling-in (s .args .text .now) (s .args .starts .now) (s .args .ends .now)) (s .args .classes .now) (s .args .values .now) (s .args .items .limits) (s .args .items .span) _ (token-is l) (omega (arith, label .before .if1 .taken, e .end-in .ensures)) _ _ _ _
+    (label .first-same-label .ensures) (number .first-same-number .ensures) (c .before .item-clause .ensures) (c .item-other .ensures)
 
 returns-2 : tie.Need-returns-2
 returns-2 c =
@@ -77,7 +84,9 @@ judge-items-spec =
     first-label-again-requires
     first-number-misfit-requires
     lesser-requires
-    first-alike-requires
+    first-same-label-requires
+    first-same-number-requires
     item-clause-requires
+    item-other-requires
     returns
     returns-2)

@@ -63,8 +63,11 @@ enum-known-offer c = search needs
 enum-told : tie.Need-enum-told Inv-loop μ-loop
 enum-told c = search needs
 
-plain-finding-requires : tie.Need-plain-finding-requires Inv-loop μ-loop
-plain-finding-requires c κs = tt
+missing-finding-requires : tie.Need-missing-finding-requires Inv-loop μ-loop
+missing-finding-requires c κs =
+    let a = c .before .before in
+    let l = a .before .before in
+    (start-of l .pre .0, omega (arith, a .before .loop-test .taken, end-in l))
 
 same-length : tie.Need-same-length Inv-loop μ-loop
 same-length c = c .before .before .before .before .before .loop .inv .1
@@ -74,7 +77,7 @@ returns c =
     let a = c .before .before .before in
     let l = a .before .before in
     let told = sym (c .before .enum-told .given .1) ∙ a .offer-at .ensures in
-    (l .loop .inv .1, (ap Broken (c .plain-finding .ensures) ∙ offer-judged _ _ _ (l .loop .inv .2) (inside l (a .before .loop-test .taken)) told, tt))
+    (l .loop .inv .1, (ap Broken (c .missing-finding .ensures) ∙ offer-judged _ _ _ (l .loop .inv .2) (inside l (a .before .loop-test .taken)) told, tt))
 
 mul-values : tie.Need-mul-values Inv-loop μ-loop
 mul-values c =
@@ -126,7 +129,7 @@ judge-offers-spec =
     offer-at-requires
     enum-known-offer
     enum-told
-    plain-finding-requires
+    missing-finding-requires
     same-length
     returns
     mul-values

@@ -2,18 +2,14 @@
 -- Assumes nothing.
 use mathlib.Core.Path.{_≡_}
 use mathlib.Core.List.{List}
-use Prim.Native.Nat.{ℕ, _+_, _≤_}
+use Prim.Native.Nat.{ℕ}
 use native.Mathlib.Omega.{arith}
-use lib.ListN.{length}
-use Rattle.terminal.specs.Terminal.{FROM}
 use Rattle.token.specs.Token.{Meaning}
 use Rattle.token.specs.Cut.{meanings-in}
-use Rattle.definition.specs.Fields.{find}
 use Rattle.scope.specs.Token.{classes-of}
 use Rattle.scope.specs.Import.{source}
 use Rattle.scope.proofs.Tokens.{classes-are, starts-long, ends-long, said-counted, few-classes, named-is}
-use Rattle.scope.proofs.Imports.{no-symbol-offered, module-offered, no-module-offered, source-is, source-inside}
-use borrow.Author.Needs.{needs}
+use Rattle.scope.proofs.Imports.{no-symbol-offered, module-offered, no-module-offered}
 use Rattle.scope.proofs.import.is_offered.Statement.{statement}
 use Rattle.scope.proofs.import.is_offered.Tie as tie
 
@@ -21,32 +17,24 @@ abbrev said-by : tie.Start → List Meaning
 said-by s = meanings-in (s .args .text .now)
 
 -- what stands behind the next FROM is the symbol's module
-behind : (s : tie.Start) (at : ℕ) → at ≡ find (s .args .classes .now) FROM (s .args .i .0) (length (s .args .classes .now))
-    → at + 1 ≡ source (classes-of (said-by s)) (s .args .i .0)
-behind s at is = rw (← classes-are _ _ _ _ (s .pre .0)) (source-is (s .args .classes .now) (s .args .i .0) at is)
-
-found : (s : tie.Start) (at : ℕ) → at ≡ find (s .args .classes .now) FROM (s .args .i .0) (length (s .args .classes .now))
-    → at ≤ length (s .args .classes .now)
-found s at is = source-inside (s .args .classes .now) (s .args .i .0) at (omega (arith, s .pre .1 .0)) is
+behind : (s : tie.Start) (at : ℕ) → at ≡ source (s .args .classes .now) (s .args .i .0) → at ≡ source (classes-of (said-by s)) (s .args .i .0)
+behind s at is = rw (← classes-are _ _ _ _ (s .pre .0)) is
 
 returns : tie.Need-returns
 returns c =
     let s = c .before .before .before .before .before in
     no-symbol-offered (said-by s) (s .args .i .0) _ (s .pre .1 .1) (c .if1 .taken)
 
-find-requires : tie.Need-find-requires
-find-requires c κs = search needs
-
-add-source : tie.Need-add-source
-add-source c =
-    let s = c .before .before .before .before .before .before in
-    omega (arith, found s _ (c .find .ensures), few-classes _ _ _ _ (s .pre .0))
+source-requires : tie.Need-source-requires
+source-requires c κs =
+    let s = c .before .before .before .before .before in
+    (few-classes _ _ _ _ (s .pre .0), omega (arith, s .pre .1 .0))
 
 returns-2 : tie.Need-returns-2
 returns-2 c =
     let s = c .before .before .before .before .before .before .before in
     no-module-offered (said-by s) (s .args .i .0) _ (s .pre .1 .1) (c .before .before .if1 .left)
-    _ (behind s _ (c .before .find .ensures)) (omega (arith, c .if2 .taken, said-counted _ _ _ _ (s .pre .0)))
+    _ (behind s _ (c .before .source .ensures)) (omega (arith, c .if2 .taken, said-counted _ _ _ _ (s .pre .0)))
 
 name-at-requires : tie.Need-name-at-requires
 name-at-requires c κs =
@@ -63,15 +51,14 @@ returns-3 c =
     let s = c .before .before .before .before .before .before .before .before .before in
     let name = named-is _ _ _ _ (s .pre .0) _ (c .before .before .if2 .left) _ (c .before .name-at .ensures) .1 in
     module-offered (said-by s) (s .args .i .0) _ (s .pre .1 .1) (c .before .before .before .before .if1 .left)
-    _ (behind s _ (c .before .before .before .find .ensures)) _ (rw name (c .names-source .ensures))
+    _ (behind s _ (c .before .before .before .source .ensures)) _ (rw name (c .names-source .ensures))
 
 pub is-offered-spec : {M : Type 1} → statement M
 is-offered-spec =
     tie.close
     (tie.spec
     returns
-    find-requires
-    add-source
+    source-requires
     returns-2
     name-at-requires
     names-source-requires

@@ -23,40 +23,19 @@ returns-2 : tie.Need-returns-2
 unfolding other-by
 returns-2 c = rw (ne-eqb _ 1 (c .before .before .if1 .left), eq-eqb _ 2 (c .before .if2 .taken)) (c .table-against .ensures)
 
-type-against-requires : tie.Need-type-against-requires
-type-against-requires c κs = search needs
-
-returns-3 : tie.Need-returns-3
-unfolding other-by
-returns-3 c =
-    let e = c .before .before in
-    rw (ne-eqb _ 1 (e .before .if1 .left), ne-eqb _ 2 (e .if2 .left), eq-eqb _ 5 (c .before .if3 .taken)) (c .type-against .ensures)
-
-type-against-requires-2 : tie.Need-type-against-requires-2
-type-against-requires-2 c κs = search needs
-
-returns-4 : tie.Need-returns-4
-unfolding other-by
-returns-4 c =
-    let f = c .before .before in
-    let e = f .before in
-    rw (ne-eqb _ 1 (e .before .if1 .left), ne-eqb _ 2 (e .if2 .left), ne-eqb _ 5 (f .if3 .left), eq-eqb _ 6 (c .before .if4 .taken)) (c .type-against2 .ensures)
-
 definition-at-requires : tie.Need-definition-at-requires
 definition-at-requires c κs = search needs
 
 definition-or-requires : tie.Need-definition-or-requires
 definition-or-requires c κs = search needs
 
-returns-5 : tie.Need-returns-5
+returns-3 : tie.Need-returns-3
 unfolding other-by
-returns-5 c =
+returns-3 c =
     let d = c .before .before in
-    let g = d .before in
-    let f = g .before in
-    let e = f .before in
+    let e = d .before in
     let s = e .before .before .before .before in
-    rw (ne-eqb _ 1 (e .before .if1 .left), ne-eqb _ 2 (e .if2 .left), ne-eqb _ 5 (f .if3 .left), ne-eqb _ 6 (g .if4 .left), eq-eqb _ 7 (c .before .if5 .taken))
+    rw (ne-eqb _ 1 (e .before .if1 .left), ne-eqb _ 2 (e .if2 .left), eq-eqb _ 7 (c .before .if3 .taken))
     (c .definition-or .ensures ∙ ap (λ (x : Definition). definition-or (s .args .k .0) (x .parent)) (d .definition-at .ensures))
 
 number-at-requires : tie.Need-number-at-requires
@@ -65,27 +44,22 @@ number-at-requires c κs = search needs
 definition-or-requires-2 : tie.Need-definition-or-requires-2
 definition-or-requires-2 c κs = search needs
 
-returns-6 : tie.Need-returns-6
+returns-4 : tie.Need-returns-4
 unfolding other-by
-returns-6 c =
+returns-4 c =
     let h = c .before .before .before .before in
     let d = h .before in
-    let g = d .before in
-    let f = g .before in
-    let e = f .before in
+    let e = d .before in
     let s = e .before .before .before .before in
-    rw (ne-eqb _ 1 (e .before .if1 .left), ne-eqb _ 2 (e .if2 .left), ne-eqb _ 5 (f .if3 .left), ne-eqb _ 6 (g .if4 .left), ne-eqb _ 7 (h .if5 .left), eq-eqb _ 8 (c .before .before .before .if6 .taken))
+    rw (ne-eqb _ 1 (e .before .if1 .left), ne-eqb _ 2 (e .if2 .left), ne-eqb _ 7 (h .if3 .left), eq-eqb _ 8 (c .before .before .before .if4 .taken))
     (c .definition-or2 .ensures ∙ ap (definition-or (s .args .k .0)) (c .before .number-at .ensures) ∙ ap (λ (x : Definition). definition-or (s .args .k .0) (number-at (s .args .values .now) (x .augments .from))) (d .definition-at .ensures))
 
-returns-7 : tie.Need-returns-7
+returns-5 : tie.Need-returns-5
 unfolding other-by
-returns-7 c =
+returns-5 c =
     let h = c .before in
-    let d = h .before in
-    let g = d .before in
-    let f = g .before in
-    let e = f .before in
-    rw (ne-eqb _ 1 (e .before .if1 .left), ne-eqb _ 2 (e .if2 .left), ne-eqb _ 5 (f .if3 .left), ne-eqb _ 6 (g .if4 .left), ne-eqb _ 7 (h .if5 .left), ne-eqb _ 8 (c .if6 .left))
+    let e = h .before .before in
+    rw (ne-eqb _ 1 (e .before .if1 .left), ne-eqb _ 2 (e .if2 .left), ne-eqb _ 7 (h .if3 .left), ne-eqb _ 8 (c .if4 .left))
 
 pub other-by-spec : {M : Type 1} → statement M
 other-by-spec =
@@ -95,14 +69,10 @@ other-by-spec =
     returns
     table-against-requires
     returns-2
-    type-against-requires
-    returns-3
-    type-against-requires-2
-    returns-4
     definition-at-requires
     definition-or-requires
-    returns-5
+    returns-3
     number-at-requires
     definition-or-requires-2
-    returns-6
-    returns-7)
+    returns-4
+    returns-5)

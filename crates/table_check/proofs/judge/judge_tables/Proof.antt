@@ -65,7 +65,9 @@ picked-requires : tie.Need-picked-requires Inv-loop μ-loop
 picked-requires c κs = tt
 
 found-requires : tie.Need-found-requires Inv-loop μ-loop
-found-requires c κs = tt
+found-requires c κs =
+    let t = c .before .before .before in
+    omega (arith, t .loop-test .taken, t .before .before .count .ensures, start t .pre)
 
 returns : tie.Need-returns Inv-loop μ-loop
 unfolding table-broken

@@ -1,10 +1,11 @@
 //! Where the other one stands, for a refusal that is about two things: the
-//! name or label that was there first, the definition that holds the OID, the
-//! range before, the part of a table that does not fit.
+//! name or label that was there first, the module that does not offer the
+//! symbol, the definition that holds the OID, the range before, the part of a
+//! table, the column or the name in a list that does not fit.
 
 use super::{
     classes, oid_values, ranges_of, Chains, Definition, Kind, Module, Names, Refusal, Restriction,
-    Settled, Tables,
+    Settled, Tables, NOT_ACCESSIBLE, READ_CREATE, READ_WRITE,
 };
 
 /// The module derives, and the refusal is the one that it gets.
@@ -12,10 +13,13 @@ pub fn other(m: &Module, refusal: Refusal) -> Option<usize> {
     let place = refusal.place;
     let other = match refusal.number {
         9 => earlier_name(m, place),
+        10 => module_named(m, place),
         15 => earlier_holder(m, place),
         16 => range_before(m, place),
         18 => earlier_label(m, place),
         20 => of_table(m, place),
+        21 => created_column(m, place),
+        22 => hidden_object(m, place),
         _ => None,
     };
     // A row may augment itself.
@@ -33,6 +37,13 @@ fn earlier_name(m: &Module, place: usize) -> Option<usize> {
     let again = names().find(|name| name.start == place)?;
     let first = names().find(|name| name.word == again.word)?;
     Some(first.start)
+}
+
+/// The module's name behind FROM of the symbol's group.
+fn module_named(m: &Module, place: usize) -> Option<usize> {
+    let mut groups = m.groups.iter();
+    let group = groups.find(|group| group.symbols.iter().any(|symbol| symbol.start == place))?;
+    Some(group.module.start)
 }
 
 fn definition_at(m: &Module, place: usize) -> Option<usize> {
@@ -74,6 +85,8 @@ fn range_before(m: &Module, place: usize) -> Option<usize> {
     Some(ranges[at - 1].place)
 }
 
+/// A label that was there counts before a number that was there; a number out
+/// of range is wrong by itself.
 fn earlier_label(m: &Module, place: usize) -> Option<usize> {
     m.definitions.iter().find_map(|d| {
         let Restriction::Labels(labels) = &d.syntax.as_ref()?.restriction else {
@@ -81,10 +94,12 @@ fn earlier_label(m: &Module, place: usize) -> Option<usize> {
         };
         let at = labels.iter().position(|label| label.name.start == place)?;
         let again = &labels[at];
-        let first = labels[..at]
+        let earlier = &labels[..at];
+        let by_name = earlier
             .iter()
-            .find(|label| label.name.word == again.name.word || label.number == again.number)?;
-        Some(first.name.start)
+            .find(|label| label.name.word == again.name.word);
+        let by_number = || earlier.iter().find(|label| label.number == again.number);
+        Some(by_name.or_else(by_number)?.name.start)
     })
 }
 
@@ -115,11 +130,62 @@ fn of_table(m: &Module, place: usize) -> Option<usize> {
         return None;
     }
     if tables.is_row(i) && !tables.has_its_columns(i) {
-        return Some(name_of(tables.sequence(i)));
+        return wrong_column(&tables, i);
     }
     let row = tables.row_above(i);
     if row.is_some_and(|row| !tables.lists(row, i)) {
         return row.map(name_of);
     }
     d.augments.map(|name| name_of(tables.object(&name)))
+}
+
+/// Of the names that a row's SEQUENCE lists, the first that one before it
+/// equals; if they differ, the first that is no object at the row's OID plus
+/// one number.
+fn wrong_column(tables: &Tables, row: usize) -> Option<usize> {
+    let columns = &tables.m.definitions[tables.sequence(row)].columns;
+    let word = |k: usize| columns[k].name.word;
+    let again = (0..columns.len()).find(|k| (0..*k).any(|before| word(before) == word(*k)));
+    let elsewhere = || {
+        columns.iter().position(|column| {
+            let object = tables.object(&column.name);
+            tables.split(object).0 != tables.settled.oids[row]
+        })
+    };
+    again.or_else(elsewhere).map(|k| columns[k].name.start)
+}
+
+/// For a read-write column, the first read-create one in the list of its row's
+/// SEQUENCE type. This clause counts before the others of rule 21, which are
+/// about one object.
+fn created_column(m: &Module, place: usize) -> Option<usize> {
+    let names = Names::new(m);
+    let settled = settled(m, &names);
+    let tables = Tables::new(m, &names, &settled);
+    let i = definition_at(m, place)?;
+    if m.definitions[i].access != READ_WRITE {
+        return None;
+    }
+    let columns = &m.definitions[tables.sequence(tables.row_above(i)?)].columns;
+    let mut objects = columns
+        .iter()
+        .map(|column| &m.definitions[tables.object(&column.name)]);
+    let created = objects.find(|d| d.access == READ_CREATE)?;
+    Some(created.name.start)
+}
+
+/// The first not-accessible object in OBJECTS, unless the OID is wrong by
+/// itself.
+fn hidden_object(m: &Module, place: usize) -> Option<usize> {
+    let names = Names::new(m);
+    let i = definition_at(m, place)?;
+    let [.., 0, _] = settled(m, &names).oids[i][..] else {
+        return None;
+    };
+    let mut objects = m.definitions[i].objects.iter();
+    let hidden = objects.find(|name| {
+        let object = names.definition(name);
+        object.is_some_and(|object| m.definitions[object].access == NOT_ACCESSIBLE)
+    })?;
+    Some(hidden.start)
 }
