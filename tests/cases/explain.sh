@@ -141,6 +141,17 @@ said_first() {
     report "$1" "$?"
 }
 
+# table EDIT: a table of two columns, as sed edits it.
+table() {
+    sed "$1" <<-END
+	tb OBJECT-TYPE SYNTAX SEQUENCE OF TbEntry MAX-ACCESS not-accessible STATUS current DESCRIPTION "" ::= { t 1 }
+	en OBJECT-TYPE SYNTAX TbEntry MAX-ACCESS not-accessible STATUS current DESCRIPTION "" INDEX { ca } ::= { tb 1 }
+	TbEntry ::= SEQUENCE { ca Integer32, cb Integer32 }
+	ca OBJECT-TYPE SYNTAX Integer32 MAX-ACCESS not-accessible STATUS current DESCRIPTION "" ::= { en 1 }
+	cb OBJECT-TYPE SYNTAX Integer32 MAX-ACCESS read-write STATUS current DESCRIPTION "" ::= { en 2 }
+	END
+}
+
 test_explain_what_may_stand() {
     says "two words may stand" "4:40: refused 7: 'MAX-ACCES' may not stand here; UNITS or MAX-ACCESS may" 'a OBJECT-TYPE SYNTAX OBJECT IDENTIFIER MAX-ACCES read-only'
     says "words that are lower too" "4:26: refused 7: 'mandatory' may not stand here; obsolete, deprecated or current may" 'a OBJECT-IDENTITY STATUS mandatory'
@@ -200,14 +211,9 @@ test_explain_clauses() {
 
 # What a row stands against is named in the sentence.
 test_explain_tables() {
-    table='tb OBJECT-TYPE SYNTAX SEQUENCE OF TbEntry MAX-ACCESS not-accessible STATUS current DESCRIPTION "" ::= { t 1 }
-en OBJECT-TYPE SYNTAX TbEntry MAX-ACCESS not-accessible STATUS current DESCRIPTION "" INDEX { ca } ::= { tb 1 }
-TbEntry ::= SEQUENCE { ca Integer32, cb Integer32 }
-ca OBJECT-TYPE SYNTAX Integer32 MAX-ACCESS not-accessible STATUS current DESCRIPTION "" ::= { en 1 }
-cb OBJECT-TYPE SYNTAX Integer32 MAX-ACCESS read-write STATUS current DESCRIPTION "" ::= { en 2 }'
-    says "a column that is not listed" "8:1: refused 20: 'cb' is at the OID of the row 'en' plus one number, and the row's SEQUENCE type does not list it" "$(printf '%s' "$table" | sed 's/, cb Integer32//')"
-    says "a row that augments a column" "5:1: refused 20: 'en' augments 'ca', which is no row with INDEX" "$(printf '%s' "$table" | sed 's/INDEX/AUGMENTS/')"
-    says "a row that is read" "5:1: refused 21: 'en' is a table or a row, and these are not-accessible" "$(printf '%s' "$table" | sed '2s/not-accessible/read-only/')"
+    says "a column that is not listed" "8:1: refused 20: 'cb' is at the OID of the row 'en' plus one number, and the row's SEQUENCE type does not list it" "$(table 's/, cb Integer32//')"
+    says "a row that augments a column" "5:1: refused 20: 'en' augments 'ca', which is no row with INDEX" "$(table 's/INDEX/AUGMENTS/')"
+    says "a row that is read" "5:1: refused 21: 'en' is a table or a row, and these are not-accessible" "$(table '2s/not-accessible/read-only/')"
 }
 
 # 300 characters of two bytes stand before the place, and 300 behind it: on either side up to 100 bytes are shown, and none is cut.
@@ -230,4 +236,31 @@ test_explain_control_bytes() {
     python3 tests/at_terminal.py ./mib explain "$scratch/bell" | tr -d '\r' >"$scratch/output"
     grep -qxF -- '--\x07-- a_b' "$scratch/output" && grep -qxF '          ^' "$scratch/output"
     report "explain: a control byte at a terminal is seen, and the mark stands below the place" "$?"
+}
+
+# What a rule stands against, where the sentence names it; and symbols that are not offered.
+test_explain_named_others() {
+    rest='STATUS current DESCRIPTION "" ::= { t 1 }'
+    says "a label twice" "4:38: refused 18: 'x' is the label of an earlier item" "a OBJECT-TYPE SYNTAX INTEGER { x(1), x(2) } MAX-ACCESS read-only $rest"
+    says "a number twice" "4:38: refused 18: 'y' has the number of an earlier item, 'x'" "a OBJECT-TYPE SYNTAX INTEGER { x(1), y(1) } MAX-ACCESS read-only $rest"
+    says "a name that is listed twice" "5:1: refused 20: 'en' is a row whose SEQUENCE type lists 'ca' twice" "$(table '3s/cb/ca/')"
+    says "a name that is no column" "5:1: refused 20: 'en' is a row whose SEQUENCE type lists 'cb', which is no object at the row's OID plus one number" "$(table '5s/en 2/t 2/')"
+    says "a column that is written beside one that is created" "8:1: refused 21: 'cb' is a read-write column in a row that has a read-create one, 'ca'" "$(table '4s/not-accessible/read-create/')"
+    says "a not-accessible object that is listed" "9:1: refused 22: 'n' is a notification that lists a not-accessible object, 'ca'" "$(table '')
+n NOTIFICATION-TYPE OBJECTS { ca } STATUS current DESCRIPTION \"\" ::= { t 0 1 }"
+}
+
+# imported LABEL WANTED IMPORTS: the first line on a module with these imports; the module's name is not shown a second time.
+imported() {
+    printf 'T DEFINITIONS ::= BEGIN IMPORTS %s MODULE-IDENTITY FROM SNMPv2-SMI;\nt MODULE-IDENTITY LAST-UPDATED "" ORGANIZATION "" CONTACT-INFO "" DESCRIPTION "" ::= { iso 9 }\nEND\n' "$3" >"$scratch/module"
+    said_first "explain: $1" "1:33: refused 10: $2"
+    [ "$(./mib explain "$scratch/module" | wc -l)" = 3 ]
+    report "explain: $1, and that alone" "$?"
+}
+
+test_explain_imports() {
+    imported "a module that is not built in" "'SnmpAdminString' is imported from 'SNMP-FRAMEWORK-MIB', and this reader knows SNMPv2-SMI and SNMPv2-TC alone" 'SnmpAdminString FROM SNMP-FRAMEWORK-MIB'
+    imported "a symbol that no module offers" "'Foo' is not offered by 'SNMPv2-SMI', from which it is imported" 'Foo FROM SNMPv2-SMI'
+    imported "a symbol of SNMPv2-TC" "'DisplayString' is not offered by 'SNMPv2-SMI', from which it is imported; SNMPv2-TC offers it" 'DisplayString FROM SNMPv2-SMI'
+    imported "a symbol of SNMPv2-SMI" "'Integer32' is not offered by 'SNMPv2-TC', from which it is imported; SNMPv2-SMI offers it" 'Integer32 FROM SNMPv2-TC'
 }

@@ -2,8 +2,6 @@
 use crate::reason::has_other;
 use crate::reason::print_and_other;
 use crate::reason::print_other_word;
-use crate::word::print_word;
-use buffer::byte_at;
 use output::Output;
 use output::print;
 use reader::Refusal;
@@ -30,14 +28,10 @@ pub fn print_table(text: &[u8], refusal: Refusal, out: Output) -> Output {
     }
 }
 
-// The name that a row's SEQUENCE type lists; or only that it lists one, where what the row stands against is the type.
+// The name at fault in the list of a row's SEQUENCE type.
 fn print_listed(text: &[u8], refusal: Refusal, out: Output) -> Output {
     let out = print(out, b" is a row whose SEQUENCE type lists ");
-    let other = refusal.other;
-    match byte_at(text, other.0) {
-        b'a'..=b'z' => print_word(text, other.0, out),
-        _ => print(out, b"a name"),
-    }
+    print_other_word(text, refusal, out)
 }
 
 fn print_repeated(text: &[u8], refusal: Refusal, out: Output) -> Output {
