@@ -59,18 +59,22 @@ test_shelf_readme() {
     report "shelf: the README shows what is printed" "$?"
 }
 
-# A module of a conformance macro and a text over the limit are outside what is read; one that is at fault is not.
+# A module of a conformance macro, one that imports from a third module and a text over the limit are outside what is read; one that is at
+# fault is not, and neither is one that imports what SNMPv2-TC does not offer.
 test_shelf_outside() {
     sed 's/^END/g OBJECT-GROUP/' tests/texts/whole >"$scratch/group"
+    sed 's/IMPORTS/IMPORTS ifIndex FROM IF-MIB/' tests/texts/whole >"$scratch/third"
     head -c 65537 /dev/zero | tr '\0' ' ' >"$scratch/large"
     sed 's/^END/g GROUP/' tests/texts/whole >"$scratch/fault"
-    ./mib shelf "$scratch/group" "$scratch/large" "$scratch/fault" tests/texts/open >/dev/null 2>"$scratch/errors"
-    [ "$(cat "$scratch/errors")" = "$(line files 4)
+    sed 's/IMPORTS/IMPORTS ifIndex FROM SNMPv2-TC/' tests/texts/whole >"$scratch/import"
+    ./mib shelf "$scratch/group" "$scratch/third" "$scratch/large" "$scratch/fault" "$scratch/import" tests/texts/open >/dev/null 2>"$scratch/errors"
+    [ "$(cat "$scratch/errors")" = "$(line files 6)
 $(line accepted 0)
 $(line refused 2 1)
 $(line refused 3 1)
 $(line refused 7 2)
-$(line outside 2)
+$(line refused 10 2)
+$(line outside 3)
 $(line unread 0)" ]
     report "shelf: how many of the refused are outside what is read" "$?"
 }
