@@ -264,3 +264,13 @@ test_explain_imports() {
     imported "a symbol of SNMPv2-TC" "'DisplayString' is not offered by 'SNMPv2-SMI', from which it is imported; SNMPv2-TC offers it" 'DisplayString FROM SNMPv2-SMI'
     imported "a symbol of SNMPv2-SMI" "'Integer32' is not offered by 'SNMPv2-TC', from which it is imported; SNMPv2-SMI offers it" 'Integer32 FROM SNMPv2-TC'
 }
+
+# Of a word that is too long as much is quoted as a name may have.
+test_explain_long_word() {
+    long=$(printf '%60000s' '' | tr ' ' a)
+    printf '%s' "$long" >"$scratch/long"
+    quoted=$(printf '%64s' '' | tr ' ' a)
+    expect "explain: a name that is too long" 1 "$scratch/long:1:1: refused 5: '$quoted..' is a name of more than 64 bytes
+$(printf '%97s' '' | tr ' ' a)..
+^" "" explain "$scratch/long"
+}

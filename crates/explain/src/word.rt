@@ -7,6 +7,9 @@ use output::Output;
 use output::print;
 use output::show;
 
+// The most bytes that are quoted of a word, as many as a name may have.
+const LONGEST: usize = 64;
+
 pub fn is_digit(b: u8) -> bool {
     match b {
         b'0'..=b'9' => true,
@@ -90,6 +93,10 @@ fn print_quoted(text: &[u8], at: usize, out: Output) -> Output
 {
     let end = quoted_end(text, at);
     let out = print(out, b"'");
+    if LONGEST < end - at {
+        let part = show(out, &text[at..at + LONGEST]);
+        return print(part, b"..'");
+    }
     let out = show(out, &text[at..end]);
     print(out, b"'")
 }
