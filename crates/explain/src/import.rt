@@ -13,11 +13,7 @@ pub fn print_import(text: &[u8], refusal: Refusal, out: Output) -> Output {
     let clause = refusal.clause;
     match clause {
         1 => print_unoffered(text, place.0, module.0, out),
-        2 => print_unknown(text, module.0, out),
-        _ => print(
-            out,
-            b" is not offered by the module that it is imported from",
-        ),
+        _ => print_unknown(text, module.0, out),
     }
 }
 

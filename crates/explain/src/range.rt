@@ -31,13 +31,9 @@ pub fn print_limits(text: &[u8], refusal: Refusal, out: Output) -> Output {
     }
     match clause {
         1 => print(out, b" starts a range, and none may stand on this type"),
-        2 => print(
-            out,
-            b" starts a range outside the limits of its type: -2147483648 to 2147483647, or 0 to 4294967295 for Gauge32 and Unsigned32",
-        ),
         _ => print(
             out,
-            b" starts a range that may not stand on this type, or that is outside its limits",
+            b" starts a range outside the limits of its type: -2147483648 to 2147483647, or 0 to 4294967295 for Gauge32 and Unsigned32",
         ),
     }
 }
@@ -45,11 +41,7 @@ pub fn print_limits(text: &[u8], refusal: Refusal, out: Output) -> Output {
 fn print_size(clause: u8, out: Output) -> Output {
     match clause {
         1 => print(out, b" starts a size, and none may stand on this type"),
-        2 => print(out, b" starts a size outside 0 to 65535"),
-        _ => print(
-            out,
-            b" starts a size that may not stand on this type, or that is outside 0 to 65535",
-        ),
+        _ => print(out, b" starts a size outside 0 to 65535"),
     }
 }
 
@@ -92,17 +84,15 @@ fn wide(x: u32) -> usize {
     x as usize
 }
 
-// An item of an enumeration. One that stands against none has a number out of range.
+// An item of an enumeration.
 pub fn print_item(text: &[u8], refusal: Refusal, out: Output) -> Output {
     let clause = refusal.clause;
-    if has_other(refusal) {
-        if clause == 2 {
-            return print_and_other(text, refusal, b" has the number of an earlier item", out);
-        }
-        return print(out, b" is the label of an earlier item");
+    match clause {
+        1 => print(out, b" is the label of an earlier item"),
+        2 => print_and_other(text, refusal, b" has the number of an earlier item", out),
+        _ => print(
+            out,
+            b" has a number out of range: an INTEGER's may be -2147483648 to 2147483647, and none of BITS is negative",
+        ),
     }
-    print(
-        out,
-        b" has a number out of range: an INTEGER's may be -2147483648 to 2147483647, and none of BITS is negative",
-    )
 }

@@ -45,14 +45,11 @@ pub fn print_other_word(text: &[u8], refusal: Refusal, out: Output) -> Output {
     print_word(text, other.0, out)
 }
 
-// Some words, and then what it stands against, if anything.
+// Some words, and then what it stands against.
 pub fn print_and_other(text: &[u8], refusal: Refusal, words: &[u8], out: Output) -> Output {
     let out = print(out, words);
-    if has_other(refusal) {
-        let out = print(out, b", ");
-        return print_other_word(text, refusal, out);
-    }
-    out
+    let out = print(out, b", ");
+    print_other_word(text, refusal, out)
 }
 
 fn print_byte(text: &[u8], place: usize, out: Output) -> Output {

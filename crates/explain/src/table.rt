@@ -23,8 +23,7 @@ pub fn print_table(text: &[u8], refusal: Refusal, out: Output) -> Output {
         5 => print_repeated(text, refusal, out),
         6 => print_stray(text, refusal, out),
         7 => print_unlisted(text, refusal, out),
-        8 => print_augments(text, refusal, out),
-        _ => print(out, b" breaks a rule on tables"),
+        _ => print_augments(text, refusal, out),
     }
 }
 
@@ -85,11 +84,10 @@ pub fn print_access(text: &[u8], refusal: Refusal, out: Output) -> Output {
         ),
         2 => print(out, b" is a table or a row, and these are not-accessible"),
         3 => print(out, b" is read-create, and no column"),
-        4 => print(
+        _ => print(
             out,
             b" is a counter, and these are read-only or accessible-for-notify, without DEFVAL",
         ),
-        _ => print(out, b" breaks a rule on access"),
     }
 }
 
@@ -105,12 +103,11 @@ pub fn print_notification(text: &[u8], refusal: Refusal, out: Output) -> Output 
             out,
             b" is a notification whose next-to-last number is not 0",
         ),
-        3 => print_and_other(
+        _ => print_and_other(
             text,
             refusal,
             b" is a notification that lists a not-accessible object",
             out,
         ),
-        _ => print(out, b" breaks a rule on notifications"),
     }
 }
