@@ -135,7 +135,7 @@ fn cases_by_hand() {
         let expected = (case.number, place, case.other);
         assert_eq!(other(&case.text), expected, "{}", case.title);
     }
-    assert_eq!(cases.len(), 228);
+    assert_eq!(cases.len(), 246);
 }
 
 /// Those with long texts are below.

@@ -1,6 +1,6 @@
-//! A reading of the module rules, made from the paper alone: the answer for
-//! any text and any lengths of the two lent buffers. Comments in quotation
-//! marks are the paper's words.
+//! A reading of the module rules, made from the paper and change request
+//! No. 8 alone: the answer for any text and any lengths of the two lent
+//! buffers. Comments in quotation marks are the paper's words.
 
 mod grammar;
 mod listing;

@@ -224,7 +224,8 @@ impl Chains {
                     at = next;
                 }
                 None => {
-                    let oid = symbols::built_in_oid(value.head.word).unwrap_or(&[]);
+                    let oid = symbols::built_in_oid(value.head.word);
+                    let oid = oid.expect("by rules 10 and 11 a head is built in or defined");
                     path.push((at, Head::BuiltIn(oid)));
                     self.reached[at] = true;
                 }
@@ -240,7 +241,8 @@ impl Chains {
 }
 
 fn parts<'m>(m: &'m Module, i: usize) -> &'m [u32] {
-    m.definitions[i].value.as_ref().map_or(&[], |v| &v.parts)
+    let value = m.definitions[i].value.as_ref();
+    &value.expect("a chain is of definitions with an OID").parts
 }
 
 /// "definition whose heads never reach a built-in name"
@@ -596,17 +598,23 @@ impl<'m, 'a> Tables<'m, 'a> {
     }
 }
 
-/// "a notification's next-to-last number isn't 0, or it has fewer than two;
-/// or it lists a not-accessible object"
+/// It is always there: a head has at least one number, since `iso` has one,
+/// the other built-in names have more and a defined head has those of its own
+/// head; "{ lower part part* }" asks for a part after it, which has one.
+fn next_to_last(oid: &[u32]) -> u32 {
+    let number = oid.iter().nth_back(1);
+    *number.expect("an OID has a number of its head and one of a part")
+}
+
+/// "a notification's next-to-last number isn't 0", "or it lists a
+/// not-accessible object"
 fn notification_wrong(m: &Module, names: &Names, settled: &Settled) -> Option<usize> {
     let hidden = |name: &Token| {
         let object = names.definition(name);
         object.is_some_and(|i| m.definitions[i].access == NOT_ACCESSIBLE)
     };
-    let wrong = |d: &Definition, oid: &[u32]| {
-        let under_zero = matches!(oid, [.., 0, _]);
-        !under_zero || d.objects.iter().any(hidden)
-    };
+    let wrong =
+        |d: &Definition, oid: &[u32]| next_to_last(oid) != 0 || d.objects.iter().any(hidden);
     let mut definitions = m.definitions.iter().zip(&settled.oids);
     definitions
         .find(|(d, oid)| d.kind == Kind::Notification && wrong(d, oid))

@@ -4,8 +4,8 @@
 //! table, the column or the name in a list that does not fit.
 
 use super::{
-    classes, oid_values, ranges_of, Chains, Definition, Kind, Module, Names, Refusal, Restriction,
-    Settled, Tables, NOT_ACCESSIBLE, READ_CREATE, READ_WRITE,
+    classes, next_to_last, oid_values, ranges_of, Chains, Definition, Kind, Module, Names, Refusal,
+    Restriction, Settled, Tables, NOT_ACCESSIBLE, READ_CREATE, READ_WRITE,
 };
 
 /// The module derives, and the refusal is the one that it gets.
@@ -174,14 +174,14 @@ fn created_column(m: &Module, place: usize) -> Option<usize> {
     Some(created.name.start)
 }
 
-/// The first not-accessible object in OBJECTS, unless the OID is wrong by
-/// itself.
+/// The first not-accessible object in OBJECTS, unless the next-to-last number
+/// isn't 0: that clause comes first, and there the OID is wrong by itself.
 fn hidden_object(m: &Module, place: usize) -> Option<usize> {
     let names = Names::new(m);
     let i = definition_at(m, place)?;
-    let [.., 0, _] = settled(m, &names).oids[i][..] else {
+    if next_to_last(&settled(m, &names).oids[i]) != 0 {
         return None;
-    };
+    }
     let mut objects = m.definitions[i].objects.iter();
     let hidden = objects.find(|name| {
         let object = names.definition(name);
