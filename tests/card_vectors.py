@@ -35,6 +35,17 @@ def longest_lines():
     return rule_examples.whole(names)[0]
 
 
+def notification(oid):
+    """A module with a notification at the end, and where that one starts. `a` has the shortest OID there is, 1.0."""
+    given = b'a OBJECT IDENTIFIER ::= { iso 0 }\n', b'n NOTIFICATION-TYPE STATUS current DESCRIPTION "" ::= { %s }\n' % oid
+    module, start = rule_examples.whole(b"".join(given))
+    return module, start + len(given[0])
+
+
+# The first lines of an accepted one.
+ACCEPTED = b"accepted\t3\n1\tt\t1.9\t0\t0\t0\n2\ta\t1.0\t0\t0\t0\n"
+
+
 def vectors():
     """A name, a text, and its card where it is known from elsewhere."""
     yield "whole", WHOLE, PRINTED
@@ -47,6 +58,10 @@ def vectors():
     yield "bytes-65536", WHOLE + b" " * (65536 - len(WHOLE)), PRINTED
     yield "bytes-65537", WHOLE + b" " * (65537 - len(WHOLE)), b"refused\t2\t0\n"
     yield "empty", b"", b"refused\t7\t0\n"
+    # Of two numbers the next-to-last is the head's, which is 1 in 1.5; behind `a` it is 0.
+    module, place = notification(b"iso 5")
+    yield "two-numbers", module, b"refused\t22\t%d\n" % place
+    yield "three-numbers", notification(b"a 5")[0], ACCEPTED + b"7\tn\t1.0.5\t0\t0\t1\n"
 
 
 def cards(cases):

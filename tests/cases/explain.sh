@@ -207,6 +207,7 @@ test_explain_clauses() {
     says "a counter that is written" "4:1: refused 21: 'a' is a counter, and these are read-only or accessible-for-notify, without DEFVAL" "a OBJECT-TYPE SYNTAX Counter32 MAX-ACCESS read-write $rest"
     says "a scalar that is created" "4:1: refused 21: 'a' is read-create, and no column" "a OBJECT-TYPE SYNTAX Integer32 MAX-ACCESS read-create $rest"
     says "a notification under 1" "4:1: refused 22: 'n' is a notification whose next-to-last number is not 0" "n NOTIFICATION-TYPE $rest"
+    says "a notification of two numbers" "4:1: refused 22: 'n' is a notification whose next-to-last number is not 0" 'n NOTIFICATION-TYPE STATUS current DESCRIPTION "" ::= { iso 5 }'
 }
 
 # What a row stands against is named in the sentence.

@@ -23,7 +23,7 @@ use Rattle.object_tree.specs.Words.{is-object}
 use Rattle.index.specs.Choice.{if_then_else_}
 use Rattle.object_tree.proofs.Parents.{both}
 use Rattle.access_check.specs.Access.{clashes, is-written-column, access-clause}
-use Rattle.access_check.specs.Notification.{is-short, is-not-zeroed}
+use Rattle.access_check.specs.Notification.{is-not-zeroed}
 use Rattle.access_check.specs.Found.{own-clause}
 
 -- ---- what a rule says, by its first breach
@@ -105,9 +105,6 @@ module _ (ds : List Definition) (values : List ℕ) (k : ℕ) where
 module _ (numbers : List ℕ) (from count : ℕ) (oid : List ℕ) (h : from + count ≤ length numbers) (held : run numbers from count ≡ oid) where
   pub run-long : length oid ≡ count
   run-long = sym (ap length held) ∙ run-length numbers from count h
-
-  pub short-run : ltb count 2 ≡ is-short oid
-  short-run = ap (λ (x : ℕ). ltb x 2) (sym run-long)
 
   pub next-to-last : 2 ≤ length oid → not (eqb (getD numbers (from + (count - 2)) 0) 0) ≡ is-not-zeroed oid
   next-to-last two =

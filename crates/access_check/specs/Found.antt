@@ -11,7 +11,7 @@ use Rattle.object_tree.specs.Words.{is-object, numbered}
 use Rattle.index.specs.Choice.{if_then_else_}
 use Rattle.sequence_list.specs.Named.{type-of}
 use Rattle.access_check.specs.Access.{is-written-column, open-table, created-alone, unfit-counter}
-use Rattle.access_check.specs.Notification.{notification-clause}
+use Rattle.access_check.specs.Notification.{TwoNumbers, notification-clause}
 use Rattle.access_check.specs.declared.Check.{Check}
 use Rattle.access_check.specs.declared.Check.the-variants.{Access, Notification}
 
@@ -28,6 +28,11 @@ own-clause ds d =
 abbrev pub check-clause : List Definition → List ℕ → List ℕ → Check → ℕ → ℕ
 check-clause ds values numbers Access k = own-clause ds (entry ds k)
 check-clause ds values numbers Notification k = notification-clause ds values numbers k
+
+-- what a check takes for granted: that on notifications, that each has two numbers at least
+abbrev pub Granted : List Definition → List ℕ → Check → Type 0
+Granted ds numbers Access = Unit {0}
+Granted ds numbers Notification = TwoNumbers ds numbers
 
 -- definition k is at fault so
 abbrev pub is-faulty : List Definition → List ℕ → List ℕ → Check → ℕ → Bool

@@ -3,7 +3,7 @@ ghost use mathlib.Core.Path.{_≡_};
 ghost use lib.ListN.{length};
 ghost use Rattle.index.specs.First.{first};
 ghost use Rattle.module_table.specs.Definition.{definitions-in};
-ghost use Rattle.access_check.specs.Found.{check-clause, is-faulty};
+ghost use Rattle.access_check.specs.Found.{Granted, check-clause, is-faulty};
 use crate::Check;
 use crate::access::own_clause;
 use crate::notification::notification_clause;
@@ -19,6 +19,7 @@ pub fn clause_at(
     check: Check,
     k: RecordIndex,
 ) -> u8
+    requires { ⌜ Granted (definitions-in (now definitions)) (now numbers) check ⌝ }
     ensures { λ r. ⌜ r ≡ check-clause (definitions-in (now (definitions .entry))) (now (values .entry)) (now (numbers .entry)) check (k .0) ⌝ }
 {
     match check {
@@ -29,6 +30,7 @@ pub fn clause_at(
 
 // The first definition that is at fault so; the number of definitions where none is.
 pub fn first_fault(values: &[u32], definitions: &[usize], numbers: &[u32], check: Check) -> usize
+    requires { ⌜ Granted (definitions-in (now definitions)) (now numbers) check ⌝ }
     ensures { λ r. ⌜ r ≡ first (is-faulty (definitions-in (now (definitions .entry))) (now (values .entry)) (now (numbers .entry)) check) 0 (length (definitions-in (now (definitions .entry)))) ⌝ }
 {
     let n = count(definitions);

@@ -3,7 +3,7 @@ ghost use mathlib.Core.Path.{_≡_};
 ghost use Rattle.rule.specs.Rule.{judge-one};
 ghost use Rattle.module_table.specs.Definition.{definitions-in};
 ghost use Rattle.access_check.specs.Access.{access-broken};
-ghost use Rattle.access_check.specs.Notification.{notification-broken};
+ghost use Rattle.access_check.specs.Notification.{TwoNumbers, notification-broken};
 ghost use Rattle.access_check.specs.Found.{found};
 use crate::Check;
 use crate::clash::access_other;
@@ -68,6 +68,7 @@ pub fn judge_access(values: &[u32], definitions: &[usize], numbers: &[u32]) -> J
 
 // What refusal 22 says.
 pub fn judge_notifications(values: &[u32], definitions: &[usize], numbers: &[u32]) -> Judgement
+    requires { ⌜ TwoNumbers (definitions-in (now definitions)) (now numbers) ⌝ }
     ensures { λ r. ⌜ r ≡ judge-one (notification-broken (definitions-in (now (definitions .entry))) (now (values .entry)) (now (numbers .entry))) ⌝ }
 {
     let n = count(definitions);

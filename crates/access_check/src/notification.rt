@@ -4,7 +4,7 @@ ghost use lib.ListN.{length};
 ghost use Prim.Native.Nat.{_≤_};
 ghost use Rattle.module_table.specs.Definition.{definitions-in};
 ghost use Rattle.module_table.specs.Module.{oid-in};
-ghost use Rattle.access_check.specs.Notification.{is-short, is-not-zeroed, lists-hidden, notification-clause, notification-other};
+ghost use Rattle.access_check.specs.Notification.{TwoNumbers, is-not-zeroed, lists-hidden, notification-clause, notification-other};
 use crate::access::first_with;
 use index::RecordIndex;
 use index::TokenIndex;
@@ -14,15 +14,7 @@ use object_tree::NOT_ACCESSIBLE;
 use object_tree::is_notification;
 use oid_run::run_of;
 
-// Whether an OID has fewer than two numbers.
-fn is_short(numbers: &[u32], d: Definition) -> bool
-    ensures { λ r. ⌜ r ≡ is-short (oid-in (now (numbers .entry)) d) ⌝ }
-{
-    let run = run_of(numbers, d);
-    run.count < 2
-}
-
-// Whether the next-to-last number of an OID of two numbers or more isn't 0.
+// Whether the next-to-last number of an OID isn't 0. It has two at least: a head has one, and the grammar has a part behind it.
 fn is_not_zeroed(numbers: &[u32], d: Definition) -> bool
     requires { ⌜ 2 ≤ length (oid-in (now numbers) d) ⌝ }
     ensures { λ r. ⌜ r ≡ is-not-zeroed (oid-in (now (numbers .entry)) d) ⌝ }
@@ -48,20 +40,18 @@ pub fn notification_clause(
     numbers: &[u32],
     k: RecordIndex,
 ) -> u8
+    requires { ⌜ TwoNumbers (definitions-in (now definitions)) (now numbers) ⌝ }
     ensures { λ r. ⌜ r ≡ notification-clause (definitions-in (now (definitions .entry))) (now (values .entry)) (now (numbers .entry)) (k .0) ⌝ }
 {
     let d = definition_at(definitions, k);
     if !is_notification(d) {
         return 0;
     }
-    if is_short(numbers, d) {
+    if is_not_zeroed(numbers, d) {
         return 1;
     }
-    if is_not_zeroed(numbers, d) {
-        return 2;
-    }
     if lists_hidden(values, definitions, d) {
-        return 3;
+        return 2;
     }
     0
 }
@@ -76,7 +66,7 @@ pub fn notification_other(
     ensures { λ r. ⌜ r .0 ≡ notification-other (definitions-in (now (definitions .entry))) (now (values .entry)) (k .0) clause ⌝ }
 {
     let d = definition_at(definitions, k);
-    if clause == 3 {
+    if clause == 2 {
         return TokenIndex(first_with(values, definitions, NOT_ACCESSIBLE, d.objects));
     }
     d.name

@@ -10,10 +10,10 @@ use borrow.Author.Tests.{ltb-true}
 use lib.Dec.{ltb, eqb}
 use Rattle.index.specs.First.{first}
 use Rattle.index.proofs.Search.{first-inside, first-none}
-use Rattle.terminal.specs.Terminal.{SYNTAX}
-use Rattle.definition.specs.Landmark.{class-at}
+use Rattle.terminal.specs.Terminal.{right-brace, assign, SYNTAX}
+use Rattle.definition.specs.Landmark.{class-at, kind-at, has-oid}
 use Rattle.definition.specs.declared.Span.{Span}
-use Rattle.definition.specs.Fields.{span, nowhere, ends-syntax, syntax-span, syntax-behind}
+use Rattle.definition.specs.Fields.{span, nowhere, braced-at, ends-syntax, syntax-span, syntax-behind, oid-span}
 
 -- the span's tokens are some of those from d up to e
 pub record Inside (d e : ℕ) (s : Span) : Type 0 where
@@ -67,3 +67,12 @@ module _ (cs : List ℕ) (d e : ℕ) (fits : d ≤ e) where
   unfolding syntax-behind
   syntax-inside =
       after-word (λ (i : ℕ). eqb (class-at cs i) SYNTAX) (ends-syntax cs) 1 e (omega arith) (omega arith)
+
+  -- the brace after `::=` may be the token at the end, and then its span ends behind it
+  pub oid-inside : Inside d (e + 1) (oid-span cs d e)
+  unfolding oid-span braced-at
+  oid-inside =
+      either (has-oid (kind-at cs d))
+      (λ t.
+      after-word (λ (i : ℕ). eqb (class-at cs i) assign) (λ (i : ℕ). eqb (class-at cs i) right-brace) 2 (e + 1) (omega arith) (omega arith))
+      (λ t. none-inside (e + 1) (omega arith))

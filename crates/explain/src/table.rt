@@ -97,10 +97,6 @@ pub fn print_notification(text: &[u8], refusal: Refusal, out: Output) -> Output 
     match clause {
         1 => print(
             out,
-            b" is a notification whose OID has fewer than two numbers",
-        ),
-        2 => print(
-            out,
             b" is a notification whose next-to-last number is not 0",
         ),
         _ => print_and_other(

@@ -17,3 +17,4 @@ pub mod Imports
 pub mod Needs
 pub mod OfTree
 pub mod Examples
+pub mod OfText

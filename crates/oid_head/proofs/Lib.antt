@@ -1,3 +1,4 @@
 pub mod Meaning
 pub mod Unreached
 pub mod Reaching
+pub mod Least

@@ -49,16 +49,16 @@ parts-few classes values span =
       hits-below (is-number classes) (length classes) (past-last classes) (span .from) (span .to),
     )
 
--- ---- in a span that lies among the tokens they are those of the crate `definition`
+-- ---- in a span that ends among the tokens they are those of the crate `definition`
 
-hits-same : (p q : ℕ → Bool) (n a : ℕ) → ((i : ℕ) → i < a + n → p i ≡ q i) → hits-of p a n ≡ hits-of q a n
+hits-same : (p q : ℕ → Bool) (n a : ℕ) → ((i : ℕ) → a ≤ i → i < a + n → p i ≡ q i) → hits-of p a n ≡ hits-of q a n
 unfolding hits-of
 hits-same p q zero a same = refl
 hits-same p q (suc n) a same =
-    ap (λ (b : Bool). cond b (a ∷ hits-of p (suc a) n) (hits-of p (suc a) n)) (same a (omega arith))
-    ∙ ap (λ (l : List ℕ). cond (q a) (a ∷ l) l) (hits-same p q n (suc a) (λ i h. same i (omega arith)))
+    ap (λ (b : Bool). cond b (a ∷ hits-of p (suc a) n) (hits-of p (suc a) n)) (same a (omega arith) (omega arith))
+    ∙ ap (λ (l : List ℕ). cond (q a) (a ∷ l) l) (hits-same p q n (suc a) (λ i l h. same i (omega arith) (omega arith)))
 
-pub tokens-inside : (classes : List ℕ) (span : Span) → span .from ≤ span .to → span .to ≤ length classes → number-tokens classes span ≡ oid-numbers classes span
+pub tokens-inside : (classes : List ℕ) (span : Span) → span .to ≤ length classes → number-tokens classes span ≡ oid-numbers classes span
 unfolding number-tokens oid-numbers hits
-tokens-inside classes span order inside =
-    hits-same _ _ (span .to - span .from) (span .from) (λ i h. rw (lt-ltb i (length classes) (omega arith)))
+tokens-inside classes span inside =
+    hits-same _ _ (span .to - span .from) (span .from) (λ i l h. rw (lt-ltb i (length classes) (omega arith)))

@@ -13,7 +13,8 @@ use Rattle.index.specs.First.{first}
 use Rattle.index.proofs.Hits.{inside-same, hit-inside, first-hit-is, next-hit}
 use Rattle.definition.specs.Landmark.{begins, last-token, definitions, definition-end}
 use Rattle.definition.specs.Fields.{fields-of}
-use Rattle.definition.proofs.Next.{next-from-end}
+use Rattle.definition.proofs.Inside.{oid-inside}
+use Rattle.definition.proofs.Next.{end-inside, next-from-end}
 use Rattle.module_table.specs.declared.Definition.{Definition}
 use Rattle.module_table.specs.Definition.{width, definitions-in, absent, entry, Stored}
 use Rattle.module_table.specs.Module.{most-definitions}
@@ -35,6 +36,21 @@ module _ (cs : List ℕ) where
   pub outline-entry : (k : ℕ) → k < length (definitions cs) → entry (outline cs) k ≡ outlined-at cs (getD (definitions cs) k 0)
   unfolding outline
   outline-entry k h = map-entry (outlined-at cs) (definitions cs) k h
+
+  -- no OID ends behind the last token
+  pub oid-ends : (k : ℕ) → k < length (outline cs) → entry (outline cs) k .oid .to ≤ length cs
+  unfolding definitions fields-of
+  oid-ends k h =
+      let d = getD (definitions cs) k 0 in
+      let inside : k < length (definitions cs) = omega (arith, outline-counted) in
+      let before : d < last-token cs = hit-inside (begins cs) 0 (last-token cs) k inside .1 in
+      let end = end-inside cs d before in
+      omega (
+        arith,
+        ap (λ (x : Definition). x .oid .to) (outline-entry k inside),
+        oid-inside cs d (definition-end cs d) (omega (arith, end .0)) .ends,
+        end .1,
+      )
 
 -- ---- the first words of a table
 

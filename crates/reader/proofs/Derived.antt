@@ -16,9 +16,11 @@ use Rattle.rule.specs.Rule.{judge-one, judge}
 use Rattle.rule.specs.declared.Finding.{Finding}
 use Rattle.rule.specs.declared.Judgement.{Judgement}
 use Rattle.rule.specs.declared.Judgement.the-variants.{Kept, Broken}
-use Rattle.token.specs.Token.{Tok, Meaning, meanings}
-use Rattle.token.specs.Cut.{meanings-in}
+use Rattle.token.specs.Token.{Tok, Meaning, meanings, class-of-token}
+use Rattle.token.specs.Cut.{cut, meanings-in}
 use Rattle.token.specs.Table.{overlaid}
+use Rattle.grammar.specs.Grammar.{smi-module}
+use Rattle.grammar.specs.Derivation.{DerivesTokens}
 use Rattle.definition.specs.Landmark.{class-at, is-lower}
 use Rattle.definition.specs.Members.{is-name}
 use Rattle.module_table.specs.declared.Definition.{Definition}
@@ -28,6 +30,7 @@ use Rattle.scope.specs.Token.{classes-of, spelled, TokensHeld}
 use Rattle.scope.proofs.Tokens.{classes-are, placed-name}
 use Rattle.outline.specs.Outline.{outline}
 use Rattle.naming.specs.Values.{values-of, named}
+use Rattle.module_tree.proofs.OfText.{text-numbered}
 use Rattle.oid_head.specs.Oid.{named-in, first-number}
 use Rattle.oid_tree.specs.Stage.{with-oids}
 use Rattle.oid_head.specs.Unreached.{unreached}
@@ -39,6 +42,7 @@ use Rattle.type_class.specs.Stage.{definitions-classed}
 use Rattle.enumeration.specs.Item.{spelling-in}
 use Rattle.syntax_check.specs.Refusal.{rules-over}
 use Rattle.object_tree.specs.Tree.{parents-added}
+use Rattle.access_check.specs.Notification.{TwoNumbers}
 use Rattle.reader.specs.Reading.{numbered, classed, module-of, object-rules, starts-of, judged, records-of}
 use Rattle.reader.specs.Buffers.{examined-to, refusal-of, Laid}
 use Rattle.reader.specs.Stage.{Classed, Related}
@@ -47,6 +51,7 @@ use Rattle.reader.specs.declared.Examined.the-variants.{Accepted}
 use Rattle.reader.proofs.Counting.{numbers-counted}
 use Rattle.reader.proofs.Row.{first-kept}
 use Rattle.reader.proofs.Spelled.{rules-judged}
+use Rattle.reader.proofs.TwoNumbers.{notifications-two}
 
 -- ---- how names are spelled
 
@@ -127,10 +132,18 @@ module _ (text classes starts ends : List ℕ) (t : TokensHeld text classes star
                 ∙ rules-judged classes values (spelling-in text starts ends) (spelled ms) spelled-alike (definitions-classed classes values (definitions-in w1))
                 ∙ (λ i. judge (rules-over (spelled ms) (classes-are text classes starts ends t i) (vs i) (now-classed i)))
 
-            module _ (o : Judgement) (w3 : List ℕ) (l : Related values (take used n1) o w2 w3) where
-              now-related : parents-added (take used n1) (definitions-in w2) ≡ module-of ms .definitions
-              now-related = λ i. parents-added (part-held i) (classes-held i)
+            now-related : parents-added (take used n1) (definitions-in w2) ≡ module-of ms .definitions
+            now-related = λ i. parents-added (part-held i) (classes-held i)
 
+            -- with their parents, the notifications have two numbers each, if the grammar derives the tokens
+            pub two-related : DerivesTokens class-of-token smi-module (cut text .tokens)
+                → TwoNumbers (parents-added (take used n1) (definitions-in w2)) (take used n1)
+            unfolding with-oids
+            two-related derives =
+                subst (λ (x : List Definition × List ℕ). TwoNumbers (x .0) (x .1)) (sym (λ i. (now-related i, part-held i)))
+                (notifications-two ms (text-numbered text derives) (sym oids-judged ∙ kept))
+
+            module _ (o : Judgement) (w3 : List ℕ) (l : Related values (take used n1) o w2 w3) where
               pub module-held : definitions-in w3 ≡ module-of ms .definitions
               module-held = l .held ∙ now-related
 

@@ -14,7 +14,10 @@ use Rattle.token.specs.Cut.{cut, meanings-in}
 use Rattle.token.specs.Table.{TokenTable}
 use Rattle.token.proofs.Entries.{class-at, start-at, end-at}
 use Rattle.scope.specs.Token.{TokensHeld}
-use Rattle.syntax.specs.Parsing.{Tabled}
+use Rattle.grammar.specs.Grammar.{smi-module}
+use Rattle.grammar.specs.Derivation.{DerivesTokens}
+use Rattle.syntax.specs.Parsing.{Parses, Tabled}
+use Rattle.syntax.proofs.Parsed.{derived-text}
 use Rattle.syntax.specs.declared.Answer.{Answer as Parsing}
 use Rattle.syntax.specs.declared.Answer.the-variants.{Derived, Underived, Uncut}
 use Rattle.reader.specs.Reading.{judged, rules, outcome}
@@ -79,6 +82,10 @@ module _ (text : List ℕ) (p : Parsing) where
 
     pub derived-tokens : (classes starts ends : List ℕ) → Tabled text p classes starts ends → TokenTable text (cut text .tokens) classes starts ends n
     derived-tokens classes starts ends t = subst (λ (q : Parsing). Tabled text q classes starts ends) derived t
+
+    -- and the grammar derives the tokens
+    pub derived-derives : Parses text p → DerivesTokens class-of-token smi-module (cut text .tokens)
+    derived-derives right = derived-text text n (subst (Parses text) derived right) .derives
 
 -- there are no more tokens than bytes
 pub tokens-few : {text classes starts ends : List ℕ} → TokensHeld text classes starts ends → length classes ≤ 65536

@@ -5,6 +5,8 @@ pub mod Laying
 pub mod Parts
 pub mod Row
 pub mod Counting
+pub mod Leaving
+pub mod TwoNumbers
 pub mod Stages
 pub mod Spelled
 pub mod Derived

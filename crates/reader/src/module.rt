@@ -3,7 +3,10 @@ ghost use mathlib.Core.Path.{_≡_};
 ghost use Prim.Native.Nat.{_≤_, _*_};
 ghost use lib.ListN.{length, getD};
 ghost use Rattle.rule.specs.Rule.{judge};
+ghost use Rattle.token.specs.Token.{class-of-token};
 ghost use Rattle.token.specs.Cut.{cut, meanings-in};
+ghost use Rattle.grammar.specs.Grammar.{smi-module};
+ghost use Rattle.grammar.specs.Derivation.{DerivesTokens};
 ghost use Rattle.scope.specs.Token.{TokensHeld};
 ghost use Rattle.naming.specs.Told.{judgement};
 ghost use Rattle.token.specs.Table.{longest-text};
@@ -109,7 +112,7 @@ fn blank_table() -> [usize; TABLE_WORDS]
     [0usize; TABLE_WORDS]
 }
 
-// Reads a module. The slices hold the text's tokens; after a refusal the record buffer is as it was.
+// Reads a module. The slices hold the text's tokens, which the grammar derives; after a refusal the record buffer is as it was.
 pub fn read_derived(
     text: &[u8],
     classes: &[u8],
@@ -121,6 +124,7 @@ pub fn read_derived(
     requires tokens { ⌜ TokensHeld (now text) (now classes) (now starts) (now ends) ⌝ }
     requires records { ⌜ record-words ≤ length (now records) ⌝ }
     requires numbers { ⌜ number-words ≤ length (now numbers) ⌝ }
+    requires derived { ⌜ DerivesTokens class-of-token smi-module (cut (now text) .tokens) ⌝ }
     ensures answered { λ r. ⌜ r ≡ examined-to (judged (cut (now (text .entry)) .tokens) (judge (rules (meanings-in (now (text .entry)))))) ⌝ }
     ensures laid { λ r. ⌜ Laid (judged (cut (now (text .entry)) .tokens) (judge (rules (meanings-in (now (text .entry)))))) (now (records .entry)) (now (records .exit)) (now (numbers .entry)) (now (numbers .exit)) ⌝ }
 {

@@ -7,40 +7,20 @@ use native.Mathlib.Omega.{arith}
 use lib.ListN.{length, getD, take, drop, length-append, List·getD-append}
 use lib.Seq.{take-at}
 use Rattle.token.specs.Token.{Meaning}
-use Rattle.module_table.specs.declared.Definition.{Definition}
-use Rattle.module_table.specs.Module.{Module, at, count-of, oid-in}
-use Rattle.module_table.proofs.Filled.{column-kept}
+use Rattle.module_table.specs.Module.{Module, at, count-of}
 use Rattle.naming.specs.Values.{named}
 use Rattle.oid_head.specs.Oid.{resolved-oid, numbers-before, first-number}
 use Rattle.oid_tree.specs.Stage.{with-oids}
-use Rattle.oid_tree.proofs.Cut.{buffer-oid}
-use Rattle.type_class.specs.Stage.{with-class}
-use Rattle.object_tree.specs.Tree.{parent-of, with-parent, parents-added}
 use Rattle.records.specs.Record.{record-width, record-of, records-before}
 use Rattle.records.proofs.Words.{before-long, word-at}
-use Rattle.reader.specs.Reading.{numbered, classed, module-of}
+use Rattle.reader.specs.Reading.{module-of}
 use Rattle.reader.specs.Buffers.{record-words, number-words, zeros, filled}
+use Rattle.reader.proofs.Leaving.{module-oid}
 use Rattle.statements.specs.Statements.{record-word}
-use Rattle.statements.proofs.RisingModule.{classes-leave}
-
--- what neither class nor parent changes
-pub module-leaves : {B : Type 0} (g : Definition → B) → ((d : Definition) (class sequence : ℕ) → g (with-class d class sequence) ≡ g d)
-    → ((parent : ℕ) (d : Definition) → g (with-parent parent d) ≡ g d)
-    → (ms : List Meaning) (k : ℕ) → g (at (module-of ms) k) ≡ g (at (numbered ms) k)
-unfolding parents-added
-module-leaves g class parent ms k =
-    column-kept g (λ (i : ℕ) (d : Definition). with-parent (parent-of (classed ms .definitions) (classed ms .numbers) i) d) (λ i d. parent _ d) (classed ms .definitions) k
-    ∙ classes-leave g class (numbered ms .classes) (numbered ms .values) (numbered ms .definitions) k
 
 module _ (ms : List Meaning) where
   abbrev m : Module
   m = named ms
-
-  -- a buffer that starts with the numbers of all definitions
-  pub module-oid : (buffer : List ℕ) → take (first-number m (count-of m)) buffer ≡ numbers-before m (count-of m)
-      → (k : ℕ) → oid-in buffer (at (module-of ms) k) ≡ resolved-oid m k
-  module-oid buffer held k =
-      module-leaves (oid-in buffer) (λ d class sequence. refl) (λ parent d. refl) ms k ∙ buffer-oid m buffer held k
 
   -- the two buffers as they are left
   module _ (starts ends records numbers : List ℕ) where
@@ -71,4 +51,4 @@ module _ (ms : List Meaning) where
     unfolding record-of
     words-cut k l =
         ap₂ (λ (count start : ℕ). take count (drop start run)) (word-left k 4 l (omega arith)) (word-left k 3 l (omega arith))
-        ∙ module-oid run numbers-first k
+        ∙ module-oid ms run numbers-first k

@@ -7,21 +7,19 @@ use mathlib.Core.List.{List, []}
 use Prim.Native.Nat.{ℕ, _-_, _*_, _≤_, _<_}
 use native.Mathlib.Omega.{arith}
 use lib.ListN.{length, take, drop}
-use lib.Seq.{take-length}
 use Rattle.rule.specs.Rule.{judge}
 use Rattle.rule.specs.declared.Judgement.the-variants.{Kept}
 use Rattle.rule.proofs.Judged.{AllKept, judged-kept}
 use Rattle.token.specs.Token.{Meaning}
 use Rattle.token.specs.Cut.{cut, meanings-in}
 use Rattle.syntax.specs.declared.Answer.{Answer as Parsing}
-use Rattle.module_table.specs.Module.{at, oid-of}
+use Rattle.module_table.specs.Module.{at}
 use Rattle.module_table.specs.Module.{count-of as definitions-in}
 use Rattle.naming.specs.Rules.{name-rules}
 use Rattle.naming.specs.Values.{named}
-use Rattle.oid_head.specs.Oid.{has-value, resolved-oid, numbers-before}
+use Rattle.oid_head.specs.Oid.{has-value, resolved-oid}
 use Rattle.oid_head.specs.Unreached.{unreached}
 use Rattle.oid_head.proofs.Unreached.{kept-has-oid, kept-one-oid}
-use Rattle.oid_tree.specs.Stage.{with-oids}
 use Rattle.reader.proofs.Counting.{module-counted}
 use Rattle.records.specs.Record.{record-width}
 use Rattle.records.proofs.Words.{before-long}
@@ -35,7 +33,8 @@ use Rattle.statements.specs.Breach.{WithinLimits}
 use Rattle.statements.specs.Statements.{OidIs, record-word, FirstDemand, SecondDemand}
 use Rattle.statements.proofs.Limits.{Lent, short, long, within, lent}
 use Rattle.statements.proofs.Filled.{filled-beyond, filled-unused}
-use Rattle.statements.proofs.CutOut.{module-oid, words-cut}
+use Rattle.reader.proofs.Leaving.{recorded-oid}
+use Rattle.statements.proofs.CutOut.{words-cut}
 use Rattle.statements.proofs.Room.{kept-rest, words-fit}
 use Rattle.statements.proofs.Breaches.{Ordered}
 use Rattle.statements.proofs.Right.{refused-exactly, accepted-exactly, accepted-is, later-refusal}
@@ -48,11 +47,6 @@ resolved-of ms kept k h has = (kept-has-oid (named ms) k reached has, kept-one-o
   where
     reached : unreached (named ms) .breach k ≡ false
     reached = kept-rest (name-rules ms) (later-rules ms) kept .0 k (omega arith) (omega (arith, module-counted ms))
-
--- those are the numbers recorded
-recorded-oid : (ms : List Meaning) (k : ℕ) → oid-of (module-of ms) k ≡ resolved-oid (named ms) k
-unfolding with-oids
-recorded-oid ms k = module-oid ms (numbers-before (named ms) (definitions-in (named ms))) (take-length (numbers-before (named ms) (definitions-in (named ms)))) k
 
 -- after a refusal no word is read
 none-read : (o : Outcome) → 0 < number-of (answer-to o) → (records-in o ≡ []) × (numbers-in o ≡ [])

@@ -32,6 +32,6 @@ pub mod ModuleBreaches
 pub mod Breaches
 pub mod RangesRising
 pub mod Parents
+pub mod Printed
 pub mod Searching
-pub mod Derived
 pub mod Statements

@@ -31,7 +31,7 @@ use Rattle.statements.proofs.Tests.{both, joined, left, right}
 use Rattle.statements.proofs.Rising.{classed-keeps, module-keeps}
 use Rattle.statements.proofs.NameBreaches.{spelled-same}
 use Rattle.statements.proofs.OidBreaches.{all-there}
-use Rattle.statements.proofs.CutOut.{module-leaves}
+use Rattle.reader.proofs.Leaving.{module-leaves}
 
 -- a list without its last number
 same-before : (xs ys : List ℕ) (x y : ℕ) → xs ++ (x ∷ []) ≡ ys ++ (y ∷ []) → xs ≡ ys

@@ -1,14 +1,12 @@
 -- Where the definitions of a module stand, stage by stage: each stage leaves their number, their names and their syntaxes.
 -- Assumes nothing.
 use mathlib.Core.Path.{_≡_, refl, sym, ap, _∙_}
-use mathlib.Core.Bool.{Bool, true, false, cond}
 use mathlib.Core.List.{List}
 use Prim.Native.Nat.{ℕ, _<_}
 use native.Mathlib.Decide.{decLt}
 use native.Mathlib.Omega.{arith}
-use lib.Dec.{eqb}
 use lib.ListN.{length, getD, List·getD-eq-default}
-use Rattle.definition.specs.Landmark.{definitions, object, convention}
+use Rattle.definition.specs.Landmark.{definitions}
 use Rattle.module_table.specs.declared.Definition.{Definition}
 use Rattle.module_table.specs.Definition.{absent, entry, changed}
 use Rattle.module_table.specs.Module.{Module}
@@ -17,8 +15,9 @@ use Rattle.definition.specs.Fields.{fields-at}
 use Rattle.outline.specs.Outline.{outline}
 use Rattle.outline.proofs.Outline.{outline-counted, outline-entry}
 use Rattle.oid_tree.specs.Stage.{with-oid, with-oids}
-use Rattle.type_class.specs.Stage.{with-class, convention-classed, object-classed, conventions-classed, definitions-classed}
+use Rattle.type_class.specs.Stage.{definitions-classed}
 use Rattle.reader.proofs.Counting.{classes-counted}
+use Rattle.reader.proofs.Leaving.{classes-leave}
 use Rattle.object_tree.specs.Tree.{parent-of, with-parent, parents-added}
 
 -- the second list has as many definitions as the first, with the same names and syntaxes
@@ -46,19 +45,6 @@ stage-keeps f name syntax ds = record {
 pub oids-keep : (m : Module) → Keeps (m .definitions) (with-oids m .definitions)
 unfolding with-oids with-oid
 oids-keep m = stage-keeps (with-oid m) (λ k d. refl) (λ k d. refl) (m .definitions)
-
--- a definition is left as it is, or has another class
-either : {B : Type 0} (g : Definition → B) (b : Bool) (d e : Definition) → g e ≡ g d → g (cond b e d) ≡ g d
-either g true d e same = same
-either g false d e same = refl
-
--- what no class changes
-pub classes-leave : {B : Type 0} (g : Definition → B) → ((d : Definition) (class sequence : ℕ) → g (with-class d class sequence) ≡ g d)
-    → (cs vs : List ℕ) (ds : List Definition) (k : ℕ) → g (entry (definitions-classed cs vs ds) k) ≡ g (entry ds k)
-unfolding convention-classed object-classed
-classes-leave g same cs vs ds k =
-    column-kept g (λ i. λ d. object-classed cs vs (conventions-classed cs vs ds) d) (λ i d. either g (eqb (d .kind) object) d _ (same d _ _)) (conventions-classed cs vs ds) k
-    ∙ column-kept g (λ i. λ d. convention-classed cs vs d) (λ i d. either g (eqb (d .kind) convention) d _ (same d _ _)) ds k
 
 pub classes-keep : (cs vs : List ℕ) (ds : List Definition) → Keeps ds (definitions-classed cs vs ds)
 classes-keep cs vs ds = record {

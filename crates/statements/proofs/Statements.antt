@@ -18,7 +18,8 @@ use Rattle.statements.proofs.Breaches.{Ordered}
 use Rattle.statements.proofs.Rising.{rules-in-order, rules-placed}
 use Rattle.statements.proofs.Demands.{first-demand, second-demand}
 use Rattle.statements.proofs.Third.{third-demand}
-use Rattle.statements.proofs.Derived.{of-derivation}
+use Rattle.module_tree.proofs.OfText.{of-text}
+use Rattle.statements.proofs.Printed.{two-numbers, no-answer-changed}
 use Rattle.statements.proofs.Alike.{quotes-alike, read-once}
 use Rattle.statements.proofs.Printing.{prints, printed-alike, octets-bound}
 use Rattle.statements.proofs.Rows.{state-kept, same-answer}
@@ -38,7 +39,9 @@ statements = record {
   quotes = quotes-alike answer-to;
   third-demand = λ text. third-demand text (order text);
   what-may-stand = λ classes. begun (yield smi-module) classes (run module-automaton classes) (grammar-theorem classes);
-  of-derivation = of-derivation;
+  of-derivation = of-text;
+  two-numbers = two-numbers;
+  no-answer-changed = no-answer-changed;
   read-settled = read-once answer-to;
   examine-settled = read-once examined-to;
   octets = λ hint value answer before after a. prints _ _ before answer after a;

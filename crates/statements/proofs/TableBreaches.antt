@@ -7,8 +7,8 @@ use mathlib.Core.List.{List}
 use Prim.Native.Nat.{ℕ, _+_, _-_, _≤_, _<_}
 use native.Mathlib.Omega.{arith}
 use lib.Dec.{eqb, ltb}
-use lib.ListN.{length, getD}
-use borrow.Author.Tests.{eqb-true, eqb-false, eq-eqb, ne-eqb, ltb-true, lt-ltb}
+use lib.ListN.{getD}
+use borrow.Author.Tests.{eqb-true, eqb-false, eq-eqb, ne-eqb}
 use Rattle.index.proofs.Search.{any-at}
 use Rattle.module_table.specs.declared.Definition.{Definition}
 use Rattle.module_table.specs.Module.{Module, at, oid-of}
@@ -18,8 +18,8 @@ use Rattle.clause_table.specs.Clause.{is-of, rows-of, is-first-under, has-its-r
 use Rattle.clause_table.proofs.OneRow.{exactly-one, one-is-all}
 use Rattle.table_check.specs.Refusal.{clause-of}
 use Rattle.access_check.specs.Access.{has-access, creates, is-written-column, clashes, open-table, created-alone, is-counter, is-counter-access, unfit-counter, access-clause}
-use Rattle.access_check.specs.Notification.{is-short, is-not-zeroed, lists-hidden, notification-clause}
-use Rattle.statements.specs.Breach.{OneRow, TableFault, rowless, stray, unindexed, indexed, repeating, misnaming, unlisted, unfounded, AccessFault, clashing, accessible, created, counter, defaulted, NotificationFault, not-zero, short, hidden, object-at, last-number}
+use Rattle.access_check.specs.Notification.{is-not-zeroed, lists-hidden, notification-clause}
+use Rattle.statements.specs.Breach.{OneRow, TableFault, rowless, stray, unindexed, indexed, repeating, misnaming, unlisted, unfounded, AccessFault, clashing, accessible, created, counter, defaulted, NotificationFault, not-zero, hidden, object-at, last-number}
 use Rattle.statements.proofs.Tests.{both, joined, either, left, right, denied, deny, fails, never, found, unfound, clause-told, clause-none, clause-here, clause-later, clause-kept, clause-keeping}
 
 module _ (m : Module) (k : ℕ) where
@@ -334,16 +334,14 @@ module _ (m : Module) (k : ℕ) where
   notification-told e =
       let o = clause-kept (is-notification d) _ e in (
         o .0,
-        clause-told (is-short oid) 0 _ (o .1) (λ t. short (ltb-true (length oid) 2 t))
-            (λ e. clause-told (is-not-zeroed oid) 1 _ e (λ t. not-zero (eqb-false _ 0 (denied _ t)))
-            (λ e. clause-told (lists-hidden ds (m .values) d) 2 _ e hidden-told clause-none)),
+        clause-told (is-not-zeroed oid) 0 _ (o .1) (λ t. not-zero (eqb-false _ 0 (denied _ t)))
+            (λ e. clause-told (lists-hidden ds (m .values) d) 1 _ e hidden-told clause-none),
       )
 
   pub notification-clauses : is-notification d ≡ true → NotificationFault m k → ltb 0 (notification-clause ds (m .values) (m .numbers) k) ≡ true
   unfolding notification-clause
   notification-clauses o (not-zero other) =
-      clause-keeping (is-notification d) _ o (clause-later (is-short oid) 0 _ (clause-here (is-not-zeroed oid) 1 _ (deny (ne-eqb _ 0 other))))
-  notification-clauses o (short few) = clause-keeping (is-notification d) _ o (clause-here (is-short oid) 0 _ (lt-ltb (length oid) 2 few))
+      clause-keeping (is-notification d) _ o (clause-here (is-not-zeroed oid) 0 _ (deny (ne-eqb _ 0 other)))
   notification-clauses o (hidden i l h is) =
       clause-keeping (is-notification d) _ o
-      (clause-later (is-short oid) 0 _ (clause-later (is-not-zeroed oid) 1 _ (clause-here (lists-hidden ds (m .values) d) 2 _ (hidden-clause i l h is))))
+      (clause-later (is-not-zeroed oid) 0 _ (clause-here (lists-hidden ds (m .values) d) 1 _ (hidden-clause i l h is)))

@@ -199,12 +199,10 @@ pub data AccessFault (m : Module) (k : ℕ) : Type 0 where
   -- ", without DEFVAL"
   defaulted : is-object (at m k) ≡ true → (at m k .class ≡ counter32) ⊎ (at m k .class ≡ counter64) → at m k .default ≡ 1 → AccessFault m k
 
--- 22, of definition k, a notification
+-- 22, of definition k, a notification, as request 8 of document 02 has it
 pub data NotificationFault (m : Module) (k : ℕ) : Type 0 where
-  -- "a notification's next-to-last number isn't 0"
+  -- "a notification's next-to-last number isn't 0"; there is one, since each OID has two at least (`two-numbers`)
   not-zero : (getD (oid-of m k) (length (oid-of m k) - 2) 0 ≡ 0 → ⊥) → NotificationFault m k
-  -- "or it has fewer than two"
-  short : length (oid-of m k) < 2 → NotificationFault m k
   -- "or it lists a not-accessible object"
   hidden : (i : ℕ) → at m k .objects .from ≤ i → i < at m k .objects .to → named-object m i .access ≡ not-accessible
       → NotificationFault m k
@@ -257,7 +255,7 @@ pub data ModuleBreach (ms : List Meaning) : ℕ → ℕ → Type 0 where
   table-rules : {k : ℕ} → k < definition-count ms → TableFault (module-of ms) k → ModuleBreach ms 20 (name-token ms k)
   -- 21: access rules
   access-rules : {k : ℕ} → k < definition-count ms → AccessFault (module-of ms) k → ModuleBreach ms 21 (name-token ms k)
-  -- 22: a notification's next-to-last number isn't 0, or it has fewer than two; or it lists a not-accessible object
+  -- 22: a notification's next-to-last number isn't 0, or it lists a not-accessible object
   notification-rules : {k : ℕ} → k < definition-count ms → is-notification (at (module-of ms) k) ≡ true → NotificationFault (module-of ms) k
       → ModuleBreach ms 22 (name-token ms k)
 
@@ -277,9 +275,13 @@ pub data InBreach (text : List ℕ) (records numbers : ℕ) : ℕ → ℕ → Ty
   in-module : {number token : ℕ} → Cuts text → Derives text → ModuleBreach (meanings-in text) number token
       → InBreach text records numbers number (start-of (cut text .tokens) token)
 
--- The rule of this number is broken at this place; no rule of an earlier rank is broken anywhere, and none of its own rank, whichever
--- its number, at an earlier place.
-pub record FirstBreach (text : List ℕ) (records numbers number place : ℕ) : Type 0 where
-  pub broken : InBreach text records numbers number place
-  pub no-earlier-rank : (m q : ℕ) → rank m < rank number → InBreach text records numbers m q → ⊥
-  pub nowhere-earlier : (m q : ℕ) → rank m ≡ rank number → q < place → InBreach text records numbers m q → ⊥
+-- By what says where a rule is broken: that of this number is, at this place; no rule of an earlier rank is broken anywhere, and none of its
+-- own rank, whichever its number, at an earlier place.
+pub record First (Broken : ℕ → ℕ → Type 0) (number place : ℕ) : Type 0 where
+  pub broken : Broken number place
+  pub no-earlier-rank : (m q : ℕ) → rank m < rank number → Broken m q → ⊥
+  pub nowhere-earlier : (m q : ℕ) → rank m ≡ rank number → q < place → Broken m q → ⊥
+
+-- the first breach of a text that is lent so
+abbrev pub FirstBreach : List ℕ → ℕ → ℕ → ℕ → ℕ → Type 0
+FirstBreach text records numbers = First (InBreach text records numbers)

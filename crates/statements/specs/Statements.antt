@@ -1,6 +1,6 @@
 -- The statements: what is promised of reading a module, of printing by DISPLAY-HINT and of the row answers, each under the sentence
--- of document 01 that it puts into symbols. There is no proof here: `Statements`, the last record, holds them all, and
--- proofs/Statements.antt has a value of it.
+-- of document 01, or of a request of document 02, that it puts into symbols. There is no proof here: `Statements`, the last record, holds
+-- them all, and proofs/Statements.antt has a value of it.
 --
 -- Each is about a call's contract, which the call's `ensures` cites and which it is proved to keep whatever it is given: `Reads` for
 -- reader::read, `Examines` for reader::examine, `PrintedOctets` for hint::octets, `PrintedInteger` for hint::integer, `Sets` for
@@ -30,7 +30,7 @@ use Rattle.module_table.specs.declared.Lead.the-variants.{Definition}
 use Rattle.scope.specs.Token.{classes-of}
 use Rattle.module_tree.specs.OfTree.{OfTree}
 use Rattle.naming.specs.Values.{named}
-use Rattle.oid_head.specs.Oid.{HasOid, has-value}
+use Rattle.oid_head.specs.Oid.{HasOid, has-value, name-of, Reaches}
 use Rattle.records.specs.Record.{record-width}
 use Rattle.reader.specs.Reading.{Outcome, module-of, records-of}
 use Rattle.reader.specs.Buffers.{number-of, place-of, answered-count, record-words, number-words, zeros, filled, answer-to, examined-to, ReadsAs, Reads}
@@ -46,6 +46,7 @@ use Rattle.row_status.specs.declared.Answer.{Answer as RowAnswer}
 use Rattle.statements.specs.Card.{card-text, record-of-t, record-of-a, card-numbers}
 use Rattle.statements.specs.Searches.{Searches}
 use Rattle.statements.specs.Breach.{WithinLimits, Cuts, Derives, InBreach, FirstBreach}
+use Rattle.statements.specs.Printed.{NoAnswerChanged}
 
 -- ---- Reading a module
 
@@ -210,6 +211,12 @@ pub record Statements : Type 0 where
   -- the identity and of the defs, its imports those of the groups, and each name that is used stands where the grammar has one of that sort
   pub of-derivation : (text : List ℕ) (d : Derivation class-of-token smi-module) → tokens-of class-of-token smi-module d ≡ cut text .tokens
       → OfTree (classes-of (meanings-in text)) (tree-of class-of-token smi-module d)
+  -- "A head has at least one and the grammar asks for a part after it": of derived tokens, each definition whose heads reach a built-in
+  -- name, as 12 asks of all that are of a kind with an OID, has two numbers in its OID at least
+  pub two-numbers : (text : List ℕ) → Derives text → (k : ℕ) → Reaches (named (meanings-in text)) (name-of k)
+      → 2 ≤ length (oid-of (module-of (meanings-in text)) k)
+  -- so rule 22 needs no test for that: "No answer changes"
+  pub no-answer-changed : (text : List ℕ) (records numbers : ℕ) → NoAnswerChanged text records numbers
   -- the contracts leave nothing open: number, place, count and each lent word are settled; of reader::examine, clause and other place too
   pub read-settled : (text : List ℕ) → ReadAlike text text
   pub examine-settled : (text : List ℕ) → ExaminedAlike text text

@@ -5,7 +5,7 @@ use native.Mathlib.Omega.{arith}
 use lib.Seq.{length-take-le}
 use Rattle.token.specs.Cut.{cut}
 use Rattle.token.specs.Table.{TokenTable}
-use Rattle.reader.proofs.Laying.{slices-held, unparsed-answer, unparsed-laid, derived-answer, derived-laid, derived-tokens}
+use Rattle.reader.proofs.Laying.{slices-held, unparsed-answer, unparsed-laid, derived-answer, derived-laid, derived-tokens, derived-derives}
 use borrow.Author.Needs.{needs}
 use Rattle.reader.proofs.read_into.Statement.{statement}
 use Rattle.reader.proofs.read_into.Tie as tie
@@ -63,7 +63,8 @@ read-derived-requires : tie.Need-read-derived-requires
 read-derived-requires c κs =
     let k = c .before .before .before .before .before in
     let s = start (k .before .before .before) in
-    (slices-held _ _ _ _ _ (table k), (s .pre .1 .0, s .pre .1 .1))
+    let q = k .before .before .before in
+    (slices-held _ _ _ _ _ (table k), (s .pre .1 .0, (s .pre .1 .1, derived-derives (s .args .text .now) (q .parse .result) _ (k .before .parsed .given .1) (q .parse .ensures .0))))
 
 same-length : tie.Need-same-length
 same-length c = search needs

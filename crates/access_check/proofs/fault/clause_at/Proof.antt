@@ -1,9 +1,9 @@
 -- `clause_at` is right, check by check.
 -- Assumes nothing.
-use mathlib.Core.Path.{sym, ap, _∙_}
+use mathlib.Core.Path.{sym, ap, subst, _∙_}
 use Rattle.module_table.specs.Definition.{definitions-in}
 use Rattle.access_check.specs.declared.Check.{Check}
-use Rattle.access_check.specs.Found.{own-clause, check-clause}
+use Rattle.access_check.specs.Found.{Granted, own-clause, check-clause}
 use borrow.Author.Needs.{needs}
 use Rattle.access_check.proofs.fault.clause_at.Statement.{statement}
 use Rattle.access_check.proofs.fault.clause_at.Tie as tie
@@ -21,7 +21,9 @@ enum-told-2 : tie.Need-enum-told-2
 enum-told-2 c = search needs
 
 notification-clause-requires : tie.Need-notification-clause-requires
-notification-clause-requires c κs = search needs
+notification-clause-requires c κs =
+    let s = c .before .before .before .before .before in
+    subst (Granted (definitions-in (s .args .definitions .now)) (s .args .numbers .now)) (c .enum-told2 .given .1) (s .pre)
 
 returns : tie.Need-returns
 returns c =

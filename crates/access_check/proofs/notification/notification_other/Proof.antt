@@ -22,14 +22,14 @@ unfolding notification-other
 returns c =
     let d = c .before .before in
     let s = d .before .before .before in
-    rw (eq-eqb _ 3 (c .before .if1 .taken))
+    rw (eq-eqb _ 2 (c .before .if1 .taken))
     (c .first-with .ensures ∙ ap (λ (x : Definition). first-with (definitions-in (s .args .definitions .now)) (s .args .values .now) not-accessible (x .objects)) (d .definition-at .ensures))
 
 returns-2 : tie.Need-returns-2
 unfolding notification-other
 returns-2 c =
     let e = c .before in
-    rw (ne-eqb _ 3 (e .if1 .left)) (ap (λ (x : Definition). x .name .0) (e .before .definition-at .ensures))
+    rw (ne-eqb _ 2 (e .if1 .left)) (ap (λ (x : Definition). x .name .0) (e .before .definition-at .ensures))
 
 pub notification-other-spec : {M : Type 1} → statement M
 notification-other-spec =

@@ -125,7 +125,7 @@ used-room : (u : tie.After-numbers-used) → u .numbers-used .result ≤ length 
 used-room u =
     let e = u .before .before in
     let o = after-oids e in
-    omega (arith, u .numbers-used .ensures, numbers-few e, o .collect-oids .ensures .numbers-long, start (named (after-names o)) .pre .1 .1)
+    omega (arith, u .numbers-used .ensures, numbers-few e, o .collect-oids .ensures .numbers-long, start (named (after-names o)) .pre .1 .1 .0)
 
 twins-judged : (w : tie.After-judge-twins) → w .judge-twins .result ≡ judge-one (held-twice (numbered (ms (named (after-names (after-oids (w .before .before .before .before .before))))) .definitions) (numbered (ms (named (after-names (after-oids (w .before .before .before .before .before))))) .numbers))
 twins-judged w =
@@ -270,7 +270,7 @@ collect-oids-requires : tie.Need-collect-oids-requires
 collect-oids-requires c κs =
     let k = c .before .before .before .before in
     let s = start (named k) in
-    (few-classes _ _ _ _ (s .pre .0), (omega (arith, outlined-long k, few k), s .pre .1 .1))
+    (few-classes _ _ _ _ (s .pre .0), (omega (arith, outlined-long k, few k), s .pre .1 .1 .0))
 
 enum-told-2 : tie.Need-enum-told-2
 enum-told-2 c = search needs
@@ -368,8 +368,13 @@ returns-4 c =
 judge-objects-requires : tie.Need-judge-objects-requires
 judge-objects-requires c κs =
     let y = c .before .before .before .before .before in
-    let k = after-names (oided y) in
-    omega (arith, ap length (classes-held y), counting.classed-counted (ms (named k)), holds k .1, few k)
+    let u = twinned y .before .before .before in
+    let e = u .before .before in
+    let o = after-oids e in
+    let k = after-names o in (
+      omega (arith, ap length (classes-held y), counting.classed-counted (ms (named k)), holds k .1, few k),
+      derived.two-related _ _ _ _ (start (named k) .pre .0) _ _ (values-are k) (holds k .2) _ _ _ _ (o .collect-oids .ensures) (e .enum-told2 .given .1) _ (u .numbers-used .ensures) _ _ (y .judge-syntaxes .ensures) (start (named k) .pre .1 .1 .1),
+    )
 
 enum-told-8 : tie.Need-enum-told-8
 enum-told-8 c = search needs

@@ -3,7 +3,7 @@
 use native.Mathlib.Omega.{arith}
 use lib.ListN.{length}
 use Rattle.reader.proofs.Counting.{parents-counted}
-use mathlib.Core.Path.{_≡_, ap, _∙_}
+use mathlib.Core.Path.{_≡_, sym, ap, subst, _∙_}
 use mathlib.Core.List.{List}
 use Rattle.rule.specs.Rule.{judge-one}
 use Rattle.module_table.specs.declared.Definition.{Definition}
@@ -11,7 +11,7 @@ use Rattle.module_table.specs.Definition.{definitions-in}
 use Rattle.object_tree.specs.Tree.{parents-added}
 use Rattle.table_check.specs.Refusal.{table-broken}
 use Rattle.access_check.specs.Access.{access-broken}
-use Rattle.access_check.specs.Notification.{notification-broken}
+use Rattle.access_check.specs.Notification.{TwoNumbers, notification-broken}
 use Rattle.reader.specs.Reading.{object-rules}
 use Rattle.reader.proofs.Row.{first-of-three, second-of-three, third-of-three}
 use borrow.Author.Needs.{needs}
@@ -50,7 +50,7 @@ judge-tables-requires : tie.Need-judge-tables-requires
 judge-tables-requires c κs =
     let p = c .before .before .before in
     let s = p .before .before .before .before .before in
-    omega (arith, ap length (p .collect-parents .ensures), parents-counted (s .args .numbers .now) (definitions-in (s .args .definitions .now)), s .pre)
+    omega (arith, ap length (p .collect-parents .ensures), parents-counted (s .args .numbers .now) (definitions-in (s .args .definitions .now)), s .pre .0)
 
 enum-told : tie.Need-enum-told
 enum-told c = search needs
@@ -92,7 +92,10 @@ returns-2 c =
     }
 
 judge-notifications-requires : tie.Need-judge-notifications-requires
-judge-notifications-requires c κs = search needs
+judge-notifications-requires c κs =
+    let t = tables (c .before .before .before) in
+    let s = start t in
+    subst (λ (ds : List Definition). TwoNumbers ds (s .args .numbers .now)) (sym (parents t .collect-parents .ensures)) (s .pre .1)
 
 same-length-3 : tie.Need-same-length-3
 same-length-3 c = search needs
