@@ -180,14 +180,6 @@ module _ (test : ℕ → Bool) where
   unfolding any
   none-any a b l none = le-ltb (first test a b) b (omega (arith, first-end a b l none))
 
-not-true : (b : Bool) → not b ≡ true → b ≡ false
-not-true true e = absurd (true-false e refl)
-not-true false e = refl
-
-not-false : (b : Bool) → not b ≡ false → b ≡ true
-not-false true e = refl
-not-false false e = absurd (true-false refl e)
-
 module _ (test : ℕ → Bool) where
   pub at-all : (a b : ℕ) → a ≤ b → ((i : ℕ) → a ≤ i → i < b → test i ≡ true) → all test a b ≡ true
   unfolding all

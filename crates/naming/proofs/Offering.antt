@@ -19,15 +19,6 @@ use Rattle.naming.specs.Rules.{not-offered}
 use Rattle.naming.specs.Told.{offer-at, missing}
 use Rattle.naming.specs.declared.offer.Offer.the-variants.{Word, Missing}
 
--- what holds of the opposite of a test
-pub not-true : (b : Bool) → not b ≡ true → b ≡ false
-not-true true e = let z : _≡_ {A = ℕ} 0 1 = cc in absurd (omega arith)
-not-true false e = refl
-
-pub not-false : (b : Bool) → not b ≡ false → b ≡ true
-not-false true e = refl
-not-false false e = let z : _≡_ {A = ℕ} 0 1 = cc in absurd (omega arith)
-
 module _ (ms : List Meaning) (i : ℕ) where
   abbrev breaks : Bool
   breaks = is-import (classes-of ms) i && not (offered ms i)

@@ -7,6 +7,7 @@ use mathlib.Core.List.{List, [], _++_}
 use Prim.Native.Nat.{ℕ, zero, suc, _+_, _-_, _≤_, _<_}
 use native.Mathlib.Decide.{decLt}
 use native.Mathlib.Omega.{arith}
+use borrow.Author.Tests.{not-true, not-false}
 use lib.ListN.{List·getD-eq-default}
 use Rattle.index.specs.Walk.{after}
 use Rattle.index.specs.declared.RecordIndex.{RecordIndex}
@@ -18,15 +19,6 @@ use Rattle.module_table.specs.declared.Definition.{Definition}
 use Rattle.module_table.specs.declared.Lead.{Lead}
 use Rattle.module_table.specs.declared.Lead.the-variants.{Iso, Import, Nothing}
 use Rattle.oid_head.specs.Oid.{HasOid, of-iso, of-symbol, of-definition, has-value, head-of, parts-of, is-built-in, next-head, name-of, reached-in, Reaches, reaches, name-numbers, definition-numbers, resolved-oid}
-
--- a test that is turned round
-pub not-true : (b : Bool) → not b ≡ true → b ≡ false
-not-true true e = absurd (true-false e refl)
-not-true false e = refl
-
-pub not-false : (b : Bool) → not b ≡ false → b ≡ true
-not-false true e = refl
-not-false false e = absurd (true-false refl e)
 
 -- past the last definition there is no OID value
 pub no-value : has-value absent ≡ false

@@ -7,7 +7,7 @@ use mathlib.Core.List.{List, []}
 use Prim.Native.Nat.{ℕ, _≤_, _<_}
 use native.Mathlib.Omega.{arith}
 use lib.ListN.{length, getD}
-use borrow.Author.Tests.{eqb-true, eq-eqb, ltb-true, lt-ltb}
+use borrow.Author.Tests.{eqb-true, eq-eqb, ltb-true, lt-ltb, not-true}
 use lib.Dec.{ltb}
 use Rattle.lexicon.specs.Word.{same}
 use Rattle.lexicon.proofs.Words.{same-equal, same-refl}
@@ -24,7 +24,7 @@ use Rattle.name_kind.specs.Serve.{serves}
 use Rattle.index.proofs.Search.{any-at, first-holds}
 use Rattle.naming.specs.Rules.{too-many, introduces-name, introduced-again, not-offered, is-unknown, unknown-name}
 use Rattle.statements.specs.Breach.{definition-count, name-token, Offers, ModuleBreach, definition-513, iso-introduced, introduced-twice, unoffered, unknown}
-use Rattle.statements.proofs.Tests.{both, joined, either, left, right, denied, deny, fails, never, found}
+use Rattle.statements.proofs.Tests.{both, joined, either, left, right, deny, fails, never, found}
 use Rattle.statements.proofs.Ordered.{Broken, BrokenBy}
 
 -- two spellings that are the same
@@ -97,7 +97,7 @@ module _ (ms : List Meaning) where
 
   pub offer-told : (i : ℕ) → Broken (not-offered ms) i → ModuleBreach ms 10 (not-offered ms .place i)
   unfolding not-offered
-  offer-told i b = let two = both (is-import (classes-of ms) i) _ (b .breaks) in unoffered (b .below) (two .0) (λ x. never (denied _ (two .1)) (offers-is i x))
+  offer-told i b = let two = both (is-import (classes-of ms) i) _ (b .breaks) in unoffered (b .below) (two .0) (λ x. never (not-true _ (two .1)) (offers-is i x))
 
   pub offer-broken : (i : ℕ) → i < imports-end (classes-of ms) → is-import (classes-of ms) i ≡ true → (Offers ms i → ⊥) → BrokenBy (not-offered ms) i
   unfolding not-offered
@@ -109,7 +109,7 @@ module _ (ms : List Meaning) where
 
   pub use-told : (i : ℕ) → Broken (unknown-name ms) i → ModuleBreach ms 11 (unknown-name ms .place i)
   unfolding unknown-name is-unknown
-  use-told i b = unknown (b .from) (b .below) (denied _ (b .breaks))
+  use-told i b = unknown (b .from) (b .below) (not-true _ (b .breaks))
 
   pub use-broken : (i : ℕ) → imports-end (classes-of ms) ≤ i → i < length ms
       → serves (outline (classes-of ms)) (leads-to ms (spelled ms i)) (need-at (classes-of ms) i) ≡ false → BrokenBy (unknown-name ms) i

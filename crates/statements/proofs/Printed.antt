@@ -1,6 +1,6 @@
 -- The test that request 8 takes out of rule 22 could not fail: each OID of a derived text has two numbers, where 12 is kept.
 -- Assumes nothing.
-use mathlib.Core.Path.{_≡_}
+use mathlib.Core.Path.{_≡_, refl, ap}
 use mathlib.Core.Bool.{true}
 use mathlib.Core.List.{List}
 use Prim.Native.Nat.{ℕ, _≤_, _<_}
@@ -45,38 +45,35 @@ module _ (text : List ℕ) (a b : ℕ) where
       (in-module cuts derives
       (unreached inside (reader.notification-value (meanings-in text) k is) (λ r. true-false (far-enough m k r) f))))
 
-  -- so there what is broken by the table as it is printed is broken as it is
-  printed-now : Kept12 → (number place : ℕ) → PrintedBreach text a b number place → InBreach text a b number place
-  printed-now kept number place (as-now x) = x
-  printed-now kept number place (short {k} cuts derives inside is few) = absurd (never-short cuts derives kept k inside is few)
+  -- so what is broken by the table as it is printed is broken as it is, if 12 is kept where 22 is asked for
+  printed-now : (m q : ℕ) → (m ≡ 22 → Kept12) → PrintedBreach text a b m q → InBreach text a b m q
+  printed-now m q kept (as-now x) = x
+  printed-now m q kept (short {k} cuts derives inside is few) = absurd (never-short cuts derives (kept refl) k inside is few)
 
-  -- and so it is up to the rank of a first breach: where that of 22 is reached, 12 is kept
-  by-rank : (number : ℕ) → ((m q : ℕ) → rank m < rank number → InBreach text a b m q → ⊥)
-      → (m q : ℕ) → rank m ≤ rank number → PrintedBreach text a b m q → InBreach text a b m q
-  by-rank number none m q upto (as-now x) = x
-  by-rank number none m q upto (short {k} cuts derives inside is few) =
-      absurd (never-short cuts derives (λ place x. none 12 place (omega (arith, twelve-before)) x) k inside is few)
+  -- it is kept up to the rank of a first breach
+  up-to : (number : ℕ) → ((m q : ℕ) → rank m < rank number → InBreach text a b m q → ⊥) → (m : ℕ) → rank m ≤ rank number → m ≡ 22 → Kept12
+  up-to number none m upto is place x = none 12 place (omega (arith, twelve-before, ap rank is)) x
 
   first-printed : (number place : ℕ) → FirstBreach text a b number place → First (PrintedBreach text a b) number place
   first-printed number place f = record {
     broken = as-now (f .broken);
-    no-earlier-rank = λ m q less x. f .no-earlier-rank m q less (by-rank number (f .no-earlier-rank) m q (omega arith) x);
-    nowhere-earlier = λ m q same less x. f .nowhere-earlier m q same less (by-rank number (f .no-earlier-rank) m q (omega arith) x);
+    no-earlier-rank = λ m q less x. f .no-earlier-rank m q less (printed-now m q (up-to number (f .no-earlier-rank) m (omega arith)) x);
+    nowhere-earlier = λ m q same less x. f .nowhere-earlier m q same less (printed-now m q (up-to number (f .no-earlier-rank) m (omega arith)) x);
   }
 
   first-now : (number place : ℕ) → First (PrintedBreach text a b) number place → FirstBreach text a b number place
   first-now number place f = record {
-    broken = by-rank number (λ m q less x. f .no-earlier-rank m q less (as-now x)) number place (omega arith) (f .broken);
+    broken = printed-now number place (up-to number (λ m q less x. f .no-earlier-rank m q less (as-now x)) number (omega arith)) (f .broken);
     no-earlier-rank = λ m q less x. f .no-earlier-rank m q less (as-now x);
     nowhere-earlier = λ m q same less x. f .nowhere-earlier m q same less (as-now x);
   }
 
   pub no-answer-changed : NoAnswerChanged text a b
   no-answer-changed = record {
-    same-places = λ derives kept place. (as-now, printed-now (λ q x. kept 12 q (omega arith) (omega arith) x) 22 place);
+    same-places = λ derives kept place. (as-now, printed-now 22 place (λ is q x. kept 12 q (omega arith) (omega arith) x));
     same-first = λ number place. (first-printed number place, first-now number place);
     same-accepted = (
-      λ none number place x. none number place (printed-now (λ q y. none 12 q y) number place x),
+      λ none number place x. none number place (printed-now number place (λ is q y. none 12 q y) x),
       λ none number place x. none number place (as-now x),
     );
   }

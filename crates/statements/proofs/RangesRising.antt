@@ -8,7 +8,7 @@ use mathlib.Core.List.{List}
 use Prim.Native.Nat.{ℕ, _+_, _-_, _≤_, _<_}
 use native.Mathlib.Decide.{decLt}
 use native.Mathlib.Omega.{arith}
-use borrow.Author.Tests.{ltb-true, lt-ltb, eqb-false, eq-eqb, ne-eqb}
+use borrow.Author.Tests.{ltb-true, lt-ltb, eqb-false, eq-eqb, ne-eqb, not-true}
 use lib.IntN.{ℤ, pos, negsuc}
 use lib.Signed.{ltZ}
 use Rattle.index.proofs.Search.{true-false, answers}
@@ -19,7 +19,7 @@ use Rattle.sub_type.specs.Number.{number-at}
 use Rattle.sub_type.specs.Range.{is-number, starts-range, is-pair, high-token}
 use Rattle.statements.specs.Breach.{Unordered, backward, overlapping}
 use Rattle.statements.specs.Searches.{RangeStands, alone, pair, RangesStand, final, parted, Rising}
-use Rattle.statements.proofs.Tests.{both, joined, denied, deny}
+use Rattle.statements.proofs.Tests.{both, joined, deny}
 
 -- one number is below another, and that below a third
 less-less : (x y z : ℤ) → ltZ x y ≡ true → ltZ y z ≡ true → ltZ x z ≡ true
@@ -62,7 +62,7 @@ module _ (m : Module) where
   -- a token that starts a range is a number, and stands behind no `..`
   started : (i : ℕ) → starts-range cs i ≡ true → (is-number (class-at cs i) ≡ true) × (class-at cs (i - 1) ≡ dots → ⊥)
   unfolding starts-range
-  started i e = let x = both (is-number (class-at cs i)) _ e in (x .0, eqb-false _ dots (denied _ (x .1)))
+  started i e = let x = both (is-number (class-at cs i)) _ e in (x .0, eqb-false _ dots (not-true _ (x .1)))
 
   starting : (i : ℕ) → is-number (class-at cs i) ≡ true → (class-at cs (i - 1) ≡ dots → ⊥) → starts-range cs i ≡ true
   unfolding starts-range

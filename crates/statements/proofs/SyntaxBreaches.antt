@@ -7,7 +7,7 @@ use mathlib.Core.List.{List}
 use Prim.Native.Nat.{ℕ, _-_, _<_}
 use native.Mathlib.Omega.{arith}
 use lib.Dec.{eqb, ltb}
-use borrow.Author.Tests.{eqb-true, eq-eqb}
+use borrow.Author.Tests.{eqb-true, eq-eqb, not-true}
 use Rattle.index.specs.First.{any}
 use Rattle.index.proofs.Search.{any-at}
 use Rattle.lexicon.proofs.Words.{same-equal}
@@ -40,7 +40,7 @@ use Rattle.syntax_check.specs.declared.ItemTest.{ItemTest}
 use Rattle.syntax_check.specs.declared.ItemTest.the-variants.{Itemless}
 use Rattle.reader.specs.Reading.{classed}
 use Rattle.statements.specs.Breach.{definition-count, syntax-of, Within, HasRanges, HasSizes, Unordered, backward, overlapping, Outside, Misfit, range, size, HasItems, of-integer, of-bits, Misnumbered, label-twice, number-twice, outside, ModuleBreach, unordered, misfit, misnumbered, indirect}
-use Rattle.statements.proofs.Tests.{both, joined, either, left, right, denied, deny, found, clause-told, clause-none, clause-here, clause-later, clause-passed, clause-passing}
+use Rattle.statements.proofs.Tests.{both, joined, either, left, right, deny, found, clause-told, clause-none, clause-here, clause-later, clause-passed, clause-passing}
 use Rattle.statements.proofs.Ordered.{Broken, BrokenBy}
 use Rattle.statements.proofs.Rising.{classed-keeps}
 use Rattle.statements.proofs.NameBreaches.{spelled-same}
@@ -60,9 +60,9 @@ module _ (m : Module) where
   order-told i e =
       let o = clause-passed (starts-range cs i) _ e in (
         o .0,
-        clause-told (is-backward cs vs i) 0 _ (o .1) (λ t. let x = both (is-pair cs i) _ t in backward (x .0) (denied _ (x .1)))
+        clause-told (is-backward cs vs i) 0 _ (o .1) (λ t. let x = both (is-pair cs i) _ t in backward (x .0) (not-true _ (x .1)))
             (λ e. clause-told (is-overlapping cs vs i) 1 _ e
-            (λ t. let x = both (eqb (class-at cs (i - 1)) bar) _ t in overlapping (eqb-true _ bar (x .0)) (denied _ (x .1))) clause-none),
+            (λ t. let x = both (eqb (class-at cs (i - 1)) bar) _ t in overlapping (eqb-true _ bar (x .0)) (not-true _ (x .1))) clause-none),
       )
 
   order-breach : (i : ℕ) → starts-range cs i ≡ true → Unordered m i → ltb 0 (order-clause cs vs i) ≡ true
@@ -296,7 +296,7 @@ module _ (ms : List Meaning) where
         go true is b =
             let t = limit-of stage (d .class) r i b in
             let two = both (has-syntax d) _ is in
-            misfit k h (denied _ (two .1)) (t .0)
+            misfit k h (not-true _ (two .1)) (t .0)
             (⊎-elim (λ x. range (x .0) (two .0, x .1) (x .2) (x .3)) (λ x. size (x .0) (two .0, x .1) (x .2) (x .3)) (t .1))
         go false is b = absurd (omega (arith, b .below))
 
@@ -339,7 +339,7 @@ module _ (ms : List Meaning) where
       let two = both (eqb (at stage k .kind) convention) _ (b .breaks) in
       let x = both (is-named (syntax-of stage k)) _ (two .1) in
       let here : k < definition-count ms = omega (arith, b .below, all-there ms (classed-keeps ms)) in
-      indirect here (eqb-true _ convention (two .0)) (x .0) (denied _ (x .1))
+      indirect here (eqb-true _ convention (two .0)) (x .0) (not-true _ (x .1))
 
   pub indirect-broken : (k : ℕ) → k < definition-count ms → at stage k .kind ≡ convention → is-named (syntax-of stage k) ≡ true
       → is-smi-lead (lead-of (stage .values) (syntax-of stage k)) ≡ false

@@ -8,7 +8,7 @@ use Prim.Native.Nat.{ℕ, _+_, _-_, _≤_, _<_}
 use native.Mathlib.Omega.{arith}
 use lib.Dec.{eqb, ltb}
 use lib.ListN.{getD}
-use borrow.Author.Tests.{eqb-true, eqb-false, eq-eqb, ne-eqb}
+use borrow.Author.Tests.{eqb-true, eqb-false, eq-eqb, ne-eqb, not-true}
 use Rattle.index.proofs.Search.{any-at}
 use Rattle.module_table.specs.declared.Definition.{Definition}
 use Rattle.module_table.specs.Module.{Module, at, oid-of}
@@ -20,7 +20,7 @@ use Rattle.table_check.specs.Refusal.{clause-of}
 use Rattle.access_check.specs.Access.{has-access, creates, is-written-column, clashes, open-table, created-alone, is-counter, is-counter-access, unfit-counter, access-clause}
 use Rattle.access_check.specs.Notification.{is-not-zeroed, lists-hidden, notification-clause}
 use Rattle.statements.specs.Breach.{OneRow, TableFault, rowless, stray, unindexed, indexed, repeating, misnaming, unlisted, unfounded, AccessFault, clashing, accessible, created, counter, defaulted, NotificationFault, not-zero, hidden, object-at, last-number}
-use Rattle.statements.proofs.Tests.{both, joined, either, left, right, denied, deny, fails, never, found, unfound, clause-told, clause-none, clause-here, clause-later, clause-kept, clause-keeping}
+use Rattle.statements.proofs.Tests.{both, joined, either, left, right, deny, fails, never, found, unfound, clause-told, clause-none, clause-here, clause-later, clause-kept, clause-keeping}
 
 module _ (m : Module) (k : ℕ) where
   abbrev ds : List Definition
@@ -74,7 +74,7 @@ module _ (m : Module) (k : ℕ) where
   unfolding rowless-table
   rowless-told t =
       let x = both (is-table d) _ t in
-      rowless (x .0) (λ r one under first. never (denied _ (x .1)) (its-row r one under first))
+      rowless (x .0) (λ r one under first. never (not-true _ (x .1)) (its-row r one under first))
 
   rowless-clause : is-table d ≡ true → ((r : ℕ) → OneRow m (type-of d) r → at m r .parent ≡ k + 1 → last-number m r ≡ 1 → ⊥) → rowless-table ds (m .numbers) k ≡ true
   unfolding rowless-table
@@ -84,7 +84,7 @@ module _ (m : Module) (k : ℕ) where
   unfolding stray-row is-row-in
   stray-told t =
       let x = both (is-row d) _ t in
-      stray (x .0) (λ table type first. never (denied _ (x .1)) (joined table (joined (eq-eqb _ _ type) (eq-eqb _ 1 first))))
+      stray (x .0) (λ table type first. never (not-true _ (x .1)) (joined table (joined (eq-eqb _ _ type) (eq-eqb _ 1 first))))
 
   stray-clause : is-row d ≡ true → (is-table above ≡ true → type-of above ≡ type-of d → last-number m k ≡ 1 → ⊥) → stray-row ds (m .numbers) k ≡ true
   unfolding stray-row is-row-in
@@ -94,14 +94,14 @@ module _ (m : Module) (k : ℕ) where
   unindexed-told : unindexed-row d ≡ true → TableFault m k
   unindexed-told t =
       let x = both (is-row d) _ t in
-      let none = denied (is-indexed d) (x .1) in
+      let none = not-true (is-indexed d) (x .1) in
       unindexed (x .0) (fails _ (λ i. never none (left _ i))) (fails _ (λ i. never none (right (is-given (d .index)) i)))
 
   unindexed-clause : is-row d ≡ true → is-given (d .index) ≡ false → is-given (d .augments) ≡ false → unindexed-row d ≡ true
   unindexed-clause t f g = joined t (deny (fails (is-indexed d) (λ i. ⊎-elim (never f) (never g) (either _ _ i))))
 
   indexed-told : is-object d ≡ true → indexed-object d ≡ true → TableFault m k
-  indexed-told o t = let x = both (not (is-row d)) _ t in indexed o (denied _ (x .0)) (either _ _ (x .1))
+  indexed-told o t = let x = both (not (is-row d)) _ t in indexed o (not-true _ (x .0)) (either _ _ (x .1))
 
   indexed-clause : is-row d ≡ false → (is-given (d .index) ≡ true) ⊎ (is-given (d .augments) ≡ true) → indexed-object d ≡ true
   indexed-clause f given = joined (deny f) (⊎-elim (λ i. left _ i) (λ a. right (is-given (d .index)) a) given)
@@ -113,7 +113,7 @@ module _ (m : Module) (k : ℕ) where
       let j = found _ _ _ (x .1) in
       let y = both (names-object ds (m .values) (j .0)) _ (j .3) in
       let i = found _ _ _ (y .1) in
-      repeating (i .0) (j .0) (x .0) (i .1) (i .2) (j .2) (eqb-false _ 0 (denied _ (y .0))) (eqb-true _ _ (i .3))
+      repeating (i .0) (j .0) (x .0) (i .1) (i .2) (j .2) (eqb-false _ 0 (not-true _ (y .0))) (eqb-true _ _ (i .3))
 
   repeating-clause : (i j : ℕ) → is-row d ≡ true → columns-of ds (type-of d) .from ≤ i → i < j → j < columns-of ds (type-of d) .to
       → (object-at m j ≡ 0 → ⊥) → object-at m i ≡ object-at m j → repeating-row ds (m .values) k ≡ true
@@ -129,7 +129,7 @@ module _ (m : Module) (k : ℕ) where
       let x = both (is-row d) _ t in
       let i = found _ _ _ (x .1) in
       let y = both (names-object ds (m .values) (i .0)) _ (i .3) in
-      misnaming (i .0) (x .0) (i .1) (i .2) (eqb-false _ 0 (denied _ (y .0))) (eqb-false _ _ (denied _ (y .1)))
+      misnaming (i .0) (x .0) (i .1) (i .2) (eqb-false _ 0 (not-true _ (y .0))) (eqb-false _ _ (not-true _ (y .1)))
 
   misnaming-clause : (i : ℕ) → is-row d ≡ true → columns-of ds (type-of d) .from ≤ i → i < columns-of ds (type-of d) .to
       → (object-at m i ≡ 0 → ⊥) → (numbered ds (object-at m i) .parent ≡ k + 1 → ⊥) → misnaming-row ds (m .values) k ≡ true
@@ -141,7 +141,7 @@ module _ (m : Module) (k : ℕ) where
   unfolding unlisted-column lists
   unlisted-told o t =
       let x = both (is-row above) _ t in
-      unlisted o (x .0) (λ i l h is. never (denied _ (x .1)) (any-at (names ds (m .values) (k + 1)) _ _ i l h (eq-eqb _ _ is)))
+      unlisted o (x .0) (λ i l h is. never (not-true _ (x .1)) (any-at (names ds (m .values) (k + 1)) _ _ i l h (eq-eqb _ _ is)))
 
   unlisted-clause : is-row above ≡ true → ((i : ℕ) → columns-of ds (type-of above) .from ≤ i → i < columns-of ds (type-of above) .to → object-at m i ≡ k + 1 → ⊥)
       → unlisted-column ds (m .values) k ≡ true
@@ -155,7 +155,7 @@ module _ (m : Module) (k : ℕ) where
   unfolding unfounded-augments
   unfounded-told o t =
       let x = both (is-given (d .augments)) _ t in
-      unfounded o (x .0) (λ row index. never (denied _ (x .1)) (joined row index))
+      unfounded o (x .0) (λ row index. never (not-true _ (x .1)) (joined row index))
 
   unfounded-clause : is-given (d .augments) ≡ true → (is-row base ≡ true → is-given (base .index) ≡ true → ⊥) → unfounded-augments ds (m .values) d ≡ true
   unfolding unfounded-augments
@@ -250,14 +250,14 @@ module _ (m : Module) (k : ℕ) where
   accessible-told : a2 ≡ true → AccessFault m k
   accessible-told t =
       let x = both (is-table d || is-row d) _ t in
-      accessible (either _ _ (x .0)) (eqb-false _ not-accessible (denied _ (x .1)))
+      accessible (either _ _ (x .0)) (eqb-false _ not-accessible (not-true _ (x .1)))
 
   accessible-clause : (is-table d ≡ true) ⊎ (is-row d ≡ true) → (d .access ≡ not-accessible → ⊥) → a2 ≡ true
   accessible-clause which other =
       joined (⊎-elim (λ t. left _ t) (λ r. right (is-table d) r) which) (deny (ne-eqb _ not-accessible other))
 
   created-told : is-object d ≡ true → created-alone ds d ≡ true → AccessFault m k
-  created-told o t = let x = both _ _ t in created o (eqb-true _ read-create (x .0)) (denied _ (x .1))
+  created-told o t = let x = both _ _ t in created o (eqb-true _ read-create (x .0)) (not-true _ (x .1))
 
   created-clause : d .access ≡ read-create → is-row above ≡ false → created-alone ds d ≡ true
   created-clause create f = joined (eq-eqb _ read-create create) (deny f)
@@ -273,7 +273,7 @@ module _ (m : Module) (k : ℕ) where
       let x = both (is-counter d) _ t in
       ⊎-elim
       (λ unfit.
-      let none = denied (is-counter-access d) unfit in
+      let none = not-true (is-counter-access d) unfit in
       counter o (of-counter (x .0)) (λ is. never none (left _ (eq-eqb _ read-only is))) (λ is. never none (right (eqb (d .access) read-only) (eq-eqb _ accessible-for-notify is))))
       (λ default. defaulted o (of-counter (x .0)) (eqb-true _ 1 default))
       (either (not (is-counter-access d)) _ (x .1))
@@ -334,7 +334,7 @@ module _ (m : Module) (k : ℕ) where
   notification-told e =
       let o = clause-kept (is-notification d) _ e in (
         o .0,
-        clause-told (is-not-zeroed oid) 0 _ (o .1) (λ t. not-zero (eqb-false _ 0 (denied _ t)))
+        clause-told (is-not-zeroed oid) 0 _ (o .1) (λ t. not-zero (eqb-false _ 0 (not-true _ t)))
             (λ e. clause-told (lists-hidden ds (m .values) d) 1 _ e hidden-told clause-none),
       )
 

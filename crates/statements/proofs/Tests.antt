@@ -28,10 +28,6 @@ pub right : (a : Bool) {b : Bool} → b ≡ true → (a || b) ≡ true
 right true q = refl
 right false q = q
 
-pub denied : (b : Bool) → not b ≡ true → b ≡ false
-denied true e = absurd (true-false e refl)
-denied false e = refl
-
 pub deny : {b : Bool} → b ≡ false → not b ≡ true
 deny e = rw e
 

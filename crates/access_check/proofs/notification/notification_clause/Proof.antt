@@ -49,22 +49,21 @@ returns c =
     chain-exempt (other h) false (not-zeroed h) (hidden h) 0 1 2 (ap not (sym (c .before .is-notification .ensures)) ∙ c .if1 .taken) ∙ read h
 
 -- a definition that is not exempt is a notification, so its OID has two numbers
-is-other : (e : tie.Else1) → other (e .before .before) ≡ false
-is-other e = ap not (sym (e .before .is-notification .ensures)) ∙ e .if1 .left
+not-other : (e : tie.Else1) → other (e .before .before) ≡ false
+not-other e = ap not (sym (e .before .is-notification .ensures)) ∙ e .if1 .left
 
 is-not-zeroed-requires : tie.Need-is-not-zeroed-requires
 is-not-zeroed-requires c κs =
     let h = c .before .before in
     let s = start h in
-    let ds = definitions-in (s .args .definitions .now) in
     subst (λ (d : Definition). is-notification d ≡ true → 2 ≤ length (oid-in (s .args .numbers .now) d)) (sym (h .definition-at .ensures)) (s .pre (s .args .k .0))
-    (not-false _ (is-other c))
+    (not-false _ (not-other c))
 
 returns-2 : tie.Need-returns-2
 returns-2 c =
     let e = c .before .before in
     let h = e .before .before in
-    chain-second (other h) false (not-zeroed h) (hidden h) 0 1 2 (is-other e) refl (sym (c .before .is-not-zeroed .ensures) ∙ c .if2 .taken) ∙ read h
+    chain-second (other h) false (not-zeroed h) (hidden h) 0 1 2 (not-other e) refl (sym (c .before .is-not-zeroed .ensures) ∙ c .if2 .taken) ∙ read h
 
 lists-hidden-requires : tie.Need-lists-hidden-requires
 lists-hidden-requires c κs = search needs
@@ -74,7 +73,7 @@ returns-3 c =
     let f = c .before .before in
     let e = f .before .before in
     let h = e .before .before in
-    chain-third (other h) false (not-zeroed h) (hidden h) 0 1 2 (is-other e) refl (sym (f .before .is-not-zeroed .ensures) ∙ f .if2 .left)
+    chain-third (other h) false (not-zeroed h) (hidden h) 0 1 2 (not-other e) refl (sym (f .before .is-not-zeroed .ensures) ∙ f .if2 .left)
     (sym (c .before .lists-hidden .ensures) ∙ c .if3 .taken) ∙ read h
 
 returns-4 : tie.Need-returns-4
@@ -82,7 +81,7 @@ returns-4 c =
     let f = c .before .before in
     let e = f .before .before in
     let h = e .before .before in
-    chain-none (other h) false (not-zeroed h) (hidden h) 0 1 2 (is-other e) refl (sym (f .before .is-not-zeroed .ensures) ∙ f .if2 .left)
+    chain-none (other h) false (not-zeroed h) (hidden h) 0 1 2 (not-other e) refl (sym (f .before .is-not-zeroed .ensures) ∙ f .if2 .left)
     (sym (c .before .lists-hidden .ensures) ∙ c .if3 .left) ∙ read h
 
 pub notification-clause-spec : {M : Type 1} → statement M

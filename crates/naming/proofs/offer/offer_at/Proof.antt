@@ -5,13 +5,14 @@ use mathlib.Core.Bool.{Bool}
 use mathlib.Core.List.{List}
 use Prim.Native.Nat.{ℕ}
 use native.Mathlib.Omega.{arith}
+use borrow.Author.Tests.{not-true, not-false}
 use Rattle.token.specs.Cut.{meanings-in}
 use Rattle.symbol.specs.Symbol.{symbol-of}
 use Rattle.scope.specs.Token.{classes-of, spelled}
 use Rattle.scope.specs.Import.{is-import}
 use Rattle.scope.proofs.Tokens.{classes-are, starts-long, ends-long, named-is}
 use Rattle.scope.proofs.Leads.{small}
-use Rattle.naming.proofs.Offering.{not-true, not-false, no-import-offer, missing-offer, word-offer}
+use Rattle.naming.proofs.Offering.{no-import-offer, missing-offer, word-offer}
 use borrow.Author.Needs.{needs}
 use Rattle.naming.proofs.offer.offer_at.Statement.{statement}
 use Rattle.naming.proofs.offer.offer_at.Tie as tie

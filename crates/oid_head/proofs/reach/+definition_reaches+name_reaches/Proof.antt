@@ -3,11 +3,11 @@
 -- Assumes nothing.
 use mathlib.Core.Path.{refl, sym, ap, _∙_}
 use mathlib.Core.List.{[]}
+use borrow.Author.Tests.{not-true, not-false}
 use lib.Dec.{ltb}
 use Rattle.module_table.specs.Module.{Module}
 use Rattle.module_table.specs.declared.Lead.the-variants.{Iso, Import, Nothing}
 use Rattle.oid_head.specs.Oid.{named-in, reached-in}
-use Rattle.oid_head.proofs.Meaning.{not-true, not-false}
 use Rattle.oid_head.proofs.Reaching.{none-left, no-head, goes-on, stays-at}
 use Prim.Native.Nat.{ℕ, _+_, _-_, _*_, _<_}
 use native.Mathlib.Omega.{arith}

@@ -4,11 +4,12 @@ use mathlib.Core.Path.{_≡_, sym, ap, _∙_}
 use mathlib.Core.Bool.{true}
 use mathlib.Core.List.{List}
 use Prim.Native.Nat.{ℕ, _+_, _≤_}
+use borrow.Author.Tests.{not-true, not-false}
 use lib.ListN.{length}
 use Rattle.module_table.specs.Module.{Module}
 use Rattle.oid_head.specs.Oid.{named-in, has-value, reaches, resolved-oid, first-number}
 use Rattle.oid_number.specs.Buffer.{laid-at}
-use Rattle.oid_head.proofs.Meaning.{not-true, not-false, oid-none}
+use Rattle.oid_head.proofs.Meaning.{oid-none}
 use Rattle.oid_number.proofs.Laid.{laid-none}
 use Rattle.oid_tree.proofs.Placing.{own-reached, own-start, own-room, head-apart, parts-room, behind-laid}
 use borrow.Author.Needs.{needs}
