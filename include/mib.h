@@ -126,8 +126,10 @@ enum mib_status {
 /* ---- Reading a module ---- */
 
 /*
- * The numbers that mib_read answers. The smallest that applies is given (3 to 6 together: the leftmost token), with the
- * earliest place in breach. A place is a byte offset in the text, or the text's length at its end.
+ * The numbers that mib_read answers. The first that applies, in this order, is given, with the earliest place in breach; of
+ * 3 to 6 together the leftmost token, and of 41 and 42 together the earlier use. A place is a byte offset in the text, or
+ * the text's length at its end. 11, in whose place 41 and 42 stand, is no longer given: who asked for MIB_READ_NOT_KNOWN
+ * asks for both.
  */
 enum mib_read_number {
     MIB_READ_ACCEPTED = 0,
@@ -141,7 +143,8 @@ enum mib_read_number {
     MIB_READ_MANY_DEFINITIONS = 8, /* a 513th definition: its name */
     MIB_READ_NAME_TWICE = 9,       /* a name defined or imported a second time, or `iso`: the later */
     MIB_READ_NOT_OFFERED = 10,     /* symbol that the module named doesn't offer */
-    MIB_READ_NOT_KNOWN = 11,       /* name not known in the kind needed */
+    MIB_READ_UNKNOWN_NAME = 41,    /* name that is neither defined nor imported, nor `iso` */
+    MIB_READ_OTHER_KIND = 42,      /* name that is known, but of another kind than is needed here */
     MIB_READ_NO_ROOT = 12,         /* definition whose heads never reach a built-in name: its name */
     MIB_READ_LONG_OID = 13,        /* OID over 128 numbers: the definition's name */
     MIB_READ_MANY_NUMBERS = 14,    /* definition with which the OID numbers pass 8,192: its name */
@@ -358,8 +361,10 @@ static inline const char *mib_refusal_text(size_t number)
         return "the name is defined or imported a second time, or is iso";
     case MIB_READ_NOT_OFFERED:
         return "the module that it is imported from does not offer this symbol";
-    case MIB_READ_NOT_KNOWN:
-        return "the name is neither defined nor imported as what is needed here";
+    case MIB_READ_UNKNOWN_NAME:
+        return "the name is neither defined nor imported";
+    case MIB_READ_OTHER_KIND:
+        return "the name is known, but of another kind than is needed here";
     case MIB_READ_NO_ROOT:
         return "the heads of the OID never reach a built-in name";
     case MIB_READ_LONG_OID:

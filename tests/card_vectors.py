@@ -42,6 +42,13 @@ def notification(oid):
     return module, start + len(given[0])
 
 
+def names_of_no_object(names):
+    """A module with a notification that lists these names, itself among them, and where the first of them stands."""
+    given = b"n NOTIFICATION-TYPE OBJECTS { ", names, b' } STATUS current DESCRIPTION "" ::= { t 0 1 }\n'
+    module, start = rule_examples.whole(b"".join(given))
+    return module, start + len(given[0])
+
+
 # The first lines of an accepted one.
 ACCEPTED = b"accepted\t3\n1\tt\t1.9\t0\t0\t0\n2\ta\t1.0\t0\t0\t0\n"
 
@@ -61,6 +68,10 @@ def vectors():
     # Of two numbers the next-to-last is the head's, which is 1 in 1.5; behind `a` it is 0.
     module, place = notification(b"iso 5")
     yield "two-numbers", module, b"refused\t22\t%d\n" % place
+    # 41 and 42 hold one place in the order: the earlier use comes first, whichever number it has.
+    for name, number, names in ("unknown-first", 41, b"x, n"), ("other-kind-first", 42, b"n, x"):
+        module, place = names_of_no_object(names)
+        yield name, module, b"refused\t%d\t%d\n" % (number, place)
     yield "three-numbers", notification(b"a 5")[0], ACCEPTED + b"7\tn\t1.0.5\t0\t0\t1\n"
 
 

@@ -1,12 +1,12 @@
 #!/usr/bin/env python3
 """Compares what explain prints of generated texts with the reading of document 01: its numbers, places and other places, and from them the
-heads, the lines shown and the marks, worked out here. Of a sentence only the word at fault is asked, and of 7 what may stand there, which is
-what that reading lets pass; tests/cases/explain.sh has the wording.
+heads, the lines shown and the marks, worked out here. Of a sentence only the word at fault is asked; of 7 what may stand there, which is
+what that reading lets pass; and of 41 and 42 all of it, by what the reading says of the name. tests/cases/explain.sh has the wording.
 
 explained.py PROGRAM [--count N] [--seed S]
 
-The last line is `N cases, D differences`; the exit is 1 where D is not 0, or where some refusal from 3 to 22, or some number that is about
-two things, does not occur with its other one.
+The last line is `N cases, D differences`; the exit is 1 where D is not 0, or where some refusal from 3 on does not occur, or some number that
+is about two things does not occur with its other one.
 """
 import argparse
 import os
@@ -22,7 +22,16 @@ sys.path.insert(0, os.path.dirname(os.path.abspath(__file__)))
 import ask
 
 KINDS = {1: "identity", 2: "plain OID", 3: "object identity", 4: "object", 5: "textual convention", 6: "SEQUENCE type", 7: "notification"}
-OTHERS = {9, 10, 15, 16, 18, 20, 21, 22}
+REFUSALS = [n for n in range(3, 23) if n != 11] + [41, 42]
+OTHERS = {9, 10, 15, 16, 18, 20, 21, 22, 42}
+# Of 41 and 42: what is needed where a name stands, and what a name is.
+NEEDED = {"macro": "a macro is needed here", "convention-type": "the SYNTAX of a convention needs a type of SNMPv2-SMI",
+          "object-type": "SYNTAX needs a type", "column-type": "a column needs a type other than a SEQUENCE type",
+          "head": "an OID is needed here", "INDEX": "INDEX needs an object", "AUGMENTS": "AUGMENTS needs an object",
+          "OBJECTS": "OBJECTS needs an object", "SEQUENCE": "SEQUENCE needs an object", "OF": "OF needs a SEQUENCE type"}
+IS = {"unknown": "neither defined nor imported", "iso": "a built-in OID", "identity": "the module's identity", "plain": "a plain OID",
+      "object-identity": "an object identity", "convention": "a textual convention", "sequence": "a SEQUENCE type",
+      "notification": "a notification", "imported-oid": "an imported OID", "imported-type": "an imported type"}
 IN_SENTENCE = {10}   # the other one is named in the sentence, and not shown
 LATIN = b"-- Z\xfcrich -- -- \xe2\x82\xac\tand \xf0\x9f\x94\x8b --\t"   # a comment with bytes over 127, in UTF-8 and not, and tabs
 WORD = re.compile(rb"[A-Za-z](?:[A-Za-z0-9]|-(?=[A-Za-z0-9]))*|-?[0-9]+")   # a name or a number, where a token starts
@@ -118,6 +127,15 @@ def ending_of(text, place, listing):
     return " may not stand here; %s may" % may if may else " stands behind the module's END"
 
 
+def use_sentence(text, use):
+    """The sentence on a name that is not known, or is of another kind than is needed."""
+    number, place, needed, what, offer = use.decode().split()
+    sentence = "'%s' is %s, and %s" % (WORD.match(text, int(place)).group().decode(), IS[what], NEEDED[needed])
+    # A type of SNMPv2-TC would break rule 19 in a convention, so that none is told to import it there.
+    told = offer != "-" and (needed, offer) != ("convention-type", "SNMPv2-TC")
+    return sentence + "; %s offers it" % offer if told else sentence
+
+
 def words_at(text, place):
     """What the sentence holds: the word at the place in quotes, where it is a name or a number."""
     word = WORD.match(text, place)
@@ -159,7 +177,7 @@ def accepted_differs(name, card, lines):
     return None if lines == wanted else "%r, not %r" % (lines, wanted)
 
 
-def differs(name, answer, card, listing, lines):
+def differs(name, answer, card, listing, use, lines):
     """What is wrong with the lines on a file, or None."""
     if answer[0] == 0:
         return accepted_differs(name.encode(), card, lines)
@@ -169,6 +187,10 @@ def differs(name, answer, card, listing, lines):
         ending = ending_of(text, answer[1], listing)
         if not lines[0].endswith(ending.encode()):
             return "%r, which does not end %r" % (lines[0], ending)
+    if answer[0] in (41, 42):
+        sentence = head(name.encode(), text, answer[1], answer[0]) + use_sentence(text, use).encode()
+        if lines[0] != sentence:
+            return "%r, not %r" % (lines[0], sentence)
     return refused_differs(name.encode(), text[:65537] if answer[0] == 2 else text, answer, lines)
 
 
@@ -213,16 +235,17 @@ def main():
     differences, seen, with_other = 0, set(), set()
     with tempfile.TemporaryDirectory() as folder:
         names = made(options.count, options.seed, folder)
-        said = zip(names, answers(names), ask.files("card", names), ask.files("tokens", names), printed(options.program, names))
-        for name, answer, card, listing, lines in said:
+        asked = [ask.files(word, names) for word in ("card", "tokens", "use")]
+        said = zip(names, answers(names), *asked, printed(options.program, names))
+        for name, answer, card, listing, use, lines in said:
             seen.add(answer[0])
             if answer[2] is not None:
                 with_other.add(answer[0])
-            difference = differs(name, answer, card, listing, lines)
+            difference = differs(name, answer, card, listing, use, lines)
             if difference:
                 differences += 1
                 print("text %s of seed %d: the program says %s" % (os.path.basename(name), options.seed, difference))
-    missing = [n for n in range(3, 23) if n not in seen] + sorted(OTHERS - with_other)
+    missing = [n for n in REFUSALS if n not in seen] + sorted(OTHERS - with_other)
     if missing:
         print("no case of %s" % missing)
     print("%d cases, %d differences" % (options.count, differences))

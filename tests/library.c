@@ -159,7 +159,12 @@ static void test_refused(void)
     check_refused("a name that is imported nowhere",
                   "T DEFINITIONS ::= BEGIN t MODULE-IDENTITY LAST-UPDATED \"\" ORGANIZATION \"\" CONTACT-INFO \"\" "
                   "DESCRIPTION \"\" ::= { iso 9 } END",
-                  MIB_READ_NOT_KNOWN, 26);
+                  MIB_READ_UNKNOWN_NAME, 26);
+    check_refused("a notification among the objects of its own",
+                  "T DEFINITIONS ::= BEGIN IMPORTS MODULE-IDENTITY, NOTIFICATION-TYPE FROM SNMPv2-SMI; "
+                  "t MODULE-IDENTITY LAST-UPDATED \"\" ORGANIZATION \"\" CONTACT-INFO \"\" DESCRIPTION \"\" ::= { iso 9 } "
+                  "n NOTIFICATION-TYPE OBJECTS { n } STATUS current DESCRIPTION \"\" ::= { t 0 1 } END",
+                  MIB_READ_OTHER_KIND, 209);
     check("NULL with length 0 is the empty text", read_is(read_bytes(NULL, 0), 7, 0, 0) && buffers_filled(0, 0));
     check("NULL is empty whatever length comes with it", read_is(read_bytes(NULL, SIZE_MAX), 7, 0, 0));
 
@@ -325,7 +330,7 @@ static size_t worded(size_t k)
 /* What mib_read and the printers answer, and what mib_set_row answers. */
 static int of_refusals(size_t number)
 {
-    return number <= 22 || (number >= 30 && number <= 34);
+    return (number <= 22 && number != 11) || (number >= 30 && number <= 34) || number == 41 || number == 42;
 }
 
 static int of_rows(size_t number)

@@ -94,7 +94,7 @@ def main():
         if card != b"refused\t%d\t%d\n" % (number, place):
             wrong += 1
             print("example of %d: answered %r, marked at %d" % (number, card, place))
-    if seen != list(range(1, 23)):
+    if seen != [*range(1, 12), 41, 42, *range(12, 23)]:
         wrong += 1
         print("the sections are %s" % seen)
     print("%d sections, %d differences" % (len(seen), wrong))

@@ -119,6 +119,21 @@ n NOTIFICATION-TYPE OBJECTS {
 b,
 a,
 row } STATUS current DESCRIPTION \"\" ::= { t 0 1 }" '11:1 22 n' '13:1 22 a'
+    stands "explain: a name of another kind stands against its definition, which may come later" "$imports
+a OBJECT-TYPE SYNTAX Integer32 MAX-ACCESS read-only STATUS current DESCRIPTION \"\" INDEX {
+n } ::= { t 1 }
+n NOTIFICATION-TYPE STATUS current DESCRIPTION \"\" ::= { t 0 1 }" '5:1 42 n' '6:1 42 n'
+    stands "explain: an imported one stands against its symbol in the imports" "IMPORTS MODULE-IDENTITY, OBJECT-TYPE,
+Gauge32 FROM SNMPv2-SMI;
+$identity
+a OBJECT-TYPE SYNTAX SEQUENCE OF
+Gauge32 MAX-ACCESS not-accessible STATUS current DESCRIPTION \"\" ::= { t 1 }" '6:1 42 Gauge32' '3:1 42 Gauge32'
+    stands "explain: iso stands against nothing" "$imports
+n NOTIFICATION-TYPE OBJECTS {
+iso } STATUS current DESCRIPTION \"\" ::= { t 0 1 }" '5:1 42 iso'
+    stands "explain: nor does a name that is not known" "$imports
+n NOTIFICATION-TYPE OBJECTS {
+x } STATUS current DESCRIPTION \"\" ::= { t 0 1 }" '5:1 41 x'
 }
 
 # ---- Reasons: what explain says of each fault, in whole sentences ----
@@ -264,6 +279,55 @@ test_explain_imports() {
     imported "a symbol that no module offers" "'Foo' is not offered by 'SNMPv2-SMI', from which it is imported" 'Foo FROM SNMPv2-SMI'
     imported "a symbol of SNMPv2-TC" "'DisplayString' is not offered by 'SNMPv2-SMI', from which it is imported; SNMPv2-TC offers it" 'DisplayString FROM SNMPv2-SMI'
     imported "a symbol of SNMPv2-SMI" "'Integer32' is not offered by 'SNMPv2-TC', from which it is imported; SNMPv2-SMI offers it" 'Integer32 FROM SNMPv2-TC'
+}
+
+# A name that is not known: what is needed, and who offers a symbol of that name that would serve.
+test_explain_unknown_names() {
+    object='OBJECT-TYPE SYNTAX Integer32 MAX-ACCESS read-only STATUS current DESCRIPTION ""'
+    tail='MAX-ACCESS read-only STATUS current DESCRIPTION "" ::= { t 1 }'
+    unknown='is neither defined nor imported, and'
+    says "an unknown type of SNMPv2-TC" "4:22: refused 41: 'DisplayString' $unknown SYNTAX needs a type; SNMPv2-TC offers it" "a OBJECT-TYPE SYNTAX DisplayString $tail"
+    says "an unknown type of SNMPv2-SMI" "4:22: refused 41: 'TimeTicks' $unknown SYNTAX needs a type; SNMPv2-SMI offers it" "a OBJECT-TYPE SYNTAX TimeTicks $tail"
+    says "an unknown type that none offers" "4:22: refused 41: 'Foo' $unknown SYNTAX needs a type" "a OBJECT-TYPE SYNTAX Foo $tail"
+    says "the module's own name" "4:22: refused 41: 'T' $unknown SYNTAX needs a type" "a OBJECT-TYPE SYNTAX T $tail"
+    convention='C ::= TEXTUAL-CONVENTION STATUS current DESCRIPTION "" SYNTAX'
+    says "an unknown type of a convention" "4:63: refused 41: 'Opaque' $unknown the SYNTAX of a convention needs a type of SNMPv2-SMI; SNMPv2-SMI offers it" "$convention Opaque"
+    says "one that no convention may have" "4:63: refused 41: 'DisplayString' $unknown the SYNTAX of a convention needs a type of SNMPv2-SMI" "$convention DisplayString"
+    says "an unknown type of a column" "4:20: refused 41: 'TruthValue' $unknown a column needs a type other than a SEQUENCE type; SNMPv2-TC offers it" "E ::= SEQUENCE { a TruthValue }
+a $object ::= { t 1 }"
+    says "an unknown head" "4:27: refused 41: 'enterprises' $unknown an OID is needed here; SNMPv2-SMI offers it" 'a OBJECT IDENTIFIER ::= { enterprises 1 }'
+    says "an unknown head that none offers" "4:27: refused 41: 'foo' $unknown an OID is needed here" 'a OBJECT IDENTIFIER ::= { foo 1 }'
+    says "an OID that is not imported, in INDEX" "4:91: refused 41: 'enterprises' $unknown INDEX needs an object" "a $object INDEX { enterprises } ::= { t 1 }"
+    says "an unknown name in AUGMENTS" "4:94: refused 41: 'foo' $unknown AUGMENTS needs an object" "a $object AUGMENTS { foo } ::= { t 1 }"
+    says "an unknown name in OBJECTS" "4:31: refused 41: 'foo' $unknown OBJECTS needs an object" 'n NOTIFICATION-TYPE OBJECTS { foo } STATUS current DESCRIPTION "" ::= { t 0 1 }'
+    says "an unknown name in a SEQUENCE" "4:18: refused 41: 'foo' $unknown SEQUENCE needs an object" 'E ::= SEQUENCE { foo INTEGER }'
+    says "a type that is not imported, after OF" "4:34: refused 41: 'Opaque' $unknown OF needs a SEQUENCE type" "a OBJECT-TYPE SYNTAX SEQUENCE OF Opaque $tail"
+    printf 'T DEFINITIONS ::= BEGIN t MODULE-IDENTITY LAST-UPDATED "" ORGANIZATION "" CONTACT-INFO "" DESCRIPTION "" ::= { iso 9 } END' >"$scratch/module"
+    said_first "explain: an unknown macro" "1:27: refused 41: 'MODULE-IDENTITY' $unknown a macro is needed here; SNMPv2-SMI offers it"
+}
+
+# A name of another kind: what it is, and what is needed.
+test_explain_other_kinds() {
+    object='OBJECT-TYPE SYNTAX Integer32 MAX-ACCESS read-only STATUS current DESCRIPTION ""'
+    says "a notification in INDEX" "4:91: refused 42: 'n' is a notification, and INDEX needs an object" "a $object INDEX { n } ::= { t 1 }
+n NOTIFICATION-TYPE STATUS current DESCRIPTION \"\" ::= { t 0 1 }"
+    says "the identity in AUGMENTS" "4:94: refused 42: 't' is the module's identity, and AUGMENTS needs an object" "a $object AUGMENTS { t } ::= { t 1 }"
+    says "a plain OID in OBJECTS" "5:31: refused 42: 'p' is a plain OID, and OBJECTS needs an object" "p OBJECT IDENTIFIER ::= { t 1 }
+n NOTIFICATION-TYPE OBJECTS { p } STATUS current DESCRIPTION \"\" ::= { t 0 1 }"
+    says "an object identity in a SEQUENCE" "5:18: refused 42: 'i' is an object identity, and SEQUENCE needs an object" "i OBJECT-IDENTITY STATUS current DESCRIPTION \"\" ::= { t 1 }
+E ::= SEQUENCE { i INTEGER }"
+    says "iso in INDEX" "4:91: refused 42: 'iso' is a built-in OID, and INDEX needs an object" "a $object INDEX { iso } ::= { t 1 }"
+    table='OBJECT-TYPE SYNTAX SEQUENCE OF'
+    says "a convention after OF" "5:34: refused 42: 'C' is a textual convention, and OF needs a SEQUENCE type" "C ::= TEXTUAL-CONVENTION STATUS current DESCRIPTION \"\" SYNTAX INTEGER
+a $table C MAX-ACCESS not-accessible STATUS current DESCRIPTION \"\" ::= { t 1 }"
+    says "an imported type after OF" "4:34: refused 42: 'Gauge32' is an imported type, and OF needs a SEQUENCE type" "a $table Gauge32 MAX-ACCESS not-accessible STATUS current DESCRIPTION \"\" ::= { t 1 }"
+    says "a SEQUENCE type in a convention" "4:63: refused 42: 'E' is a SEQUENCE type, and the SYNTAX of a convention needs a type of SNMPv2-SMI" "C ::= TEXTUAL-CONVENTION STATUS current DESCRIPTION \"\" SYNTAX E
+E ::= SEQUENCE { a INTEGER }
+a $object ::= { t 1 }"
+    says "a SEQUENCE type of a column" "4:20: refused 42: 'E' is a SEQUENCE type, and a column needs a type other than a SEQUENCE type" "E ::= SEQUENCE { a E }
+a $object ::= { t 1 }"
+    printf 'T DEFINITIONS ::= BEGIN IMPORTS MODULE-IDENTITY, NOTIFICATION-TYPE, mib-2 FROM SNMPv2-SMI;\nt MODULE-IDENTITY LAST-UPDATED "" ORGANIZATION "" CONTACT-INFO "" DESCRIPTION "" ::= { iso 9 }\nn NOTIFICATION-TYPE OBJECTS { mib-2 } STATUS current DESCRIPTION "" ::= { t 0 1 } END' >"$scratch/module"
+    said_first "explain: an imported OID in OBJECTS" "3:31: refused 42: 'mib-2' is an imported OID, and OBJECTS needs an object"
 }
 
 # Of a word that is too long as much is quoted as a name may have.

@@ -181,3 +181,10 @@ test_front_stack() {
     tests/stack --under 2400 target/bin/explain >&2
     report "explain runs with 2,400 KB" "$?"
 }
+
+# What a card has, and the places that explain shows.
+test_front_by_hand() {
+    python3 tests/by_hand.py target/bin/card target/bin/explain >"$scratch/compared" || cat "$scratch/compared" >&2
+    tail -n 1 "$scratch/compared" | grep -q '^[0-9][0-9][0-9] cases, 0 differences$'
+    report "card and explain: the cases worked out by hand" "$?"
+}

@@ -19,6 +19,18 @@ $(line unread 0)" ]
     report "shelf: names on standard input, and the summary" "$?"
 }
 
+# The examples of the rules, one for each number: each has its line in the summary.
+test_shelf_every_number() {
+    ./mib shelf crates/card/data/rule-* >"$scratch/output" 2>"$scratch/errors"
+    problem=0
+    for file in crates/card/data/rule-*; do
+        number=${file##*-}
+        grep -qx "refused$tab${number#0}${tab}1" "$scratch/errors" || problem=1
+    done
+    [ "$(grep -c '^refused' "$scratch/errors")" = "$(wc -l <"$scratch/output")" ] || problem=1
+    report "shelf: the summary counts each number" "$problem"
+}
+
 test_shelf_folder() {
     ./mib shelf <"$scratch" >"$scratch/output" 2>"$scratch/errors"
     [ "$?" = 2 ] && [ ! -s "$scratch/output" ] && grep -q 'standard input: Is a directory' "$scratch/errors"

@@ -13,11 +13,11 @@ pub fn print_import(text: &[u8], refusal: Refusal, out: Output) -> Output {
     let clause = refusal.clause;
     match clause {
         1 => print_unoffered(text, place.0, module.0, out),
-        _ => print_unknown(text, module.0, out),
+        _ => print_foreign(text, module.0, out),
     }
 }
 
-fn print_unknown(text: &[u8], module: usize, out: Output) -> Output {
+fn print_foreign(text: &[u8], module: usize, out: Output) -> Output {
     let out = print(out, b" is imported from ");
     let out = print_word(text, module, out);
     print(
@@ -30,14 +30,18 @@ fn print_unoffered(text: &[u8], place: usize, module: usize, out: Output) -> Out
     let out = print(out, b" is not offered by ");
     let out = print_word(text, module, out);
     let out = print(out, b", from which it is imported");
-    print_source_of(text, place, out)
+    print_source_of(symbol_at(text, place), out)
 }
 
-// Where the other of the two modules offers the symbol at a place, that it does.
-fn print_source_of(text: &[u8], place: usize, out: Output) -> Output {
+// The built-in symbol of the name at a place, or SYMBOLS where there is none.
+pub fn symbol_at(text: &[u8], place: usize) -> usize {
     let at = within(text, place);
     let end = word_end(text, at);
-    let k = symbol::part::symbol_named(text, at, end);
+    symbol::part::symbol_named(text, at, end)
+}
+
+// Which of the two modules offers symbol k, where it is one.
+pub fn print_source_of(k: usize, out: Output) -> Output {
     if symbol::SYMBOLS <= k {
         return out;
     }

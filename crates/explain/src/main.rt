@@ -6,6 +6,7 @@ mod class_name;
 mod count;
 mod expected;
 mod import;
+mod name;
 mod range;
 mod reason;
 mod source;

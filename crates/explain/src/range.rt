@@ -2,6 +2,7 @@
 use crate::reason::has_other;
 use crate::reason::print_and_other;
 use crate::tokens::collect_tokens;
+use crate::tokens::start_at;
 use buffer::byte_at;
 use output::Output;
 use output::print;
@@ -70,18 +71,6 @@ fn stands_in_sizes(classes: &[u8], starts: &[u32], n: usize, place: usize) -> bo
         i += 1;
     }
     sized
-}
-
-fn start_at(starts: &[u32], i: usize) -> usize {
-    if i < starts.len() {
-        return wide(starts[i]);
-    }
-    0
-}
-
-// The same number in a wider type.
-fn wide(x: u32) -> usize {
-    x as usize
 }
 
 // An item of an enumeration.

@@ -1,6 +1,8 @@
 // The rules in words, each with the word at fault.
 use crate::expected::print_misplaced;
 use crate::import::print_import;
+use crate::name::print_misfit;
+use crate::name::print_unknown;
 use crate::range::print_item;
 use crate::range::print_limits;
 use crate::range::print_order;
@@ -72,6 +74,8 @@ fn print_named(text: &[u8], refusal: Refusal, out: Output) -> Output {
         20 => print_table(text, refusal, out),
         21 => print_access(text, refusal, out),
         22 => print_notification(text, refusal, out),
+        41 => print_unknown(text, refusal, out),
+        42 => print_misfit(text, refusal, out),
         _ => print_plain(number, out),
     }
 }
@@ -85,10 +89,6 @@ fn print_plain(number: u8, out: Output) -> Output {
             b" is out of range: a number may be -2147483648 to 4294967295",
         ),
         8 => print(out, b" is the 513th definition, and a module may have 512"),
-        11 => print(
-            out,
-            b" is neither defined nor imported as what is needed here: a macro, a type, an OID, an object or a SEQUENCE type",
-        ),
         12 => print(
             out,
             b" has an OID that never reaches a built-in name: its heads go round in a circle",
@@ -126,6 +126,7 @@ pub fn print_other(text: &[u8], refusal: Refusal, out: Output) -> Output {
         18 => print(out, b" is the earlier item"),
         20 => print_table_other(refusal.clause, out),
         21 => print(out, b" is the read-create one"),
+        42 => print(out, b" stands here"),
         _ => print(out, b" is listed here"),
     }
 }

@@ -3,6 +3,7 @@ ghost use mathlib.Core.Path.{_≡_};
 ghost use Prim.Native.Nat.{_≤_};
 ghost use lib.ListN.{length};
 ghost use Rattle.token.specs.Table.{longest-text};
+use index::wide;
 use syntax::Answer;
 use token::LONGEST_TEXT;
 
@@ -28,4 +29,26 @@ pub fn collect_tokens(
         Answer::Underived(count, _) => count,
         Answer::Uncut(_, _) => 0,
     }
+}
+
+// The token that starts at a place, of the first n; n where none does.
+pub fn token_at(starts: &[u32], n: usize, place: usize) -> usize
+    ensures { λ r. ⌜ r ≤ n ⌝ }
+{
+    let mut i = 0;
+    while i < n {
+        if start_at(starts, i) == place {
+            return i;
+        }
+        i += 1;
+    }
+    i
+}
+
+// Where token i starts; 0 past the last.
+pub fn start_at(starts: &[u32], i: usize) -> usize {
+    if i < starts.len() {
+        return wide(starts[i]);
+    }
+    0
 }

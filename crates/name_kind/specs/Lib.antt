@@ -1,2 +1,3 @@
 pub mod Need
+pub mod Clause
 pub mod Serve

@@ -1,4 +1,5 @@
--- The uses of names in a module, and the kind that each needs: document 01, refusal 11.
+-- The uses of names in a module, and the kind that each needs: refusals 41 and 42, document 01's row 11 as request 1 of
+-- document 02 splits it.
 -- Assumes nothing.
 use mathlib.Core.Bool.{Bool, _&&_, _||_}
 use mathlib.Core.List.{List}

@@ -1,4 +1,4 @@
--- Whether what a name leads to serves the need: document 01, refusal 11.
+-- Whether what a name leads to serves the need: refusals 41 and 42.
 -- Assumes nothing.
 use mathlib.Core.Bool.{Bool, true, false, _||_}
 use mathlib.Core.List.{List}

@@ -6,8 +6,10 @@ ghost use Rattle.module_table.specs.Definition.{definitions-in};
 ghost use Rattle.name_kind.specs.Serve.{iso-serves, nothing-serves, symbol-serves, kind-serves, serves};
 ghost use Rattle.name_kind.specs.Serve.{is-oid-sort, is-type-sort, is-macro-sort};
 
+mod clause;
 mod need;
 
+pub use clause::use_clause;
 use definition::has_oid;
 use definition::kind;
 use module_table::Lead;

@@ -25,7 +25,7 @@ pub enum Need {
 }
 
 // The class of the token k before token i; that of token 0 where there is no such token.
-fn class_before(classes: &[u8], n: usize, i: usize, k: usize) -> u8
+pub fn class_before(classes: &[u8], n: usize, i: usize, k: usize) -> u8
     requires { ⌜ n ≤ length (now classes) ⌝ }
     ensures { λ r. ⌜ r ≡ class-at (take n (now (classes .entry))) (i - k) ⌝ }
 {

@@ -14,16 +14,16 @@ use Rattle.scope.specs.Token.{classes-of, spelled}
 use Rattle.scope.specs.Lead.{leads-to}
 use Rattle.name_kind.specs.Serve.{serves}
 use Rattle.name_kind.proofs.Served.{no-name-needed}
-use Rattle.naming.specs.Rules.{is-unknown}
+use Rattle.naming.specs.Rules.{is-unfit}
 
 module _ (ms : List Meaning) (i : ℕ) (need : Need) (is : need ≡ need-at (classes-of ms) i) where
-  pub no-use-known : need ≡ NoName → false ≡ is-unknown ms i
-  unfolding is-unknown
+  pub no-use-known : need ≡ NoName → false ≡ is-unfit ms i
+  unfolding is-unfit
   no-use-known none =
       sym (ap not (ap (serves (outline (classes-of ms)) (leads-to ms (spelled ms i))) (sym is ∙ none) ∙ no-name-needed (outline (classes-of ms)) (leads-to ms (spelled ms i))))
 
-  pub use-known : (lead : Lead) → lead ≡ leads-to ms (spelled ms i) → (r : Bool) → r ≡ serves (outline (classes-of ms)) lead need → not r ≡ is-unknown ms i
-  unfolding is-unknown
+  pub use-known : (lead : Lead) → lead ≡ leads-to ms (spelled ms i) → (r : Bool) → r ≡ serves (outline (classes-of ms)) lead need → not r ≡ is-unfit ms i
+  unfolding is-unfit
   use-known lead leads r served =
       let same : serves (outline (classes-of ms)) lead need ≡ serves (outline (classes-of ms)) (leads-to ms (spelled ms i)) (need-at (classes-of ms) i) = rw (leads, is) in
       ap not (served ∙ same)

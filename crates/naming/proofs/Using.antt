@@ -1,6 +1,6 @@
--- Refusal 11, and the values of tokens behind the imports: the loop that looks each use up.
+-- Refusals 41 and 42, and the values of tokens behind the imports: the loop that looks each use up.
 -- Assumes nothing.
-use mathlib.Core.Path.{_≡_, refl, sym, _∙_}
+use mathlib.Core.Path.{_≡_, refl, sym, ap, _∙_}
 use mathlib.Core.Bool.{Bool, true, false, cond}
 use mathlib.Core.List.{List}
 use Prim.Native.Nat.{ℕ, _+_, _≤_, _<_}
@@ -12,9 +12,10 @@ use lib.ListN.{length, getD, set, take, length-set}
 use lib.Seq.{getD-set-same, getD-set-other, getD-take, length-take-le}
 use borrow.Author.Tests.{le-leb, ltb-true}
 use Rattle.index.proofs.Search.{answers}
-use Rattle.rule.specs.Rule.{judge-one}
+use Rattle.rule.specs.Rule.{finding, judge-one, judge, each}
 use Rattle.rule.specs.declared.Judgement.the-variants.{Kept, Broken}
-use Rattle.rule.proofs.Judged.{Judging, judging-start, judging-next, judging-broken, judging-kept}
+use Rattle.rule.proofs.Judged.{never-broken, broken-at}
+use Rattle.rule.proofs.Each.{Asked, asked-next, asked-broken, asked-end}
 use Rattle.lexicon.specs.Word.{same}
 use Rattle.token.specs.Token.{Meaning}
 use Rattle.token.specs.Cut.{said}
@@ -32,9 +33,9 @@ use Rattle.scope.specs.Lead.{is-imported, is-offered, defined-as, leads-to}
 use Rattle.scope.specs.Held.{ImportsHeld}
 use Rattle.scope.proofs.Imports.{import-before}
 use Rattle.scope.proofs.Leads.{small}
-use Rattle.naming.specs.Rules.{is-unknown, unknown-name}
+use Rattle.naming.specs.Rules.{is-unfit, unfit-use, use-rules}
 use Rattle.naming.specs.Values.{is-name-need, is-use, value-at}
-use Rattle.naming.specs.Told.{plain, Filled}
+use Rattle.naming.specs.Told.{Filled}
 
 -- a need that is no use of a name
 pub no-need : (need : Need) → is-name-need need ≡ false → need ≡ NoName
@@ -75,22 +76,21 @@ lead-small ms s few = go (same s iso-name) (is-imported ms s) (is-offered ms s) 
 
 -- ---- the loop
 
--- it is at token i: no use that it passed is unknown, and each token that it passed has its value
+-- it is at token i: each use that it passed is known in the kind needed, and each token that it passed has its value
 pub record Using (ms : List Meaning) (old : List ℕ) (i : ℕ) (values : List ℕ) : Type 0 where
   pub from : imports-end (classes-of ms) ≤ i
   pub inside : i ≤ length ms
   pub long : length values ≡ length old
-  pub judging : Judging (unknown-name ms) (length ms) i
+  pub asked : Asked (unfit-use ms) (imports-end (classes-of ms)) (length ms) i
   pub before : (j : ℕ) → j < imports-end (classes-of ms) → getD values j 0 ≡ getD old j 0
   pub behind : (j : ℕ) → imports-end (classes-of ms) ≤ j → j < i → getD values j 0 ≡ value-at ms j
 
 pub using-start : (ms : List Meaning) (old : List ℕ) (i : ℕ) → i ≡ imports-end (classes-of ms) → i ≤ length ms → Using ms old i old
-unfolding unknown-name
 using-start ms old i is h = record {
   from = omega arith;
   inside = h;
   long = refl;
-  judging = judging-start (unknown-name ms) is refl;
+  asked = ap (λ (a : ℕ). judge (each (unfit-use ms) a (length ms))) is;
   before = λ j l. refl;
   behind = λ j l m. absurd (omega arith);
 }
@@ -113,13 +113,28 @@ module _ (ms : List Meaning) (old : List ℕ) (i : ℕ) (values : List ℕ) (u :
       }
 
   module _ (h : i < length ms) where
-    pub using-next : is-unknown ms i ≡ false → i < length values → (w : ℕ) → w ≡ value-at ms i → Using ms old (i + 1) (set values i w)
-    unfolding unknown-name
+    use-kept : is-unfit ms i ≡ false → Kept ≡ judge-one (unfit-use ms i)
+    unfolding unfit-use
+    use-kept e = never-broken (unfit-use ms i) (λ j l m. let same : j ≡ i = omega arith in ap (is-unfit ms) same ∙ e)
+
+    use-broken : is-unfit ms i ≡ true → Broken (finding (unfit-use ms i) i) ≡ judge-one (unfit-use ms i)
+    unfolding unfit-use
+    use-broken e =
+        broken-at (unfit-use ms i) (finding (unfit-use ms i) i)
+        (record {
+          index = i;
+          inside = (omega arith, omega arith);
+          found = refl;
+          breaks = e;
+          none-before = λ j l m. absurd (omega arith);
+        })
+
+    pub using-next : is-unfit ms i ≡ false → i < length values → (w : ℕ) → w ≡ value-at ms i → Using ms old (i + 1) (set values i w)
     using-next e room w is = record {
       from = omega (arith, u .from);
       inside = omega arith;
       long = length-set values i w ∙ u .long;
-      judging = judging-next (u .judging) h {test = false} (sym e) refl;
+      asked = asked-next (unfit-use ms) (imports-end (classes-of ms)) (length ms) i (u .asked) Kept (use-kept e) h refl;
       before = λ j l. getD-set-other values i j w 0 (λ q. omega (arith, u .from)) ∙ u .before j l;
       behind = λ j l m. at j l m (ℕ-discrete j i);
     }
@@ -128,12 +143,12 @@ module _ (ms : List Meaning) (old : List ℕ) (i : ℕ) (values : List ℕ) (u :
         at j l m (yes same) = rw same (getD-set-same values i w 0 room ∙ is)
         at j l m (no other) = getD-set-other values i j w 0 other ∙ u .behind j l (omega arith)
 
-    pub using-broken : is-unknown ms i ≡ true → Broken (plain 11 i) ≡ judge-one (unknown-name ms)
-    unfolding unknown-name
-    using-broken e = judging-broken (u .judging) h {test = true} (sym e) refl _ refl
+    pub using-broken : is-unfit ms i ≡ true → Broken (finding (unfit-use ms i) i) ≡ judge (use-rules ms)
+    using-broken e =
+        asked-broken (unfit-use ms) (imports-end (classes-of ms)) (length ms) i (u .asked) _ (use-broken e) h (finding (unfit-use ms i) i) refl
 
-  pub using-kept : length ms ≤ i → Kept ≡ judge-one (unknown-name ms)
-  using-kept h = judging-kept (u .judging) h
+  pub using-kept : length ms ≤ i → Kept ≡ judge (use-rules ms)
+  using-kept h = asked-end (unfit-use ms) (imports-end (classes-of ms)) (length ms) i (u .asked) h
 
   pub using-end : length ms ≤ i → length values ≤ length ms → Filled ms old values
   using-end h m = record { before = u .before; behind = λ j l k. u .behind j l (omega arith) }

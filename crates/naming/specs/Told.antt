@@ -16,6 +16,8 @@ use Rattle.definition.specs.Landmark.{class-at}
 use Rattle.token.specs.Token.{Meaning}
 use Rattle.symbol.specs.Symbol.{iso-name}
 use Rattle.module_table.specs.Definition.{width, definitions-in}
+use Rattle.module_table.specs.declared.Lead.{Lead}
+use Rattle.module_table.specs.declared.Lead.the-variants.{Iso, Import, Definition, Nothing}
 use Rattle.outline.specs.Outline.{outline}
 use Rattle.scope.specs.Token.{classes-of, spelled}
 use Rattle.scope.specs.Import.{imports-end, is-import, source, offered}
@@ -54,7 +56,14 @@ abbrev pub ImportsFilled : List Meaning → Judgement → List ℕ → Type 0
 ImportsFilled ms Judgement.Kept values = (i : ℕ) → i < imports-end (classes-of ms) → getD values i 0 ≡ import-word ms i
 ImportsFilled ms (Judgement.Broken f) values = Unit {0}
 
--- where rule 11 is kept, the values behind the imports are right, and those of the imports as they were
+-- the number of a use that isn't known in the kind needed, by what its name leads to: 41 where that is nothing
+abbrev pub lead-number : Lead → ℕ
+lead-number Iso = 42
+lead-number (Import k) = 42
+lead-number (Definition r) = 42
+lead-number Nothing = 41
+
+-- where 41 and 42 are kept, the values behind the imports are right, and those of the imports as they were
 pub record Filled (ms : List Meaning) (old new : List ℕ) : Type 0 where
   pub before : (i : ℕ) → i < imports-end (classes-of ms) → getD new i 0 ≡ getD old i 0
   pub behind : (i : ℕ) → imports-end (classes-of ms) ≤ i → i < length new → getD new i 0 ≡ value-at ms i

@@ -31,7 +31,7 @@ pub enum Introduced {
 }
 
 // Whether token i introduces a name, in a module whose imports end at `end`.
-fn introduces(classes: &[u8], end: usize, i: usize) -> bool
+pub fn introduces(classes: &[u8], end: usize, i: usize) -> bool
     requires end { ⌜ end ≡ imports-end (now classes) ⌝ }
     requires early { ⌜ i < 65536 ⌝ }
     ensures { λ r. ⌜ r ≡ introduces (now (classes .entry)) i ⌝ }

@@ -1,4 +1,4 @@
-// The names of a module: refusals 8 to 11, what each name in use leads to, and the outline of the definitions.
+// The names of a module: refusals 8 to 10, 41 and 42, what each name in use leads to, and the outline of the definitions.
 ghost use mathlib.Core.Path.{_≡_};
 ghost use Prim.Native.Nat.{_*_, _≤_};
 ghost use lib.ListN.{length};
@@ -14,6 +14,7 @@ ghost use Rattle.naming.specs.Told.{plain, ValuesFilled, judgement, Hold
 mod again;
 mod number;
 mod offer;
+mod unfit;
 mod usage;
 
 use again::judge_introduced;
@@ -47,7 +48,7 @@ fn plain_finding(number: u8, i: usize) -> Finding
     }
 }
 
-// Refusals 9 to 11, of a module whose definitions are collected. Where they are kept, each token has its value.
+// Refusals 9, 10, 41 and 42, of a module whose definitions are collected. Where they are kept, each token has its value.
 fn judge_names(
     text: &[u8],
     classes: &[u8],

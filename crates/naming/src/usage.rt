@@ -1,8 +1,8 @@
-// Refusal 11: names that aren't known in the kind needed; and the values of the tokens behind the imports.
+// Refusals 41 and 42: names that aren't known in the kind needed; and the values of the tokens behind the imports.
 ghost use mathlib.Core.Path.{_≡_};
 ghost use Prim.Native.Nat.{_*_, _≤_, _<_};
 ghost use lib.ListN.{length, take};
-ghost use Rattle.rule.specs.Rule.{judge-one};
+ghost use Rattle.rule.specs.Rule.{judge};
 ghost use Rattle.token.specs.Cut.{meanings-in};
 ghost use Rattle.module_table.specs.Definition.{definitions-in};
 ghost use Rattle.module_table.specs.Module.{most-definitions};
@@ -11,11 +11,11 @@ ghost use Rattle.scope.specs.Token.{classes-of, TokensHeld};
 ghost use Rattle.scope.specs.Import.{imports-end};
 ghost use Rattle.scope.specs.Held.{ImportsHeld, Distinct};
 ghost use Rattle.scope.specs.Tag.{name-words};
-ghost use Rattle.naming.specs.Rules.{unknown-name};
+ghost use Rattle.naming.specs.Rules.{use-rules};
 ghost use Rattle.naming.specs.Values.{is-name-need};
 ghost use Rattle.naming.specs.Told.{UsesFilled};
 use crate::number::magnitude_at;
-use crate::plain_finding;
+use crate::unfit::unfit_finding;
 use index::RecordIndex;
 use index::TokenIndex;
 use module_table::Lead;
@@ -86,8 +86,8 @@ fn blank_names() -> [u32; MOST_DEFINITIONS * NAME_WORDS]
     [0u32; MOST_DEFINITIONS * NAME_WORDS]
 }
 
-// Refusal 11, at the first token from the imports' end on that is used as a name that isn't known. Each use is looked up once: where the
-// rule is kept, the tokens behind the imports have their values.
+// Refusals 41 and 42, at the first token from the imports' end on that is used as a name that isn't known in the kind needed. Each use is
+// looked up once: where the rules are kept, the tokens behind the imports have their values.
 pub fn judge_uses(
     text: &[u8],
     classes: &[u8],
@@ -103,7 +103,7 @@ pub fn judge_uses(
     requires few { ⌜ length (definitions-in (now definitions)) ≤ most-definitions ⌝ }
     requires distinct { ⌜ Distinct (meanings-in (now text)) ⌝ }
     ensures long { λ r. ⌜ length (now (values .exit)) ≡ length (now (values .entry)) ⌝ }
-    ensures judged { λ r. ⌜ r ≡ judge-one (unknown-name (meanings-in (now (text .entry)))) ⌝ }
+    ensures judged { λ r. ⌜ r ≡ judge (use-rules (meanings-in (now (text .entry)))) ⌝ }
     ensures filled { λ r. ⌜ UsesFilled (meanings-in (now (text .entry))) r (now (values .entry)) (now (values .exit)) ⌝ }
 {
     let end = imports_end(classes);
@@ -129,7 +129,7 @@ pub fn judge_uses(
                 Sought { name, tag, near },
             );
             if !serves(definitions, lead, need) {
-                return Judgement::Broken(plain_finding(11, i));
+                return Judgement::Broken(unfit_finding(text, classes, starts, ends, lead, i));
             }
             recent[slot] = nearest(lead, recent[slot]);
             let found = word_for(lead);

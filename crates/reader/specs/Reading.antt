@@ -54,7 +54,7 @@ later-rules ms =
     ++ (rules-over (spelled ms) (classed ms .classes) (classed ms .values) (classed ms .definitions)
     ++ object-rules (module-of ms .definitions) (module-of ms .values) (module-of ms .numbers))
 
--- all rules from 8 on, in the order of their numbers
+-- all rules from 8 on, in the order of their ranks
 unfoldable pub rules : List Meaning → List Rule
 rules ms = name-rules ms ++ later-rules ms
 

@@ -4,6 +4,7 @@ use mathlib.Core.Path.{_≡_, refl, sym, ap, _∙_}
 use mathlib.Core.Bool.{Bool, true, false, cond, not, _&&_, _||_}
 use mathlib.Core.List.{List, []}
 use Prim.Native.Nat.{ℕ, suc, _+_, _-_, _≤_, _<_, min}
+use native.Mathlib.Decide.{decLt}
 use native.Mathlib.Numerals.{add-one}
 use native.Mathlib.Omega.{arith}
 use lib.Dec.{T, eqb, leb, ltb}
@@ -11,7 +12,7 @@ use lib.ListN.{length, List·getD-eq-default}
 use borrow.Author.Tests.{eqb-true, leb-true, leb-false, ltb-true, le-leb, lt-ltb, le-ltb}
 use Rattle.index.proofs.Search.{first-inside}
 use Rattle.index.proofs.Tested.{passes, tested}
-use Rattle.terminal.specs.Terminal.{lower, Upper, current, semicolon, FROM, IMPORTS, MODULE-IDENTITY, NOTIFICATION-TYPE, OBJECT-IDENTITY, OBJECT-TYPE, TEXTUAL-CONVENTION}
+use Rattle.terminal.specs.Terminal.{lower, Upper, current, assign, semicolon, FROM, IDENTIFIER, IMPORTS, MODULE-IDENTITY, NOTIFICATION-TYPE, OBJECT, OBJECT-IDENTITY, OBJECT-TYPE, TEXTUAL-CONVENTION}
 use Rattle.lexicon.specs.Word.{bytes, same, is-name}
 use Rattle.token.specs.Token.{Meaning, meaning, spelling-of, no-meaning}
 use Rattle.symbol.specs.Symbol.{symbol-of, symbol-count, symbol-names, symbols, symbol, of-smi, of-tc, module-name, modules}
@@ -100,6 +101,27 @@ module _ (cs : List ℕ) (i : ℕ) where
       (either (is-lower (class-at cs i) && (is-defining (class-at cs (i + 1)) || before-object-identifier cs i)) _ e
       (λ q. lower-named (class-at cs i) (both-first (is-lower (class-at cs i)) _ q))
       (λ q. omega (arith, eqb-true (class-at cs i) Upper (both-first (eqb (class-at cs i) Upper) _ q))))
+
+  -- a definition's name is not the last token
+  pub begins-inside : begins cs i ≡ true → i + 1 < length cs
+  unfolding begins before-object-identifier
+  begins-inside e = go (decLt (i + 1) (length cs))
+    where
+      next : ℕ
+      next = class-at cs (i + 1)
+
+      some : 0 < class-at cs (i + 1)
+      some =
+          either (is-lower (class-at cs i) && (is-defining next || before-object-identifier cs i)) _ e
+          (λ q.
+          either (is-defining next) _ (both-second (is-lower (class-at cs i)) _ q)
+          (λ d. omega (arith, defining-named next d))
+          (λ b. omega (arith, eqb-true next OBJECT (both-first (eqb next OBJECT) _ (both-first (eqb next OBJECT && eqb (class-at cs (i + 2)) IDENTIFIER) _ b)))))
+          (λ q. omega (arith, eqb-true next assign (both-second (eqb (class-at cs i) Upper) _ q)))
+
+      go : Dec (i + 1 < length cs) → i + 1 < length cs
+      go (yes h) = h
+      go (no h) = absurd (omega (arith, some, List·getD-eq-default cs 0 {n = i + 1} (omega arith)))
 
   pub introduces-named : introduces cs i ≡ true → is-name (class-at cs i) ≡ true
   unfolding introduces

@@ -13,6 +13,7 @@ pub use lookup::leads_to;
 pub use name_table::NAME_WORDS;
 pub use name_table::collect_names;
 pub use name_table::name_tag;
+pub use spelling::is_named;
 pub use spelling::name_at;
 
 // A name: the part of the text from start up to end.

@@ -1,5 +1,5 @@
 -- The objects that a SEQUENCE type names. A token of its list names an object where its value leads to one. Each name of the list leads to
--- an object, by refusal 11, and the types there lead to none; names differ exactly where the objects do, by refusal 9.
+-- an object, by 41 and 42, and the types there lead to none; names differ exactly where the objects do, by refusal 9.
 -- Assumes nothing.
 use mathlib.Core.Bool.{Bool, cond, not, _&&_}
 use mathlib.Core.List.{List}

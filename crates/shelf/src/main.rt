@@ -18,19 +18,19 @@ use reader::NUMBER_WORDS;
 use reader::RECORD_WORDS;
 use reader::Refusal;
 
-// The files are counted by their answers: accepted, each refusal by its number, and those that cannot be read.
+// The files are counted by their answers: accepted, each refusal by its number, which is a byte, and those that cannot be read.
 const ACCEPTED: usize = 0;
 
-const UNREAD: usize = 31;
+const UNREAD: usize = 256;
 
 // Of the refused, those that are outside what is read are counted once more.
-const OUTSIDE: usize = 32;
+const OUTSIDE: usize = 257;
 
 // At a terminal the count of files is shown whenever so many more are read.
 const STRIDE: u64 = 64;
 
 fn main() {
-    let mut counts = [0u64; 33];
+    let mut counts = [0u64; 258];
     let out = read_files(&mut counts, output::start());
     print_summary(&counts);
     output::finish(out);

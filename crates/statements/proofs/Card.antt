@@ -70,7 +70,7 @@ unfolding card-tokens tok meaning spelling-of value-of
     definition-Landmark.has-oid definition-Members.oid-numbers module-table-Definition.words module-table-Definition.absent module-table-Definition.definitions-from module-table-Definition.definitions-in
     module-table-Definition.changed-from module-table-Lead.lead-in outline-Outline.outline scope-Import.imports-end scope-Import.can-be-imported scope-Import.is-symbol scope-Import.is-import scope-Import.source
     scope-Import.offered scope-Lead.introduces scope-Lead.leads-to name-kind-Need.enclosing name-kind-Need.upper-need name-kind-Need.lists-objects name-kind-Need.lower-need name-kind-Need.need-at
-    name-kind-Serve.serves naming-Rules.too-many naming-Rules.introduced-again naming-Rules.not-offered naming-Rules.is-unknown naming-Rules.unknown-name naming-Values.is-use naming-Values.values-from
+    name-kind-Serve.serves naming-Rules.too-many naming-Rules.introduced-again naming-Rules.not-offered naming-Rules.is-unfit naming-Rules.unfit-use naming-Values.is-use naming-Values.values-from
     oid-number-Number.number-tokens oid-number-Number.parts-in oid-head-Oid.reaches oid-head-Oid.definition-numbers oid-head-Oid.resolved-oid oid-head-Oid.numbers-before oid-head-Unreached.unreached oid-tree-Refusal.too-long
     oid-tree-Refusal.past-room oid-tree-Refusal.counts-before oid-tree-Refusal.long-by-count oid-tree-Refusal.room-by-count oid-tree-Stage.with-oid oid-tree-Stage.with-oids oid-run-Run.is-below oid-holder-Holder.held-twice
     type-class-Class.syntax-in type-class-Class.convention-class type-class-Class.object-class type-class-Class.sequence-number type-class-Stage.convention-classed type-class-Stage.object-classed sub-type-Range.starts-range sub-type-Range.is-backward
@@ -97,7 +97,7 @@ unfolding card-tokens tok meaning spelling-of value-of
     definition-Landmark.has-oid definition-Members.oid-numbers module-table-Definition.words module-table-Definition.absent module-table-Definition.definitions-from module-table-Definition.definitions-in
     module-table-Definition.changed-from module-table-Lead.lead-in outline-Outline.outline scope-Import.imports-end scope-Import.can-be-imported scope-Import.is-symbol scope-Import.is-import scope-Import.source
     scope-Import.offered scope-Lead.introduces scope-Lead.leads-to name-kind-Need.enclosing name-kind-Need.upper-need name-kind-Need.lists-objects name-kind-Need.lower-need name-kind-Need.need-at
-    name-kind-Serve.serves naming-Rules.too-many naming-Rules.introduced-again naming-Rules.not-offered naming-Rules.is-unknown naming-Rules.unknown-name naming-Values.is-use naming-Values.values-from
+    name-kind-Serve.serves naming-Rules.too-many naming-Rules.introduced-again naming-Rules.not-offered naming-Rules.is-unfit naming-Rules.unfit-use naming-Values.is-use naming-Values.values-from
     oid-number-Number.number-tokens oid-number-Number.parts-in oid-head-Oid.reaches oid-head-Oid.definition-numbers oid-head-Oid.resolved-oid oid-head-Oid.numbers-before oid-head-Unreached.unreached oid-tree-Refusal.too-long
     oid-tree-Refusal.past-room oid-tree-Refusal.counts-before oid-tree-Refusal.long-by-count oid-tree-Refusal.room-by-count oid-tree-Stage.with-oid oid-tree-Stage.with-oids oid-run-Run.is-below oid-holder-Holder.held-twice
     type-class-Class.syntax-in type-class-Class.convention-class type-class-Class.object-class type-class-Class.sequence-number type-class-Stage.convention-classed type-class-Stage.object-classed sub-type-Range.starts-range sub-type-Range.is-backward

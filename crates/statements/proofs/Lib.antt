@@ -10,6 +10,7 @@ pub mod Limits
 pub mod Filled
 pub mod CutOut
 pub mod Demands
+pub mod Gone
 pub mod Third
 pub mod Alike
 pub mod Printing

@@ -9,8 +9,9 @@ use lib.ListN.{length}
 use Rattle.rule.specs.Rule.{Rule, each, each-of}
 use Rattle.token.specs.Token.{Meaning}
 use Rattle.module_table.specs.Module.{Module, most-definitions}
-use Rattle.scope.specs.Token.{spelled}
-use Rattle.naming.specs.Rules.{too-many, introduced-again, not-offered, unknown-name, name-rules}
+use Rattle.scope.specs.Token.{classes-of, spelled}
+use Rattle.scope.specs.Import.{imports-end}
+use Rattle.naming.specs.Rules.{too-many, introduced-again, not-offered, unfit-use, use-rules, name-rules}
 use Rattle.naming.specs.Values.{named}
 use Rattle.oid_head.specs.Unreached as rule
 use Rattle.oid_tree.specs.Refusal.{too-long, past-room}
@@ -23,10 +24,10 @@ use Rattle.table_check.specs.Refusal.{table-broken}
 use Rattle.access_check.specs.Access.{access-broken}
 use Rattle.access_check.specs.Notification.{notification-broken}
 use Rattle.reader.specs.Reading.{numbered, classed, module-of, oid-rules, object-rules, later-rules, rules}
-use Rattle.statements.specs.Breach.{definition-count, ModuleBreach, definition-513, iso-introduced, introduced-twice, unoffered, unknown, unreached, long-oid, many-numbers, held-twice, unordered, misfit, misnumbered, indirect, table-rules, access-rules, notification-rules}
+use Rattle.statements.specs.Breach.{definition-count, ModuleBreach, definition-513, iso-introduced, introduced-twice, unoffered, unknown, other-kind, unreached, long-oid, many-numbers, held-twice, unordered, misfit, misnumbered, indirect, table-rules, access-rules, notification-rules}
 use Rattle.statements.proofs.Ordered.{Broken, _listed-in_, BrokenIn, broken-in, listed-before, listed-after, listed-each}
-use Rattle.statements.proofs.Rising.{classed-keeps, module-keeps}
-use Rattle.statements.proofs.NameBreaches.{many-told, many-broken, again-told, iso-broken, twice-broken, offer-told, offer-broken, use-told, use-broken}
+use Rattle.statements.proofs.Rising.{classed-keeps, module-keeps, uses-inside}
+use Rattle.statements.proofs.NameBreaches.{many-told, many-broken, again-told, iso-broken, twice-broken, offer-told, offer-broken, use-told, unknown-broken, kind-broken}
 use Rattle.statements.proofs.OidBreaches.{all-there, definition-broken, definition-told, unreached-told, unreached-broken, long-told, long-broken, room-told, room-broken, held-told, held-broken}
 use Rattle.statements.proofs.SyntaxBreaches.{unordered-told, unordered-broken, misfit-told, misfit-broken, misnumbered-told, misnumbered-broken, indirect-told, indirect-broken}
 use Rattle.statements.proofs.TableBreaches.{table-told, table-clause, access-told, access-clauses, notification-told, notification-clauses}
@@ -50,10 +51,10 @@ module _ (ms : List Meaning) where
   told-row [] ss p q = q
   told-row (r ∷ rs) ss p q = (p .0, told-row rs ss (p .1) q)
 
-  told-each : (f : ℕ → Rule) (c : ℕ) → ((k : ℕ) → k < c → Told (f k)) → (n a : ℕ) → a + n ≤ c → AllTold (each-of f a n)
+  told-each : (f : ℕ → Rule) (b c : ℕ) → ((k : ℕ) → b ≤ k → k < c → Told (f k)) → (n a : ℕ) → b ≤ a → a + n ≤ c → AllTold (each-of f a n)
   unfolding each-of
-  told-each f c p zero a h = tt
-  told-each f c p (suc n) a h = (p a (omega arith), told-each f c p n (suc a) (omega arith))
+  told-each f b c p zero a l h = tt
+  told-each f b c p (suc n) a l h = (p a l (omega arith), told-each f b c p n (suc a) (omega arith) (omega arith))
 
   abbrev shapes : Module
   shapes = classed ms
@@ -62,7 +63,7 @@ module _ (ms : List Meaning) where
   told-of-each : (f : ℕ → Rule) → ((k : ℕ) → k < definition-count ms → Told (f k)) → AllTold (each f 0 (length (shapes .definitions)))
   unfolding each
   told-of-each f p =
-      told-each f (length (shapes .definitions)) (λ k h. p k (omega (arith, all-there ms (classed-keeps ms)))) (length (shapes .definitions) - 0) 0 (omega arith)
+      told-each f 0 (length (shapes .definitions)) (λ k l h. p k (omega (arith, all-there ms (classed-keeps ms)))) (length (shapes .definitions) - 0) 0 (omega arith) (omega arith)
 
   abbrev m : Module
   m = module-of ms
@@ -89,9 +90,18 @@ module _ (ms : List Meaning) where
   notifications-told k b =
       definition-told ms (module-keeps ms) 22 _ _ _ k b (λ h e. let x = notification-told m k e in notification-rules h (x .0) (x .1))
 
+  -- a rule for each token after the imports
+  abbrev end : ℕ
+  end = imports-end (classes-of ms)
+
+  uses-told : AllTold (use-rules ms)
+  unfolding each
+  uses-told =
+      told-each (unfit-use ms) end (length ms) (λ k l h. use-told ms k l h) (length ms - end) end (omega arith) (omega (arith, uses-inside ms))
+
   names-told : AllTold (name-rules ms)
-  unfolding too-many introduced-again not-offered unknown-name
-  names-told = (many-told ms, (again-told ms, (offer-told ms, (use-told ms, tt))))
+  unfolding too-many introduced-again not-offered
+  names-told = (many-told ms, (again-told ms, (offer-told ms, uses-told)))
 
   oids-told : AllTold (oid-rules (named ms))
   unfolding oid-rules rule.unreached too-long past-room held-rule
@@ -145,6 +155,10 @@ module _ (ms : List Meaning) where
   unfolding rules
   by-names r l = listed-before r (name-rules ms) (later-rules ms) l
 
+  by-uses : (i : ℕ) → imports-end (classes-of ms) ≤ i → i < length ms → unfit-use ms i listed-in rules ms
+  unfolding each
+  by-uses i l h = by-names _ (inr (inr (inr (listed-each (unfit-use ms) end (length ms - end) i l (omega arith)))))
+
   by-oids : (r : Rule) → r listed-in oid-rules (named ms) → r listed-in rules ms
   unfolding rules later-rules
   by-oids r l = listed-after r (name-rules ms) (later-rules ms) (listed-before r (oid-rules (named ms)) (of-syntax ++ of-objects) l)
@@ -191,7 +205,7 @@ module _ (ms : List Meaning) where
       (listed-after conventions (each items 0 (length (shapes .definitions))) (conventions ∷ []) (inl refl)))
 
   pub rule-of-row : (number token : ℕ) → ModuleBreach ms number token → BrokenIn (rules ms) number token
-  unfolding oid-rules object-rules too-many introduced-again not-offered unknown-name rule.unreached too-long past-room held-rule table-broken access-broken notification-broken
+  unfolding oid-rules object-rules too-many introduced-again not-offered rule.unreached too-long past-room held-rule table-broken access-broken notification-broken
   rule-of-row number token (definition-513 {k} h is) =
       let that : k ≡ most-definitions = omega arith in
       broken-in (too-many ms) (by-names _ (inl refl)) refl (many-broken ms k h that)
@@ -199,7 +213,10 @@ module _ (ms : List Meaning) where
   rule-of-row number token (introduced-twice j h e l f is) =
       broken-in (introduced-again ms) (by-names _ (inr (inl refl))) refl (twice-broken ms token j h e l f is)
   rule-of-row number token (unoffered h e f) = broken-in (not-offered ms) (by-names _ (inr (inr (inl refl)))) refl (offer-broken ms token h e f)
-  rule-of-row number token (unknown l h f) = broken-in (unknown-name ms) (by-names _ (inr (inr (inr (inl refl))))) refl (use-broken ms token l h f)
+  rule-of-row number token (unknown l h some none) =
+      let b = unknown-broken ms token l h some none in broken-in (unfit-use ms token) (by-uses token l h) (b .1) (b .0)
+  rule-of-row number token (other-kind l h known f) =
+      let b = kind-broken ms token l h known f in broken-in (unfit-use ms token) (by-uses token l h) (b .1) (b .0)
   rule-of-row number token (unreached {k} h e none) =
       broken-in (rule.unreached (named ms)) (by-oids _ (inl refl)) refl (unreached-broken ms k h e none)
   rule-of-row number token (long-oid {k} h l) = broken-in (too-long (named ms)) (by-oids _ (inr (inl refl))) refl (long-broken ms k h l)

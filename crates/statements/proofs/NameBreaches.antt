@@ -1,8 +1,8 @@
--- The rows 8 to 11 are the rules on names.
+-- The rows 8 to 10, 41 and 42 are the rules on names.
 -- Assumes nothing.
 use mathlib.Core.Path.{_≡_, refl, sym, subst, ap, _∙_}
 use mathlib.Core.Logic.{_⊎_, ⊎-elim}
-use mathlib.Core.Bool.{true, false}
+use mathlib.Core.Bool.{Bool, true, false, cond}
 use mathlib.Core.List.{List, []}
 use Prim.Native.Nat.{ℕ, _≤_, _<_}
 use native.Mathlib.Omega.{arith}
@@ -20,16 +20,30 @@ use Rattle.scope.specs.Token.{classes-of, spelled}
 use Rattle.scope.specs.Import.{imports-end, is-import, offered}
 use Rattle.scope.specs.Lead.{introduces, leads-to}
 use Rattle.name_kind.specs.Need.{need-at}
-use Rattle.name_kind.specs.Serve.{serves}
+use Rattle.name_kind.specs.Serve.{nothing-serves, serves}
+use Rattle.name_kind.specs.declared.need.Need.{Need}
+use Rattle.name_kind.specs.declared.need.Need.the-variants.{NoName, Macro, TypeName, ObjectType, Head, Object, Sequence}
+use Rattle.name_kind.proofs.Served.{no-name-needed}
 use Rattle.index.proofs.Search.{any-at, first-holds}
-use Rattle.naming.specs.Rules.{too-many, introduces-name, introduced-again, not-offered, is-unknown, unknown-name}
-use Rattle.statements.specs.Breach.{definition-count, name-token, Offers, ModuleBreach, definition-513, iso-introduced, introduced-twice, unoffered, unknown}
+use Rattle.naming.specs.Rules.{too-many, introduces-name, introduced-again, not-offered, is-known, is-unfit, use-number, unfit-use}
+use Rattle.naming.proofs.Known.{unknown-nothing}
+use Rattle.statements.specs.Breach.{definition-count, name-token, Offers, Known, iso-itself, introduced, ModuleBreach, definition-513, iso-introduced, introduced-twice, unoffered, unknown, other-kind}
 use Rattle.statements.proofs.Tests.{both, joined, either, left, right, deny, fails, never, found}
 use Rattle.statements.proofs.Ordered.{Broken, BrokenBy}
 
 -- two spellings that are the same
 pub spelled-same : (xs ys : List ℕ) → xs ≡ ys → same xs ys ≡ true
 spelled-same xs ys e = subst (λ (z : List ℕ). same xs z ≡ true) e (same-refl xs)
+
+-- what leads to nothing serves no need
+nothing-serves-none : (need : Need) → (need ≡ NoName → ⊥) → nothing-serves need ≡ false
+nothing-serves-none NoName some = absurd (some refl)
+nothing-serves-none Macro some = refl
+nothing-serves-none TypeName some = refl
+nothing-serves-none ObjectType some = refl
+nothing-serves-none Head some = refl
+nothing-serves-none Object some = refl
+nothing-serves-none Sequence some = refl
 
 module _ (ms : List Meaning) where
   pub many-told : (k : ℕ) → Broken (too-many ms) k → ModuleBreach ms 8 (too-many ms .place k)
@@ -107,11 +121,52 @@ module _ (ms : List Meaning) where
     placed = refl;
   }
 
-  pub use-told : (i : ℕ) → Broken (unknown-name ms) i → ModuleBreach ms 11 (unknown-name ms .place i)
-  unfolding unknown-name is-unknown
-  use-told i b = unknown (b .from) (b .below) (not-true _ (b .breaks))
+  -- a name is known, as the row and as the rule say it
+  known-is : (s : List ℕ) → Known ms s → is-known ms s ≡ true
+  known-is s (iso-itself is) = left _ (spelled-same _ _ is)
+  known-is s (introduced j h e is) =
+      right (same s iso-name) (any-at (introduces-name ms s) 0 (length ms) j (omega arith) h (joined e (spelled-same _ _ is)))
 
-  pub use-broken : (i : ℕ) → imports-end (classes-of ms) ≤ i → i < length ms
-      → serves (outline (classes-of ms)) (leads-to ms (spelled ms i)) (need-at (classes-of ms) i) ≡ false → BrokenBy (unknown-name ms) i
-  unfolding unknown-name is-unknown
-  use-broken i l h f = record { index = i; broken = record { from = l; below = h; breaks = deny f }; placed = refl }
+  is-known-told : (s : List ℕ) → is-known ms s ≡ true → Known ms s
+  is-known-told s e =
+      ⊎-elim (λ iso. iso-itself (same-equal _ _ iso))
+      (λ some.
+      let f = found (introduces-name ms s) 0 (length ms) some in
+      let x = both (introduces (classes-of ms) (f .0)) _ (f .3) in
+      introduced (f .0) (f .2) (x .0) (same-equal _ _ (x .1)))
+      (either _ _ e)
+
+  module _ (i : ℕ) (l : imports-end (classes-of ms) ≤ i) (h : i < length ms) where
+    -- a use that isn't known in the kind needed breaks the row of its number
+    use-row : is-unfit ms i ≡ true → (b : Bool) → is-known ms (spelled ms i) ≡ b → ModuleBreach ms (cond b 42 41) i
+    unfolding is-unfit
+    use-row e true known = other-kind l h (is-known-told _ known) (not-true _ e)
+    use-row e false none =
+        unknown l h
+        (λ no-name.
+        never (not-true _ e) (ap (serves (outline (classes-of ms)) (leads-to ms (spelled ms i))) no-name ∙ no-name-needed _ _))
+        (λ known. never none (known-is _ known))
+
+    pub use-told : (j : ℕ) → Broken (unfit-use ms i) j → ModuleBreach ms (unfit-use ms i .number) (unfit-use ms i .place j)
+    unfolding unfit-use
+    use-told j b =
+        let same : i ≡ j = omega (arith, b .from, b .below) in
+        subst (λ (k : ℕ). ModuleBreach ms (use-number ms i) k) same (use-row (ap (is-unfit ms) same ∙ b .breaks) (is-known ms (spelled ms i)) refl)
+
+    -- and the rule of the token is broken where a row says so, with that number
+    at-token : is-unfit ms i ≡ true → BrokenBy (unfit-use ms i) i
+    unfolding unfit-use
+    at-token e = record { index = i; broken = record { from = omega arith; below = omega arith; breaks = e }; placed = refl }
+
+    pub unknown-broken : (need-at (classes-of ms) i ≡ NoName → ⊥) → (Known ms (spelled ms i) → ⊥)
+        → BrokenBy (unfit-use ms i) i × (unfit-use ms i .number ≡ 41)
+    unfolding unfit-use is-unfit serves
+    unknown-broken some none =
+        let not-known : is-known ms (spelled ms i) ≡ false = fails _ (λ e. none (is-known-told _ e)) in
+        (at-token (rw (unknown-nothing ms (spelled ms i) not-known) (deny (nothing-serves-none (need-at (classes-of ms) i) some))), rw not-known)
+
+    pub kind-broken : Known ms (spelled ms i)
+        → serves (outline (classes-of ms)) (leads-to ms (spelled ms i)) (need-at (classes-of ms) i) ≡ false
+        → BrokenBy (unfit-use ms i) i × (unfit-use ms i .number ≡ 42)
+    unfolding unfit-use is-unfit
+    kind-broken known f = (at-token (deny f), rw (known-is _ known))

@@ -2,6 +2,7 @@
 -- is broken has the earliest rank, and its first breach the earliest place. Each place is that of a token.
 -- Assumes nothing.
 use mathlib.Core.Path.{_≡_, refl, ap, _∙_}
+use mathlib.Core.Bool.{Bool, true, false, cond}
 use mathlib.Core.List.{List, [], _∷_, _++_}
 use Prim.Native.Nat.{ℕ, suc, _+_, _-_, _≤_, _<_}
 use native.Mathlib.Omega.{arith}
@@ -13,8 +14,9 @@ use Rattle.definition.specs.declared.Span.{Span}
 use Rattle.module_table.specs.declared.Definition.{Definition}
 use Rattle.module_table.specs.Definition.{entry}
 use Rattle.scope.specs.Token.{classes-of, spelled}
+use Rattle.scope.specs.Import.{imports-end}
 use Rattle.outline.specs.Outline.{outline}
-use Rattle.naming.specs.Rules.{too-many, introduced-again, not-offered, unknown-name, name-rules}
+use Rattle.naming.specs.Rules.{too-many, introduced-again, not-offered, is-known, unfit-use, use-rules, name-rules}
 use Rattle.naming.specs.Values.{named}
 use Rattle.oid_head.specs.Unreached.{unreached}
 use Rattle.oid_tree.specs.Refusal.{too-long, past-room}
@@ -36,6 +38,12 @@ use Rattle.outline.proofs.Outline.{outline-counted}
 use Rattle.statements.proofs.RisingDefinitions.{name-of, end-of, ends-before, end-inside, syntax-at-home}
 use Rattle.statements.proofs.RisingModule.{Keeps, keeps-then, oids-keep, classes-keep, parents-keep, outline-name, outline-syntax}
 
+-- 41 and 42 have one rank
+one-rank : (b : Bool) → rank (cond b 42 41) ≡ rank 41
+unfolding rank ranks-before is-among
+one-rank true = refl
+one-rank false = refl
+
 module _ (ms : List Meaning) where
   -- how many definitions there are
   abbrev count : ℕ
@@ -44,9 +52,9 @@ module _ (ms : List Meaning) where
   counted : length (classes-of ms) ≡ length ms
   counted = length-map ms (λ (m : Meaning). m .class)
 
-  -- a rule of number n whose breaches rise and are placed at tokens
+  -- a rule of the rank of number n whose breaches rise and are placed at tokens
   abbrev Rising : ℕ → Rule → Type 0
-  Rising n r = Confined n 0 (length ms) r
+  Rising n r = Confined (rank n) 0 (length ms) r
 
   -- a rule tested at each definition, placed at its name
   of-names : (r : Rule) → r .to ≡ count → ((k : ℕ) → r .place k ≡ getD (definitions (classes-of ms)) k 0) → Rising (r .number) r
@@ -64,7 +72,7 @@ module _ (ms : List Meaning) where
   -- a rule tested at tokens up to e, each placed there
   of-tokens : (r : Rule) → r .to ≤ length ms → ((i : ℕ) → r .place i ≡ i) → Rising (r .number) r
   of-tokens r to at = record {
-    numbered = refl;
+    ranked = refl;
     rises = λ i j l p q. omega (arith, at i, at j);
     inside = λ i p. (omega arith, omega (arith, at i, p .below));
   }
@@ -97,9 +105,14 @@ module _ (ms : List Meaning) where
   unfolding not-offered
   not-offered-rises = of-tokens (not-offered ms) (omega (arith, imports.end-inside (classes-of ms), counted)) (λ i. refl)
 
-  unknown-name-rises : Rising 11 (unknown-name ms)
-  unfolding unknown-name
-  unknown-name-rises = of-tokens (unknown-name ms) (omega arith) (λ i. refl)
+  -- 41 or 42, at one token
+  unfit-use-rises : (i : ℕ) → i < length ms → Confined (rank 41) i (suc i) (unfit-use ms i)
+  unfolding unfit-use
+  unfit-use-rises i h = record {
+    ranked = one-rank (is-known ms (spelled ms i));
+    rises = λ j k l p q. omega arith;
+    inside = λ j p. (p .from, p .below);
+  }
 
   unreached-rises : Rising 12 (unreached (named ms))
   unfolding unreached
@@ -153,9 +166,9 @@ module _ (ms : List Meaning) where
         (omega (arith, home .starts, from), omega (arith, home .ordered, from, to), omega (arith, home .ends, to))
 
     at-home : {n : ℕ} {r : Rule} → Inside n (entry shapes k .syntax .from) (entry shapes k .syntax .to) r
-        → Confined n (name-of (classes-of ms) k) (end-of (classes-of ms) k) r
+        → Confined (rank n) (name-of (classes-of ms) k) (end-of (classes-of ms) k) r
     at-home {r = r} p = record {
-      numbered = p .numbered;
+      ranked = ap rank (p .numbered);
       rises = λ i j l a b. omega (arith, p .placed i, p .placed j);
       inside = λ i b.
           let within = p .between i (b .from) (b .below) in
@@ -165,7 +178,7 @@ module _ (ms : List Meaning) where
   -- 19: its place is the first token of the syntax
   indirect-rises : Rising 19 (indirect-convention (classed ms .classes) (classed ms .values) shapes)
   indirect-rises = record {
-    numbered = refl;
+    ranked = refl;
     rises = λ i j l p q.
         let later : j < count = omega (arith, q .below, shapes-counted) in
         omega (arith, syntax-home i (omega arith) .1, syntax-home i (omega arith) .2, ends-before (classes-of ms) i j l later, syntax-home j later .0);
@@ -177,28 +190,38 @@ module _ (ms : List Meaning) where
   -- ---- in a row
 
   -- a rule for each definition, its places inside it
-  of-each : (number : ℕ) (rule : ℕ → Rule) → ((k : ℕ) → k < count → Confined number (name-of (classes-of ms) k) (end-of (classes-of ms) k) (rule k))
+  of-each : (number : ℕ) (rule : ℕ → Rule) → ((k : ℕ) → k < count → Confined (rank number) (name-of (classes-of ms) k) (end-of (classes-of ms) k) (rule k))
       → Run (rank number) (suc (rank number)) (each rule 0 (length shapes))
   unfolding each
   of-each number rule home =
       rw shapes-counted
-      (run-each rule number count (name-of (classes-of ms)) (end-of (classes-of ms)) home (ends-before (classes-of ms)) (count - 0) 0 (omega arith))
+      (run-each rule (rank number) count (name-of (classes-of ms)) (end-of (classes-of ms)) home (ends-before (classes-of ms)) (count - 0) 0 (omega arith))
 
-  placed-of-each : (n : ℕ) (rule : ℕ → Rule) → ((k : ℕ) → k < count → Confined n (name-of (classes-of ms) k) (end-of (classes-of ms) k) (rule k))
+  placed-of-each : (number : ℕ) (rule : ℕ → Rule) → ((k : ℕ) → k < count → Confined (rank number) (name-of (classes-of ms) k) (end-of (classes-of ms) k) (rule k))
       → Placed (length ms) (each rule 0 (length shapes))
   unfolding each
-  placed-of-each n rule home =
+  placed-of-each number rule home =
       rw shapes-counted
       (placed-each (length ms) count rule
       (λ k h i p. omega (arith, counted, home k h .inside i p .1, end-inside (classes-of ms) k h))
       (count - 0) 0 (omega arith))
 
-  names-run : Run (rank 8) (suc (rank 11)) (name-rules ms)
+  -- the imports end among the tokens
+  pub uses-inside : imports-end (classes-of ms) ≤ length ms
+  uses-inside = omega (arith, imports.end-inside (classes-of ms), counted)
+
+  uses-run : Run (rank 41) (suc (rank 41)) (use-rules ms)
+  unfolding each
+  uses-run =
+      run-each (unfit-use ms) (rank 41) (length ms) (λ k. k) suc unfit-use-rises (λ j k l h. omega arith)
+      (length ms - imports-end (classes-of ms)) (imports-end (classes-of ms)) (omega (arith, uses-inside))
+
+  names-run : Run (rank 8) (suc (rank 41)) (name-rules ms)
   unfolding rank ranks-before is-among
   names-run =
       run-then (omega arith) (omega arith) too-many-rises
       (run-then (omega arith) (omega arith) introduced-again-rises
-      (run-then (omega arith) (omega arith) not-offered-rises (run-one unknown-name-rises)))
+      (run-then (omega arith) (omega arith) not-offered-rises uses-run))
 
   oids-run : Run (rank 12) (suc (rank 15)) (oid-rules (named ms))
   unfolding oid-rules rank ranks-before is-among
@@ -213,10 +236,10 @@ module _ (ms : List Meaning) where
   abbrev items : ℕ → Rule
   items = item-rule-of (spelled ms) (classed ms .classes) (classed ms .values) shapes
 
-  ranges-home : (demand : Demand) (k : ℕ) → k < count → Confined (demand-number demand) (name-of (classes-of ms) k) (end-of (classes-of ms) k) (ranges demand k)
+  ranges-home : (demand : Demand) (k : ℕ) → k < count → Confined (rank (demand-number demand)) (name-of (classes-of ms) k) (end-of (classes-of ms) k) (ranges demand k)
   ranges-home demand k h = at-home k h (range-rule-inside (classed ms .classes) (classed ms .values) shapes k demand)
 
-  items-home : (k : ℕ) → k < count → Confined 18 (name-of (classes-of ms) k) (end-of (classes-of ms) k) (items k)
+  items-home : (k : ℕ) → k < count → Confined (rank 18) (name-of (classes-of ms) k) (end-of (classes-of ms) k) (items k)
   items-home k h = at-home k h (item-rule-inside (classed ms .classes) (classed ms .values) shapes k (spelled ms))
 
   abbrev of-syntax : List Rule
@@ -247,11 +270,17 @@ module _ (ms : List Meaning) where
 
   -- ---- places
 
-  at-tokens : {n : ℕ} {r : Rule} → Rising n r → (i : ℕ) → Broken r i → r .place i < length ms
+  at-tokens : {n : ℕ} {r : Rule} → Confined n 0 (length ms) r → (i : ℕ) → Broken r i → r .place i < length ms
   at-tokens c i p = c .inside i p .1
 
+  uses-placed : Placed (length ms) (use-rules ms)
+  unfolding each
+  uses-placed =
+      placed-each (length ms) (length ms) (unfit-use ms) (λ k h i p. omega (arith, unfit-use-rises k h .inside i p))
+      (length ms - imports-end (classes-of ms)) (imports-end (classes-of ms)) (omega (arith, uses-inside))
+
   names-placed : Placed (length ms) (name-rules ms)
-  names-placed = (at-tokens too-many-rises, (at-tokens introduced-again-rises, (at-tokens not-offered-rises, (at-tokens unknown-name-rises, tt))))
+  names-placed = (at-tokens too-many-rises, (at-tokens introduced-again-rises, (at-tokens not-offered-rises, uses-placed)))
 
   oids-placed : Placed (length ms) (oid-rules (named ms))
   unfolding oid-rules

@@ -1,6 +1,6 @@
 -- Rules in a row: those of earlier ranks stand before the others, and among those of one rank the places rise.
 -- Assumes nothing.
-use mathlib.Core.Path.{_≡_, ap}
+use mathlib.Core.Path.{ap}
 use mathlib.Core.List.{List, [], _∷_, _++_}
 use mathlib.Core.Logic.{inl, inr}
 use Prim.Native.Nat.{ℕ, zero, suc, _+_, _≤_, _<_}
@@ -60,31 +60,29 @@ run-within {n} {m} {o} {rs} h p = record { ranked = within rs (p .ranked); in-or
     within (r ∷ rs) q = (q .0, omega (arith, q .1), within rs (q .2))
 
 -- a rule alone
-pub run-one : {number d e : ℕ} {r : Rule} → Confined number d e r → Run (rank number) (suc (rank number)) (r ∷ [])
-run-one c =
-    let at = ap rank (c .numbered) in
-    record { ranked = (omega (arith, at), omega (arith, at), tt); in-order = (c .rises, tt, tt) }
+pub run-one : {n d e : ℕ} {r : Rule} → Confined n d e r → Run n (suc n) (r ∷ [])
+run-one c = record { ranked = (omega (arith, c .ranked), omega (arith, c .ranked), tt); in-order = (c .rises, tt, tt) }
 
 -- a rule, and then those of later ranks
-pub run-then : {number a o d e : ℕ} {r : Rule} {rs : List Rule} → rank number < a → a ≤ o → Confined number d e r → Run a o rs → Run (rank number) o (r ∷ rs)
+pub run-then : {n a o d e : ℕ} {r : Rule} {rs : List Rule} → n < a → a ≤ o → Confined n d e r → Run a o rs → Run n o (r ∷ rs)
 run-then l h c rest = run-row (omega arith) l (omega arith) (run-one c) rest
 
--- a rule of one number for each index below c, with bounds for each, of which none passes the next
-module _ (rule : ℕ → Rule) (number c : ℕ) (d e : ℕ → ℕ) (confined : (k : ℕ) → k < c → Confined number (d k) (e k) (rule k))
+-- a rule of one rank for each index below c, with bounds for each, of which none passes the next
+module _ (rule : ℕ → Rule) (n c : ℕ) (d e : ℕ → ℕ) (confined : (k : ℕ) → k < c → Confined n (d k) (e k) (rule k))
     (apart : (j k : ℕ) → j < k → k < c → e j ≤ d k) where
-  each-ranked : (m a : ℕ) → a + m ≤ c → Ranked (rank number) (suc (rank number)) (each-of rule a m)
+  each-ranked : (m a : ℕ) → a + m ≤ c → Ranked n (suc n) (each-of rule a m)
   unfolding each-of
   each-ranked zero a h = tt
   each-ranked (suc m) a h =
-      let at = ap rank (confined a (omega arith) .numbered) in
+      let at = confined a (omega arith) .ranked in
       (omega (arith, at), omega (arith, at), each-ranked m (suc a) (omega arith))
 
   before : (j k : ℕ) → j < k → k < c → Before (rule j) (rule k)
   before j k l h x y p q =
       let one = confined j (omega arith) in
       let other = confined k h in
-      let same : rule j .number ≡ rule k .number = omega (arith, one .numbered, other .numbered) in
-      inr (ap rank same, omega (arith, apart j k l h, one .inside x p, other .inside y q), λ at. same)
+      let earlier : rule j .place x < rule k .place y = omega (arith, apart j k l h, one .inside x p, other .inside y q) in
+      inr (omega (arith, one .ranked, other .ranked), omega arith, λ same. absurd (omega arith))
 
   before-each : (j m a : ℕ) → j < a → a + m ≤ c → BeforeAll (rule j) (each-of rule a m)
   unfolding each-of
@@ -97,7 +95,7 @@ module _ (rule : ℕ → Rule) (number c : ℕ) (d e : ℕ → ℕ) (confined : 
   each-ordered (suc m) a h =
       (confined a (omega arith) .rises, before-each a m (suc a) (omega arith) (omega arith), each-ordered m (suc a) (omega arith))
 
-  pub run-each : (m a : ℕ) → a + m ≤ c → Run (rank number) (suc (rank number)) (each-of rule a m)
+  pub run-each : (m a : ℕ) → a + m ≤ c → Run n (suc n) (each-of rule a m)
   run-each m a h = record { ranked = each-ranked m a h; in-order = each-ordered m a h }
 
 -- the places of rules in a row, and of a rule for each index below c

@@ -1,5 +1,6 @@
--- When a rule is broken at a place: the table of "Refusals of the reader" in document 01, row by row, with "Places", "Rule 20" and
--- "Rule 21", and with no word of the order in which the reader tests. And which breach is the first.
+-- When a rule is broken at a place: the table of "Refusals of the reader" in document 01, as the requests of document 02 that have landed
+-- change it, row by row, with "Places", "Rule 20" and "Rule 21", and with no word of the order in which the reader tests. And which breach is
+-- the first.
 --
 -- A definition is meant by its index k in text order, from 0 on, and a token by its index i. `named ms`, `numbered ms`, `classed ms` and
 -- `module-of ms` are the module that the tokens make: when its names are known, with its OIDs, with its classes, and whole.
@@ -33,6 +34,7 @@ use Rattle.scope.specs.Import.{imports-end, is-import, source}
 use Rattle.scope.specs.Lead.{introduces, leads-to}
 use Rattle.name_kind.specs.Need.{need-at}
 use Rattle.name_kind.specs.Serve.{serves}
+use Rattle.name_kind.specs.declared.need.Need.the-variants.{NoName}
 use Rattle.naming.specs.Values.{named}
 use Rattle.oid_head.specs.Oid.{has-value, name-of, Reaches, resolved-oid, first-number}
 use Rattle.oid_tree.specs.Refusal.{longest-oid, most-numbers}
@@ -77,6 +79,11 @@ name-token ms k = getD (definitions (classes-of ms)) k 0
 abbrev pub Offers : List Meaning → ℕ → Type 0
 Offers ms i =
     (k : ℕ) × (k < symbol-count) × (getD symbol-names k [] ≡ spelled ms i) × (module-name k ≡ spelled ms (source (classes-of ms) i))
+
+-- a name is known: it is `iso`, or a token introduces it, as a definition's name or as an imported symbol
+pub data Known (ms : List Meaning) (s : List ℕ) : Type 0 where
+  iso-itself : s ≡ iso-name → Known ms s
+  introduced : (j : ℕ) → j < length ms → introduces (classes-of ms) j ≡ true → spelled ms j ≡ s → Known ms s
 
 -- the syntax of definition k
 abbrev pub syntax-of : Module → ℕ → Syntax
@@ -219,10 +226,13 @@ pub data ModuleBreach (ms : List Meaning) : ℕ → ℕ → Type 0 where
       → spelled ms j ≡ spelled ms i → ModuleBreach ms 9 i
   -- 10: symbol that the module named doesn't offer
   unoffered : {i : ℕ} → i < imports-end (classes-of ms) → is-import (classes-of ms) i ≡ true → (Offers ms i → ⊥) → ModuleBreach ms 10 i
-  -- 11: name not known in the kind needed: macro, type (SEQUENCE types in objects only), OID head; an object in INDEX, AUGMENTS, OBJECTS,
-  -- SEQUENCE; a SEQUENCE type after OF
-  unknown : {i : ℕ} → imports-end (classes-of ms) ≤ i → i < length ms
-      → serves (outline (classes-of ms)) (leads-to ms (spelled ms i)) (need-at (classes-of ms) i) ≡ false → ModuleBreach ms 11 i
+  -- 41, where a name is needed: "the name is neither defined nor imported, nor `iso`"
+  unknown : {i : ℕ} → imports-end (classes-of ms) ≤ i → i < length ms → (need-at (classes-of ms) i ≡ NoName → ⊥)
+      → (Known ms (spelled ms i) → ⊥) → ModuleBreach ms 41 i
+  -- 42: "it is known but of another kind" than is needed: macro, type (SEQUENCE types in objects only), OID head; an object in INDEX,
+  -- AUGMENTS, OBJECTS, SEQUENCE; a SEQUENCE type after OF
+  other-kind : {i : ℕ} → imports-end (classes-of ms) ≤ i → i < length ms → Known ms (spelled ms i)
+      → serves (outline (classes-of ms)) (leads-to ms (spelled ms i)) (need-at (classes-of ms) i) ≡ false → ModuleBreach ms 42 i
   -- 12: definition whose heads never reach a built-in name
   unreached : {k : ℕ} → k < definition-count ms → has-value (at (named ms) k) ≡ true → (Reaches (named ms) (name-of k) → ⊥)
       → ModuleBreach ms 12 (name-token ms k)
@@ -271,7 +281,7 @@ pub data InBreach (text : List ℕ) (records numbers : ℕ) : ℕ → ℕ → Ty
   not-cut : {number place : ℕ} → cut text .ending ≡ refused number place → InBreach text records numbers number place
   -- 7: the grammar derives no such token sequence; the place is the third demand's
   not-derived : {place : ℕ} → Cuts text → (Derives text → ⊥) → Fault text place → InBreach text records numbers 7 place
-  -- 8 to 22, the rows above: the place is the start of the token
+  -- the rows above: the place is the start of the token
   in-module : {number token : ℕ} → Cuts text → Derives text → ModuleBreach (meanings-in text) number token
       → InBreach text records numbers number (start-of (cut text .tokens) token)
 

@@ -6,7 +6,8 @@ use Prim.Native.Nat.{ℕ, suc}
 use lib.Dec.{eqb}
 
 -- The refusals of the reader, rank by rank, the first to be given first. Where several numbers have one rank the place decides: "3 to 6
--- together: the leftmost token".
+-- together: the leftmost token"; and of 41 and 42, which document 02 puts for 11, "both hold 11's place in the order together, the earlier
+-- use first".
 abbrev pub ranks : List (List ℕ)
 ranks =
     (1 ∷ [])
@@ -16,7 +17,7 @@ ranks =
     ∷ (8 ∷ [])
     ∷ (9 ∷ [])
     ∷ (10 ∷ [])
-    ∷ (11 ∷ [])
+    ∷ (41 ∷ 42 ∷ [])
     ∷ (12 ∷ [])
     ∷ (13 ∷ [])
     ∷ (14 ∷ [])

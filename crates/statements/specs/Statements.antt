@@ -33,7 +33,8 @@ use Rattle.naming.specs.Values.{named}
 use Rattle.oid_head.specs.Oid.{HasOid, has-value, name-of, Reaches}
 use Rattle.records.specs.Record.{record-width}
 use Rattle.reader.specs.Reading.{Outcome, module-of, records-of}
-use Rattle.reader.specs.Buffers.{number-of, place-of, answered-count, record-words, number-words, zeros, filled, answer-to, examined-to, ReadsAs, Reads}
+use Rattle.reader.specs.Buffers.{number-of, place-of, answered-count, record-words, number-words, zeros, filled, answer-to, examined-to, answer-of, ReadsAs, Reads, Examines}
+use Rattle.reader.specs.declared.Examined.{Examined}
 use Rattle.reader.specs.declared.Answer.{Answer}
 use Rattle.reader.specs.declared.Answer.the-variants.{Accepted, Refused}
 use Rattle.hint.specs.Answer as hint
@@ -84,7 +85,7 @@ record-word records k j = getD records (k * record-width + j) 0
 -- The second demand: the first broken rule, or the records and sub-identifiers of all definitions.
 pub record SecondDemand (text : List ℕ) (answer : Answer) (records records′ numbers numbers′ : List ℕ) : Type 0 where
   -- "Given when the condition holds and no smaller number applies (3 to 6 together: the leftmost token), with the earliest place in
-  -- breach"
+  -- breach"; 41 and 42 for 11: "both hold 11's place in the order together, the earlier use first"
   pub refused-exactly : (number place : ℕ)
       → (answer ≡ Refused number (record { 0 = place })) ↔ FirstBreach text (length records) (length numbers) number place
   -- accepted, number 0, exactly when no rule is broken anywhere
@@ -157,6 +158,19 @@ pub record Exported : Type 0 where
   pub set-row : (state : ℕ) (value : ℤ) (complete willing : ℕ) (answer x y : List ℕ)
       → raw.SetRaw state value complete willing answer x → raw.SetRaw state value complete willing answer y → x ≡ y
 
+-- ---- Numbers that are gone
+
+-- No call answers this number: neither of the reader's, nor what the exported one lays into the first word of an answer; none that prints,
+-- and none that sets a row.
+pub record NeverGiven (n : ℕ) : Type 0 where
+  pub read : OfEveryRead (λ text answer records records′ numbers numbers′. number-of answer ≡ n → ⊥)
+  pub examine : (text : List ℕ) (examined : Examined) (records records′ numbers numbers′ : List ℕ)
+      → Examines text examined records records′ numbers numbers′ → number-of (answer-of examined) ≡ n → ⊥
+  pub exported-read : (text records records′ numbers numbers′ answer answer′ : List ℕ)
+      → raw.ReadRaw text records records′ numbers numbers′ answer answer′ → 0 < length answer → getD answer′ 0 0 ≡ n → ⊥
+  pub print : (answer : HintAnswer) → hint.number-of answer ≡ n → ⊥
+  pub set-row : (answer : RowAnswer) → row.number-of answer ≡ n → ⊥
+
 -- ---- The proved examples
 
 -- every call with this text, and with buffers that are long enough, answers this refusal
@@ -217,6 +231,8 @@ pub record Statements : Type 0 where
       → 2 ≤ length (oid-of (module-of (meanings-in text)) k)
   -- so rule 22 needs no test for that: "No answer changes"
   pub no-answer-changed : (text : List ℕ) (records numbers : ℕ) → NoAnswerChanged text records numbers
+  -- "11 is no longer given"
+  pub eleven-gone : NeverGiven 11
   -- the contracts leave nothing open: number, place, count and each lent word are settled; of reader::examine, clause and other place too
   pub read-settled : (text : List ℕ) → ReadAlike text text
   pub examine-settled : (text : List ℕ) → ExaminedAlike text text

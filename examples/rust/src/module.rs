@@ -89,7 +89,8 @@ pub struct Module<'a> {
 }
 
 impl<'a> Module<'a> {
-    /// Reads a module's text, any bytes. A refusal has a number from 2 to 22, since the buffers are never too short.
+    /// Reads a module's text, any bytes. A refusal has a number from 2 to 22, but not 11,
+    /// or is 41 or 42: the buffers are never too short for 1.
     pub fn read(text: &'a [u8], buffers: &'a mut Buffers) -> Result<Self, Refusal> {
         match read(text, &mut buffers.records, &mut buffers.numbers) {
             Reading::Accepted { count } => {

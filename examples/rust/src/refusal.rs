@@ -6,7 +6,7 @@ use std::fmt::{self, Display, Formatter};
 /// Why a text or a value is refused, and where.
 #[derive(Debug, Clone, Copy, PartialEq, Eq, Hash)]
 pub struct Refusal {
-    /// 1 to 22 of a module, 30 to 34 of a value.
+    /// 1 to 22, 41 and 42 of a module, but never 11; 30 to 34 of a value.
     pub number: u32,
     /// The byte in the text; of 33 the octet in the value; else 0.
     pub place: usize,
@@ -40,7 +40,6 @@ fn refusal_text(number: u32) -> &'static str {
         8 => "this is the 513th definition, and a module may have 512",
         9 => "the name is defined or imported a second time, or is iso",
         10 => "the module that it is imported from does not offer this symbol",
-        11 => "the name is neither defined nor imported as what is needed here",
         12 => "the heads of the OID never reach a built-in name",
         13 => "the OID has more than 128 numbers",
         14 => "with this OID those of the module pass 8,192 numbers",
@@ -57,6 +56,8 @@ fn refusal_text(number: u32) -> &'static str {
         32 => "the hint is none for such a value",
         33 => "the octet is not of the form that the hint gives it",
         34 => "the integer is not from -2147483648 to 4294967295",
+        41 => "the name is neither defined nor imported",
+        42 => "the name is known, but of another kind than is needed here",
         _ => "no call answers this number",
     }
 }

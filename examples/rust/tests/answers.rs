@@ -345,7 +345,7 @@ fn check_words(words: impl Fn(u32) -> &'static str, own: &[u32]) {
 
 #[test]
 fn each_number_has_words() {
-    let own: Vec<u32> = (0..=22).chain(30..=34).collect();
+    let own: Vec<u32> = (0..=10).chain(12..=22).chain(30..=34).chain([41, 42]).collect();
     check_words(|number| Refusal { number, place: 0 }.text(), &own);
     check_words(|number| RowAnswer::from(number).text(), &[0, 10, 12, 40]);
 }

@@ -25,7 +25,8 @@ impl Call {
     /// The answers that the paper has for the call.
     pub fn answers(self) -> Vec<u32> {
         match self {
-            Call::Module => (0..=22).collect(),
+            // 41 and 42 stand in the place of 11, which is not given.
+            Call::Module => (0..=10).chain(12..=22).chain([41, 42]).collect(),
             Call::Octets => vec![0, 30, 31, 32, 33],
             Call::Integer => vec![0, 30, 32, 34],
             Call::Row => vec![0, 10, 12, 40],

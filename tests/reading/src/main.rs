@@ -3,6 +3,9 @@
 //! - `reading card FILE...`: cards, as the paper's program prints them
 //! - `reading tokens FILE...`: tokens, and whether the grammar derives them
 //! - `reading other FILE...`: number, place, and the place of the other one or `-`
+//! - `reading use FILE...`: of the name for which a text is refused by 41 or 42: number,
+//!   place, what is needed, what it is, and the module that offers it or `-`; `-` for
+//!   any other text
 //! - `reading hint`: what a line `octets HINT HEX` or `integer HINT NUMBER` prints
 //! - `reading row`: number and next state for a line `STATE COMPLETE WILLING VALUE`
 //! - `reading derives`: for a line of classes `derived`, or the index of the one at fault
@@ -19,7 +22,7 @@ use std::process::ExitCode;
 use reading::hints::{print_integer, print_octets, Printed, INTEGER_BUFFER, OCTETS_BUFFER};
 use reading::{inputs, modules, rows};
 
-const USAGE: &str = "usage: reading (card | tokens | other) FILE...
+const USAGE: &str = "usage: reading (card | tokens | other | use) FILE...
        reading (hint | row | derives)
        reading make COUNT SEED FOLDER";
 
@@ -30,6 +33,7 @@ fn main() -> ExitCode {
         ["card", ref files @ ..] => each_file(files, modules::card),
         ["tokens", ref files @ ..] => each_file(files, modules::listing),
         ["other", ref files @ ..] => each_file(files, other),
+        ["use", ref files @ ..] => each_file(files, modules::wrong_use),
         ["hint"] => each_line(hint),
         ["row"] => each_line(row),
         ["derives"] => each_line(derives),

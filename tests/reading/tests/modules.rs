@@ -4,7 +4,9 @@
 //! about more than a card.
 
 use reading::modules::tokens::{tokens, Class};
-use reading::modules::{card, fault, listing, other, read, NUMBER_WORDS, RECORD_WORDS};
+use reading::modules::{
+    card, fault, listing, other, read, wrong_use, wrong_uses, NUMBER_WORDS, RECORD_WORDS,
+};
 
 const WHOLE_CASE: &[u8] = include_bytes!("../../texts/whole");
 const BY_HAND: &str = include_str!("by_hand.txt");
@@ -135,15 +137,32 @@ fn cases_by_hand() {
         let expected = (case.number, place, case.other);
         assert_eq!(other(&case.text), expected, "{}", case.title);
     }
-    assert_eq!(cases.len(), 246);
+    assert_eq!(cases.len(), 356);
 }
 
-/// Those with long texts are below.
+/// Those with long texts are below. "11 is no longer given."
 #[test]
 fn every_refusal_has_a_case_by_hand() {
     let cases = by_hand();
-    for number in (3..=22).filter(|number| ![8, 14].contains(number)) {
-        assert!(cases.iter().any(|case| case.number == number), "{number}");
+    let given = |number: u32| cases.iter().any(|case| case.number == number);
+    let numbers = (3..=22).filter(|number| ![8, 11, 14].contains(number));
+    for number in numbers.chain([41, 42]) {
+        assert!(given(number), "{number}");
+    }
+    assert!(!given(11));
+}
+
+/// The texts that 41 and 42 refuse have a wrong use, at the place of the
+/// refusal, and no others have one.
+#[test]
+fn wrong_uses_are_those_of_41_and_42() {
+    for case in by_hand() {
+        let first = wrong_uses(&case.text)
+            .first()
+            .map(|wrong| (wrong.number(), wrong.place));
+        let refused = matches!(case.number, 41 | 42);
+        let expected = refused.then_some((case.number, case.place));
+        assert_eq!(first, expected, "{}", case.title);
     }
 }
 
@@ -289,8 +308,257 @@ fn definitions_8() {
     check_marked("a 513th definition", &body(&many), 8);
     let twice = numbered(512, |i| marked(i, "b"));
     check_marked("and a name twice before it", &body(&twice), 8);
+    let headless = |i: usize| match i {
+        511 => plain("@a", "t 1"),
+        _ => plain(&format!("a{i}"), "x 1"),
+    };
+    let unknown = numbered(512, headless);
+    check_marked("and unknown heads before it", &body(&unknown), 8);
     let many = numbered(513, named);
     check_marked("7 before 8", &(body(&many) + " @x"), 7);
+}
+
+// What is needed, what the name is and which module offers it, for 41 and 42.
+
+/// Imports of all macros and of nothing else.
+const MACROS: &str = "T DEFINITIONS ::= BEGIN IMPORTS MODULE-IDENTITY, OBJECT-IDENTITY, \
+     OBJECT-TYPE, NOTIFICATION-TYPE FROM SNMPv2-SMI TEXTUAL-CONVENTION FROM SNMPv2-TC; ";
+
+const TAIL: &str = "STATUS current DESCRIPTION \"\"";
+
+/// The index may be any clause that stands behind DESCRIPTION.
+fn object(name: &str, syntax: &str, index: &str, oid: &str) -> String {
+    let access = "MAX-ACCESS read-only";
+    format!("{name} OBJECT-TYPE SYNTAX {syntax} {access} {TAIL} {index} ::= {{ {oid} }}")
+}
+
+fn notification(name: &str, objects: &str, oid: &str) -> String {
+    format!("{name} NOTIFICATION-TYPE {objects} {TAIL} ::= {{ {oid} }}")
+}
+
+fn convention(name: &str, syntax: &str) -> String {
+    format!("{name} ::= TEXTUAL-CONVENTION {TAIL} SYNTAX {syntax}")
+}
+
+fn sequence(name: &str, columns: &str) -> String {
+    format!("{name} ::= SEQUENCE {{ {columns} }}")
+}
+
+/// The `@` marks the name. The line's words are parted by blanks here.
+fn check_use(marked: &str, number: u32, words: &str) {
+    let place = marked.find('@').expect("a mark");
+    let text = marked.replacen('@', "", 1);
+    let line = format!("{number} {place} {words}\n").replace(' ', "\t");
+    assert_eq!(wrong_use(text.as_bytes()), line, "{marked}");
+}
+
+#[test]
+fn macros_not_imported_41() {
+    let smi = "macro unknown SNMPv2-SMI";
+    let identity = IDENTITY.replacen("MODULE", "@MODULE", 1);
+    let text = format!("T DEFINITIONS ::= BEGIN {identity}END");
+    check_use(&text, 41, smi);
+    let identity = format!("i @OBJECT-IDENTITY {TAIL} ::= {{ t 1 }}");
+    let object = object("a", "X", "INDEX { iso }", "t 1").replacen("OBJECT", "@OBJECT", 1);
+    let notification = notification("n", "OBJECTS { n }", "t 0 1").replacen("NOT", "@NOT", 1);
+    let convention = convention("A", "X").replacen("TEXT", "@TEXT", 1);
+    for (definition, words) in [
+        (identity, smi),
+        (object, smi),
+        (notification, smi),
+        (convention, "macro unknown SNMPv2-TC"),
+    ] {
+        let imports = "IMPORTS MODULE-IDENTITY FROM SNMPv2-SMI;";
+        let text = format!("T DEFINITIONS ::= BEGIN {imports} {IDENTITY}{definition} END");
+        check_use(&text, 41, words);
+    }
+}
+
+#[test]
+fn unknown_types_41() {
+    for (name, offer) in [
+        ("Gauge32", "SNMPv2-SMI"),
+        ("Opaque", "SNMPv2-SMI"),
+        ("TruthValue", "SNMPv2-TC"),
+        ("TimeStamp", "SNMPv2-TC"),
+        ("X", "-"),
+        ("Opaque1", "-"),
+        ("OPAQUE", "-"),
+        // The module's own name, another module's, and one like an OID's.
+        ("T", "-"),
+        ("SNMPv2-SMI", "-"),
+        ("Org", "-"),
+    ] {
+        let name = format!("@{name}");
+        let a = object("a", "INTEGER", "", "t 1");
+        let columns = sequence("E", &format!("a INTEGER, a {name}, x INTEGER"));
+        for (definition, needed, offer) in [
+            (convention("A", &name), "convention-type", offer),
+            (
+                object("a", &name, "INDEX { x }", "x 1"),
+                "object-type",
+                offer,
+            ),
+            (format!("{columns} {a}"), "column-type", offer),
+            // No built-in type is a SEQUENCE type.
+            (
+                object("a", &format!("SEQUENCE OF {name}"), "", "x 1"),
+                "OF",
+                "-",
+            ),
+        ] {
+            let words = format!("{needed} unknown {offer}");
+            check_use(&format!("{MACROS}{IDENTITY}{definition} END"), 41, &words);
+        }
+    }
+}
+
+#[test]
+fn unknown_names_with_oid_41() {
+    for (name, offer) in [
+        ("org", "SNMPv2-SMI"),
+        ("mib-2", "SNMPv2-SMI"),
+        ("zeroDotZero", "SNMPv2-SMI"),
+        ("x", "-"),
+        ("mib-3", "-"),
+        ("displayString", "-"),
+        ("current", "-"),
+    ] {
+        let name = format!("@{name}");
+        let list = format!("{{ {name}, iso }}");
+        for (definition, needed, offer) in [
+            (plain("a", &format!("{name} 1")), "head", offer),
+            // No built-in name is an object.
+            (
+                object("a", "INTEGER", &format!("INDEX {list}"), "t 1"),
+                "INDEX",
+                "-",
+            ),
+            (
+                object("a", "INTEGER", &format!("AUGMENTS {{ {name} }}"), "x 1"),
+                "AUGMENTS",
+                "-",
+            ),
+            (
+                notification("n", &format!("OBJECTS {list}"), "x 0 1"),
+                "OBJECTS",
+                "-",
+            ),
+            (
+                sequence("E", &format!("{name} Integer32, iso X")),
+                "SEQUENCE",
+                "-",
+            ),
+        ] {
+            let words = format!("{needed} unknown {offer}");
+            check_use(&format!("{MACROS}{IDENTITY}{definition} END"), 41, &words);
+        }
+    }
+}
+
+/// 42 is given where an object or a SEQUENCE type is needed, or a type and the
+/// name is a SEQUENCE type. It is not where a macro is needed, nor an object's
+/// type or a head: a known Upper is a type, a known lower has an OID.
+#[test]
+fn names_of_another_kind_42() {
+    let no_objects = [
+        ("iso", "iso"),
+        ("t", "identity"),
+        ("p", "plain"),
+        ("i", "object-identity"),
+        ("n", "notification"),
+        ("mib-2", "imported-oid"),
+        ("zeroDotZero", "imported-oid"),
+    ];
+    for (name, is) in no_objects {
+        let list = format!("{{ c, @{name}, x }}");
+        for (definition, needed) in [
+            (
+                object("a", "INTEGER", &format!("INDEX {list}"), "t 4"),
+                "INDEX",
+            ),
+            (
+                object("a", "INTEGER", &format!("AUGMENTS {{ @{name} }}"), "x 4"),
+                "AUGMENTS",
+            ),
+            (
+                notification("m", &format!("OBJECTS {list}"), "t 0 2"),
+                "OBJECTS",
+            ),
+            (sequence("F", &format!("c INTEGER, @{name} X")), "SEQUENCE"),
+        ] {
+            check_42(&definition, &format!("{needed} {is} -"));
+        }
+    }
+    for (name, is) in [
+        ("A", "convention"),
+        ("Counter32", "imported-type"),
+        ("DisplayString", "imported-type"),
+    ] {
+        let table = object("a", &format!("SEQUENCE OF @{name}"), "INDEX { x }", "t 4");
+        check_42(&table, &format!("OF {is} -"));
+    }
+    check_42(&convention("B", "@E"), "convention-type sequence -");
+    check_42(&sequence("F", "c @E, x X"), "column-type sequence -");
+    check_42(&sequence("F", "c @F"), "column-type sequence -");
+}
+
+/// With a definition of each kind behind the one given, and before it.
+fn check_42(definition: &str, words: &str) {
+    let others = [
+        plain("p", "t 1"),
+        format!("i OBJECT-IDENTITY {TAIL} ::= {{ t 2 }}"),
+        notification("n", "", "t 0 1"),
+        convention("A", "INTEGER"),
+        object("c", "INTEGER", "", "t 3"),
+        sequence("E", "c INTEGER"),
+    ]
+    .join(" ");
+    check_use(&body(&[definition.to_string(), others.clone()]), 42, words);
+    check_use(&body(&[others, definition.to_string()]), 42, words);
+}
+
+#[test]
+fn other_texts_have_no_wrong_use() {
+    let unknown = |count: usize| numbered(count, |_| plain("a", "x 1"));
+    let texts = [
+        ("2", " ".repeat(65537)),
+        ("3", "x _".to_string()),
+        ("7, an unknown head before it", body(&unknown(1)) + " x"),
+        ("9, an unknown head before it", body(&unknown(2))),
+        (
+            "10, an unknown macro behind it",
+            format!("T DEFINITIONS ::= BEGIN IMPORTS ifIndex FROM SNMPv2-SMI; {IDENTITY}END"),
+        ),
+        ("12", body(&[plain("a", "a 1")])),
+        ("accepted", body(&[plain("a", "t 1")])),
+    ];
+    for (title, text) in texts {
+        assert_eq!(wrong_use(text.as_bytes()), "-\n", "{title}");
+        assert_eq!(wrong_uses(text.as_bytes()), [], "{title}");
+    }
+}
+
+#[test]
+fn all_wrong_uses_in_text_order() {
+    let columns = sequence("E", "x E, a INTEGER, iso X");
+    let object = object("a", "SEQUENCE OF F", "INDEX { a, t }", "org 1");
+    let text = body(&[columns, object]);
+    let at = |word: &str| text.find(word).expect("a word");
+    let expected = [
+        (41, at("x E"), "SEQUENCE", None),
+        (42, at("E, a"), "column-type", None),
+        (42, at("iso X"), "SEQUENCE", None),
+        (41, at("X }"), "column-type", None),
+        (41, at("F MAX"), "OF", None),
+        (42, at("t } ::="), "INDEX", None),
+        (41, at("org 1"), "head", Some("SNMPv2-SMI")),
+    ];
+    let found: Vec<_> = wrong_uses(text.as_bytes())
+        .iter()
+        .map(|wrong| (wrong.number(), wrong.place, wrong.need.word(), wrong.offer))
+        .collect();
+    assert_eq!(found, expected);
 }
 
 #[test]

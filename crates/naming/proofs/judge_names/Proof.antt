@@ -1,18 +1,18 @@
 -- `judge_names` is right because each rule is asked where those before it are kept, and one that is broken decides.
 -- Assumes nothing.
 use mathlib.Core.Path.{_≡_, sym, ap, subst, _∙_}
-use mathlib.Core.List.{List, [], _∷_}
+use mathlib.Core.List.{List, _∷_}
 use Prim.Native.Nat.{ℕ}
 use lib.ListN.{length, take}
 use Rattle.rule.specs.Rule.{judge}
 use Rattle.rule.specs.declared.Judgement.{Judgement}
-use Rattle.rule.proofs.Judged.{judge-alone, kept-next, broken-first}
+use Rattle.rule.proofs.Judged.{kept-next, broken-first}
 use Rattle.token.specs.Token.{Meaning}
 use Rattle.token.specs.Cut.{meanings-in}
 use Rattle.scope.specs.Import.{imports-end}
 use Rattle.scope.specs.Held.{ImportsHeld}
 use Rattle.scope.proofs.Tokens.{classes-are, said-counted, held-said}
-use Rattle.naming.specs.Rules.{not-offered, unknown-name, after-count}
+use Rattle.naming.specs.Rules.{not-offered, use-rules, after-count}
 use Rattle.naming.specs.Told.{ImportsFilled, UsesFilled}
 use Rattle.naming.proofs.Named.{names-distinct, all-offered, imports-held, all-values}
 use Rattle.naming.proofs.Reading.{broken-filled}
@@ -49,10 +49,10 @@ long₃ : (j : Third) → length (j .judge-uses .last .1 .1 .1 .1 .0) ≡ length
 long₃ j = j .judge-uses .ensures .0 ∙ long₂ (second-of j)
 
 -- each step that finds its rule kept leaves the rules after it to judge
-after₁ : (j : Second) → judge (after-count (said-by (first-of j))) ≡ judge (not-offered (said-by (first-of j)) ∷ unknown-name (said-by (first-of j)) ∷ [])
+after₁ : (j : Second) → judge (after-count (said-by (first-of j))) ≡ judge (not-offered (said-by (first-of j)) ∷ use-rules (said-by (first-of j)))
 after₁ j = kept-next _ _ _ (first-of j .judge-introduced .ensures .1) (j .before .before .enum-told .given .1)
 
-after₂ : (j : Third) → judge (after-count (said-by (first-of (second-of j)))) ≡ judge (unknown-name (said-by (first-of (second-of j))) ∷ [])
+after₂ : (j : Third) → judge (after-count (said-by (first-of (second-of j)))) ≡ judge (use-rules (said-by (first-of (second-of j))))
 after₂ j = after₁ (second-of j) ∙ kept-next _ _ _ (second-of j .judge-offers .ensures .1 .0) (j .before .before .enum-told3 .given .1)
 
 judge-introduced-requires : tie.Need-judge-introduced-requires
@@ -114,7 +114,7 @@ same-length-3 c = search needs
 returns-3 : tie.Need-returns-3
 returns-3 c =
     let j = c .before .before .before .before in
-    let is = j .judge-uses .ensures .1 .0 ∙ judge-alone _ in
+    let is = j .judge-uses .ensures .1 .0 in
     (long₃ j, (is ∙ sym (after₂ j), broken-filled _ _ _ _ (c .enum-told6 .given .1)))
 
 fill-numbers-requires : tie.Need-fill-numbers-requires
@@ -144,7 +144,7 @@ returns-4 c =
     (subst (λ (x : Judgement). ImportsFilled (meanings-in (s .args .text .now)) x (j₂ .judge-offers .last .1 .1 .1 .1 .0)) kept₂ (j₂ .judge-offers .ensures .1 .1))
     (subst (λ (x : Judgement). UsesFilled (meanings-in (s .args .text .now)) x (j₂ .judge-offers .last .1 .1 .1 .1 .0) (j₃ .judge-uses .last .1 .1 .1 .1 .0)) kept₃ (j₃ .judge-uses .ensures .1 .1))
     (f .fill-numbers .ensures .1) (long₃ j₃ ∙ counted) (long ∙ counted) in
-    (long, (sym kept₃ ∙ j₃ .judge-uses .ensures .1 .0 ∙ judge-alone _ ∙ sym (after₂ j₃), values))
+    (long, (sym kept₃ ∙ j₃ .judge-uses .ensures .1 .0 ∙ sym (after₂ j₃), values))
 
 pub judge-names-spec : {M : Type 1} → statement M
 judge-names-spec =

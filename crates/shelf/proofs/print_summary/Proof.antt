@@ -6,10 +6,10 @@ use Rattle.shelf.proofs.print_summary.Statement.{statement}
 use Rattle.shelf.proofs.print_summary.Tie as tie
 
 abbrev Inv-loop : tie.InvT-loop
-Inv-loop counts number₀ t5 t6 number = number ≤ 31
+Inv-loop counts number₀ t5 t6 number = number ≤ 256
 
 abbrev μ-loop : tie.MeasureT-loop
-μ-loop counts number₀ t5 t6 number = 31 - number
+μ-loop counts number₀ t5 t6 number = 256 - number
 
 clear-progress-requires : tie.Need-clear-progress-requires Inv-loop μ-loop
 clear-progress-requires c κs = search needs

@@ -6,10 +6,10 @@ use Rattle.shelf.proofs.total.Statement.{statement}
 use Rattle.shelf.proofs.total.Tie as tie
 
 abbrev Inv-loop : tie.InvT-loop
-Inv-loop counts sum₀ i₀ sum i = i ≤ 32
+Inv-loop counts sum₀ i₀ sum i = i ≤ 257
 
 abbrev μ-loop : tie.MeasureT-loop
-μ-loop counts sum₀ i₀ sum i = 32 - i
+μ-loop counts sum₀ i₀ sum i = 257 - i
 
 loop-holds : tie.Need-loop-holds Inv-loop μ-loop
 loop-holds c = search needs

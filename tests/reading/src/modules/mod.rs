@@ -1,6 +1,6 @@
-//! A reading of the module rules, made from the paper and change request
-//! No. 8 alone: the answer for any text and any lengths of the two lent
-//! buffers. Comments in quotation marks are the paper's words.
+//! A reading of the module rules, made from the paper and change requests
+//! No. 1 and No. 8 alone: the answer for any text and any lengths of the two
+//! lent buffers. Comments in quotation marks are the papers' words.
 
 mod grammar;
 mod listing;
@@ -9,6 +9,7 @@ pub mod symbols;
 pub mod tokens;
 
 pub use listing::{fault, listing};
+pub use rules::WrongUse;
 
 use grammar::{Definition, Module};
 use rules::Settled;
@@ -120,6 +121,28 @@ pub fn other(text: &[u8]) -> (u32, usize, Option<usize>) {
         _ => Ok(None),
     };
     (answer.number, answer.place, found.unwrap_or(None))
+}
+
+/// Of a text that is refused by 41 or 42 all uses that are, in text order: the
+/// first is the one that refuses it. Of any other text none.
+pub fn wrong_uses(text: &[u8]) -> Vec<WrongUse> {
+    let answer = read(text, RECORD_WORDS, NUMBER_WORDS);
+    let found = match answer.number {
+        41 | 42 => tokens::tokens(text).and_then(|found| {
+            let module = grammar::parse(&found, text.len())?;
+            Ok(rules::wrong_uses(&module))
+        }),
+        _ => Ok(Vec::new()),
+    };
+    found.unwrap_or_default()
+}
+
+/// A line for the use that refuses a text by 41 or 42, with tabs between:
+/// number, place, what is needed, what the name is, and the module that offers
+/// it or `-`. The line `-` for any other text.
+pub fn wrong_use(text: &[u8]) -> String {
+    let line = wrong_uses(text).first().map(WrongUse::line);
+    line.unwrap_or("-".to_string()) + "\n"
 }
 
 /// The shelf card: "one record a line, tabs between: `accepted` and the

@@ -1,7 +1,9 @@
-//! Refusals 8 to 22 in their order. Each rule gives the earliest place in
-//! breach, if any; what a rule has made sure of is settled for those after it.
+//! Refusals 8 to 22 in their order, 41 and 42 together in the place of 11,
+//! which is not given. Each rule gives the earliest place in breach, if any;
+//! what a rule has made sure of is settled for those after it.
 
 mod other;
+mod uses;
 
 use std::collections::{HashMap, HashSet};
 
@@ -11,6 +13,7 @@ use super::tokens::{Token, HIGHEST, LOWEST};
 use super::Refusal;
 
 pub use other::other;
+pub use uses::WrongUse;
 
 const MOST_DEFINITIONS: usize = 512;
 const LONGEST_OID: usize = 128;
@@ -37,7 +40,7 @@ pub fn judge(m: &Module) -> Result<Settled, Refusal> {
     refuse(9, name_again(m))?;
     refuse(10, symbol_not_offered(m))?;
     let names = Names::new(m);
-    refuse(11, unknown_name(m, &names))?;
+    refuse_use(uses::wrong(m, &names).first())?;
     let chains = Chains::new(m, &names);
     refuse(12, headless(m, &chains))?;
     let lengths = oid_lengths(m, &chains);
@@ -65,7 +68,22 @@ fn refuse(number: u32, place: Option<usize>) -> Result<(), Refusal> {
     }
 }
 
+/// "Both hold 11's place in the order together, the earlier use first."
+fn refuse_use(first: Option<&WrongUse>) -> Result<(), Refusal> {
+    match first {
+        Some(wrong) => Err(Refusal::new(wrong.number(), wrong.place)),
+        None => Ok(()),
+    }
+}
+
 // 8 to 10: definitions and imports by themselves.
+
+/// The words that introduce a name: the symbols of the imports and the names
+/// of the definitions, which is the text's order.
+fn introduced<'m, 'a>(m: &'m Module<'a>) -> impl Iterator<Item = &'m Token<'a>> {
+    let imported = m.groups.iter().flat_map(|group| &group.symbols);
+    imported.chain(m.definitions.iter().map(|d| &d.name))
+}
 
 /// "a 513th definition"
 fn definition_too_many(m: &Module) -> Option<usize> {
@@ -73,15 +91,12 @@ fn definition_too_many(m: &Module) -> Option<usize> {
 }
 
 /// "a name (in imports a macro word too) defined or imported a second time,
-/// or `iso` (the later)". Imports and definitions come in text order, so the
-/// first name found again is the earliest.
+/// or `iso` (the later)". Names are introduced in text order, so the first
+/// found again is the earliest.
 fn name_again(m: &Module) -> Option<usize> {
     let mut seen: HashSet<&[u8]> = HashSet::with_capacity(2 * m.definitions.len() + 32);
     seen.insert(b"iso");
-    let imported = m.groups.iter().flat_map(|group| &group.symbols);
-    let defined = m.definitions.iter().map(|d| &d.name);
-    imported
-        .chain(defined)
+    introduced(m)
         .find(|name| !seen.insert(name.word))
         .map(|name| name.start)
 }
@@ -97,7 +112,7 @@ fn symbol_not_offered(m: &Module) -> Option<usize> {
         .map(|(_, symbol)| symbol.start)
 }
 
-// 11: names in the kind needed.
+// 41 and 42: names that are not known, or not in the kind needed.
 
 /// Each name's one meaning: imported, or the definition of this number.
 struct Names<'a> {
@@ -122,61 +137,11 @@ impl<'a> Names<'a> {
     fn definition(&self, name: &Token) -> Option<usize> {
         self.defined.get(name.word).copied()
     }
-
-    fn is_kind(&self, m: &Module, name: &Token, kind: Kind) -> bool {
-        self.definition(name)
-            .is_some_and(|i| m.definitions[i].kind == kind)
-    }
-
-    /// An imported Upper is always a type: macros are capital words.
-    fn is_type(&self, m: &Module, name: &Token) -> bool {
-        self.is_imported(name) || self.is_kind(m, name, Kind::Convention)
-    }
-
-    /// A lower name that is imported or defined always has an OID.
-    fn is_head(&self, name: &Token) -> bool {
-        name.word == b"iso" || self.is_imported(name) || self.definition(name).is_some()
-    }
 }
 
-fn unknown_name(m: &Module, names: &Names) -> Option<usize> {
-    m.definitions
-        .iter()
-        .find_map(|d| unknown_name_in(d, m, names))
-}
-
-/// The earliest of a definition's words that is not known as what it must be.
-fn unknown_name_in(d: &Definition, m: &Module, names: &Names) -> Option<usize> {
-    let mut unknown: Option<usize> = None;
-    let mut must = |known: bool, name: &Token| {
-        if !known {
-            unknown = Some(unknown.map_or(name.start, |place| place.min(name.start)));
-        }
-    };
-    if let Some(word) = &d.macro_word {
-        must(names.is_imported(word), word);
-    }
-    if let Some(value) = &d.value {
-        must(names.is_head(&value.head), &value.head);
-    }
-    match d.syntax.as_ref().map(|syntax| syntax.form) {
-        Some(Form::SequenceOf(name)) => must(names.is_kind(m, &name, Kind::Sequence), &name),
-        Some(Form::Name(name)) => {
-            let row = d.kind == Kind::Object && names.is_kind(m, &name, Kind::Sequence);
-            must(row || names.is_type(m, &name), &name);
-        }
-        _ => {}
-    }
-    for column in &d.columns {
-        must(names.is_kind(m, &column.name, Kind::Object), &column.name);
-        if let Some(name) = &column.type_name {
-            must(names.is_type(m, name), name);
-        }
-    }
-    for name in d.index.iter().chain(&d.objects).chain(&d.augments) {
-        must(names.is_kind(m, name, Kind::Object), name);
-    }
-    unknown
+/// The module derives, and is refused by 41 or 42.
+pub fn wrong_uses(m: &Module) -> Vec<WrongUse> {
+    uses::wrong(m, &Names::new(m))
 }
 
 // 12 to 15: OIDs.
@@ -225,7 +190,7 @@ impl Chains {
                 }
                 None => {
                     let oid = symbols::built_in_oid(value.head.word);
-                    let oid = oid.expect("by rules 10 and 11 a head is built in or defined");
+                    let oid = oid.expect("by rules 10 and 41 a head is built in or defined");
                     path.push((at, Head::BuiltIn(oid)));
                     self.reached[at] = true;
                 }
@@ -502,9 +467,9 @@ impl<'m, 'a> Tables<'m, 'a> {
         self.is_class(i, ROW)
     }
 
-    /// Rule 11 holds: the name is that of a definition.
+    /// Rules 41 and 42 hold: the name is that of a definition.
     fn object(&self, name: &Token) -> usize {
-        self.names.definition(name).expect("rule 11")
+        self.names.definition(name).expect("rules 41 and 42")
     }
 
     /// The SEQUENCE type that a table or row names.

@@ -213,8 +213,11 @@ leads-to-requires c κs =
 serves-requires : tie.Need-serves-requires Inv-loop μ-loop
 serves-requires c κs = tt
 
-plain-finding-requires : tie.Need-plain-finding-requires Inv-loop μ-loop
-plain-finding-requires c κs = tt
+unfit-finding-requires : tie.Need-unfit-finding-requires Inv-loop μ-loop
+unfit-finding-requires c κs =
+    let a = c .before .before in
+    let s = start-of (loop-of a) in
+    (s .pre .0, (s .pre .1 .1 .0 .offers, (lead-is a, a .before .before .before .before .before .before .before .before .before .loop-test .taken)))
 
 same-length : tie.Need-same-length Inv-loop μ-loop
 same-length c = c .before .before .before .before .before .before .before .before .before .before .before .before .before .loop .inv .0 .long
@@ -224,7 +227,7 @@ returns c =
     let a = c .before .before .before in
     let l = loop-of a in
     let un = use-known _ _ _ (need-is a) _ (lead-is a) _ (served (start-of l) _ _ (c .before .before .serves .ensures)) in
-    (l .loop .inv .0 .long, (ap Broken (c .plain-finding .ensures) ∙ using-broken _ _ _ _ (l .loop .inv .0) (inside a) (sym un ∙ c .before .if2 .taken), tt))
+    (l .loop .inv .0 .long, (ap Broken (c .unfit-finding .ensures) ∙ using-broken _ _ _ _ (l .loop .inv .0) (inside a) (sym un ∙ c .before .if2 .taken), tt))
 
 mul-nearest-2 : tie.Need-mul-nearest-2 Inv-loop μ-loop
 mul-nearest-2 c = omega (arith, slot-few (c .before .before))
@@ -340,7 +343,7 @@ judge-uses-spec =
     slice-aggregate-leads-to-2
     leads-to-requires
     serves-requires
-    plain-finding-requires
+    unfit-finding-requires
     same-length
     returns
     mul-nearest-2

@@ -1,11 +1,13 @@
-//! Edits of a model, each aimed at one of the refusals 7 to 22. Some leave
-//! the module accepted or meet another refusal: both are near misses.
+//! Edits of a model, each aimed at one of the refusals 7 to 22, or 41 and 42
+//! in the place of 11. Some leave the module accepted or meet another refusal:
+//! both are near misses.
 
 mod grammar;
 mod names;
 pub mod oids;
 mod syntaxes;
 mod tables;
+mod uses;
 pub mod wide;
 
 use super::maker::upper_first;
@@ -32,10 +34,19 @@ const AIMS: [&[Edit]; 15] = [
         names::symbol_misplaced,
     ],
     &[
-        names::import_dropped,
-        names::use_renamed,
-        names::use_of_wrong_kind,
-        names::sequence_for_type,
+        uses::import_dropped,
+        uses::macro_dropped,
+        uses::use_renamed,
+        uses::unknown_type_put,
+        uses::unknown_name_put,
+        uses::use_of_wrong_kind,
+        uses::sequence_for_type,
+        // Twice, as it has four lists to meet with six kinds.
+        uses::no_object_put,
+        uses::no_object_put,
+        uses::no_sequence_put,
+        uses::both_in_one,
+        uses::both,
     ],
     &[
         oids::own_head,
@@ -121,9 +132,9 @@ const AIMS: [&[Edit]; 15] = [
     ],
 ];
 
-/// Tables and access have the most clauses, so they are aimed at most.
-const WEIGHTED: [usize; 22] = [
-    0, 1, 2, 2, 3, 4, 5, 6, 7, 7, 8, 9, 10, 10, 11, 11, 11, 12, 12, 13, 14, 14,
+/// Tables, access and uses have the most clauses, so they are aimed at most.
+const WEIGHTED: [usize; 24] = [
+    0, 1, 2, 2, 2, 2, 3, 4, 5, 6, 7, 7, 8, 9, 10, 10, 11, 11, 11, 12, 12, 13, 14, 14,
 ];
 
 /// One edit; when it is to be repeated, all have the same aim.

@@ -1,11 +1,12 @@
 //! Where the other one stands, for a refusal that is about two things: the
 //! name or label that was there first, the module that does not offer the
-//! symbol, the definition that holds the OID, the range before, the part of a
-//! table, the column or the name in a list that does not fit.
+//! symbol, the definition or the import of a name of another kind, the
+//! definition that holds the OID, the range before, the part of a table, the
+//! column or the name in a list that does not fit.
 
 use super::{
-    classes, next_to_last, oid_values, ranges_of, Chains, Definition, Kind, Module, Names, Refusal,
-    Restriction, Settled, Tables, NOT_ACCESSIBLE, READ_CREATE, READ_WRITE,
+    classes, introduced, next_to_last, oid_values, ranges_of, uses, Chains, Definition, Kind,
+    Module, Names, Refusal, Restriction, Settled, Tables, NOT_ACCESSIBLE, READ_CREATE, READ_WRITE,
 };
 
 /// The module derives, and the refusal is the one that it gets.
@@ -20,6 +21,7 @@ pub fn other(m: &Module, refusal: Refusal) -> Option<usize> {
         20 => of_table(m, place),
         21 => created_column(m, place),
         22 => hidden_object(m, place),
+        42 => introduction(m, place),
         _ => None,
     };
     // A row may augment itself.
@@ -28,14 +30,8 @@ pub fn other(m: &Module, refusal: Refusal) -> Option<usize> {
 
 /// `iso` has no earlier name.
 fn earlier_name(m: &Module, place: usize) -> Option<usize> {
-    let imported = m.groups.iter().flat_map(|group| &group.symbols);
-    let names = || {
-        imported
-            .clone()
-            .chain(m.definitions.iter().map(|d| &d.name))
-    };
-    let again = names().find(|name| name.start == place)?;
-    let first = names().find(|name| name.word == again.word)?;
+    let again = introduced(m).find(|name| name.start == place)?;
+    let first = introduced(m).find(|name| name.word == again.word)?;
     Some(first.start)
 }
 
@@ -44,6 +40,14 @@ fn module_named(m: &Module, place: usize) -> Option<usize> {
     let mut groups = m.groups.iter();
     let group = groups.find(|group| group.symbols.iter().any(|symbol| symbol.start == place))?;
     Some(group.module.start)
+}
+
+/// Of the name used at this place. `iso` is introduced nowhere.
+fn introduction(m: &Module, place: usize) -> Option<usize> {
+    let mut uses = m.definitions.iter().flat_map(uses::of);
+    let used = uses.find(|used| used.name.start == place)?;
+    let by = introduced(m).find(|name| name.word == used.name.word)?;
+    Some(by.start)
 }
 
 fn definition_at(m: &Module, place: usize) -> Option<usize> {
