@@ -72,7 +72,7 @@ def main():
         said = [subprocess.run([program] + names, stdout=subprocess.PIPE).stdout for program in (card, explain)]
         cards = ask.parted(said[0], names)
         for name, (title, text, wanted, shown), found in zip(names, cases, cards):
-            heads = re.findall(rb"(?m)^%s:(\d+):(\d+): refused" % name.encode(), said[1])
+            heads = re.findall(rb"(?m)^%s:(\d+):(\d+): refused" % re.escape(name.encode()), said[1])
             places = [(int(line), int(column)) for line, column in heads]
             if found != wanted or places != [position(text, place) for place in shown]:
                 differences += 1

@@ -81,7 +81,7 @@ is-named-requires : tie.Need-is-named-requires Inv-loop μ-loop
 is-named-requires c κs =
     let t = c .before .before in
     let s = start-of (t .before) in
-    (placed _ _ _ _ (s .pre .0) _ (t .loop-test .taken), named-is _ _ _ _ (s .pre .0) _ (s .pre .1) _ (t .before .before .name-at .ensures) .0)
+    (placed _ _ _ _ (s .pre .0) _ (omega (arith, t .loop-test .taken, s .pre .1)), named-is _ _ _ _ (s .pre .0) _ (s .pre .1) _ (t .before .before .name-at .ensures) .0)
 
 returns : tie.Need-returns Inv-loop μ-loop
 returns c =
