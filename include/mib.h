@@ -129,7 +129,7 @@ enum mib_status {
  * The numbers that mib_read answers. The first that applies, in this order, is given, with the earliest place in breach; of
  * 3 to 6 together the leftmost token, and of 41 and 42 together the earlier use. A place is a byte offset in the text, or
  * the text's length at its end. 11, in whose place 41 and 42 stand, is no longer given: who asked for MIB_READ_NOT_KNOWN
- * asks for both.
+ * asks for both. 16 no longer asks for an order of ranges, and what was MIB_READ_RANGE_ORDER is MIB_READ_RANGE_OVERLAP.
  */
 enum mib_read_number {
     MIB_READ_ACCEPTED = 0,
@@ -149,7 +149,7 @@ enum mib_read_number {
     MIB_READ_LONG_OID = 13,        /* OID over 128 numbers: the definition's name */
     MIB_READ_MANY_NUMBERS = 14,    /* definition with which the OID numbers pass 8,192: its name */
     MIB_READ_OID_TWICE = 15,       /* OID already held by an earlier definition: the later's name */
-    MIB_READ_RANGE_ORDER = 16,     /* range with low not below high, or not in rising order: the range */
+    MIB_READ_RANGE_OVERLAP = 16,   /* range that shares a number with an earlier one, or with low not below high */
     MIB_READ_RANGE_LIMITS = 17,    /* range or size where none may stand, or outside its limits */
     MIB_READ_LABEL_TWICE = 18,     /* label or number twice in an enum, or a number that may not stand there */
     MIB_READ_CONVENTION = 19,      /* convention whose SYNTAX name isn't one of SMI's eight types, imported */
@@ -373,8 +373,8 @@ static inline const char *mib_refusal_text(size_t number)
         return "with this OID those of the module pass 8,192 numbers";
     case MIB_READ_OID_TWICE:
         return "an earlier definition holds the OID";
-    case MIB_READ_RANGE_ORDER:
-        return "the range has its low number not below its high one, or does not lie above the one before it";
+    case MIB_READ_RANGE_OVERLAP:
+        return "the range shares a number with an earlier one, or has its low number not below its high one";
     case MIB_READ_RANGE_LIMITS:
         return "a range or size may not stand on this type, or is outside its limits";
     case MIB_READ_LABEL_TWICE:

@@ -53,13 +53,20 @@ def names_of_no_object(names):
 ACCEPTED = b"accepted\t3\n1\tt\t1.9\t0\t0\t0\n2\ta\t1.0\t0\t0\t0\n"
 
 
+# The card of the one example that is accepted: its identity, and a convention of class 1.
+LEVEL = b"accepted\t2\n1\tt\t1.9\t0\t0\t0\n5\tLevel\t-\t1\t0\t1\n"
+
+
 def vectors():
     """A name, a text, and its card where it is known from elsewhere."""
     yield "whole", WHOLE, PRINTED
     example = HERE.parent / "examples" / "QUAY-UPS-MIB"
     yield example.name, example.read_bytes(), None
     for number, module, place in rule_examples.modules():
-        yield "rule-%02d" % number, module, b"refused\t%d\t%d\n" % (number, place)
+        if place is None:
+            yield "kept-%02d" % number, module, LEVEL
+        else:
+            yield "rule-%02d" % number, module, b"refused\t%d\t%d\n" % (number, place)
     yield "definitions-512", plain_module(512), None
     yield "longest-lines", longest_lines(), None
     yield "bytes-65536", WHOLE + b" " * (65536 - len(WHOLE)), PRINTED

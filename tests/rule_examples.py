@@ -2,9 +2,10 @@
 """The examples of docs/RULES.md, each answered by the independent reading.
 
 An example is refused by the number of the section it stands in, at the place
-that its caret marks. It is put after the identity of a module; one that begins
-with IMPORTS takes the place of the imports. Examples with dots stand for a
-longer text, which is made here. Says what differs and exits 1.
+that its caret marks; a further one without a caret is accepted. It is put after
+the identity of a module; one that begins with IMPORTS takes the place of the
+imports. Examples with dots stand for a longer text, which is made here. Says
+what differs and exits 1.
 """
 
 import pathlib
@@ -39,11 +40,12 @@ LONGER = {
 
 
 def examples(page):
-    """The sections' numbers, each with the lines of its example."""
+    """The sections' numbers, each with its examples, by their lines."""
     for section in re.split(rb"(?m)^### ", page)[1:]:
         number = int(section[:section.index(b":")])
-        lines = [l[4:] for l in section.split(b"\n") if l.startswith(b"    ")]
-        yield number, lines
+        parts = re.findall(rb"(?m)(?:^(?:    .*)?\n)+", section)
+        given = [[l[4:] for l in part.split(b"\n") if l.startswith(b"    ")] for part in parts]
+        yield number, [lines for lines in given if lines]
 
 
 def marked(lines):
@@ -70,30 +72,44 @@ def whole(text):
 
 
 def modules():
-    """Each example's number, the module around it, and its place there. A
-    section without an example gives none."""
+    """Each example's number, the module around it, and its place there; None
+    where it is accepted. A section without an example gives none."""
     page = (HERE.parent / "docs" / "RULES.md").read_bytes()
-    for number, lines in examples(page):
-        if not lines:
-            continue
-        text, place = marked(lines)
-        if b"..." in text:
-            text, name = LONGER[number]
-            place = text.index(name)
-        module, start = whole(text)
-        yield number, module, start + place
+    for number, given in examples(page):
+        for lines in given:
+            text, place = marked(lines)
+            if b"..." in text:
+                text, name = LONGER[number]
+                place = text.index(name)
+            module, start = whole(text)
+            yield number, module, None if place is None else start + place
+
+
+def is_answer(number, place, card):
+    """Is this the card of an example?"""
+    if place is None:
+        return card.startswith(b"accepted\t")
+    return card == b"refused\t%d\t%d\n" % (number, place)
+
+
+def misses(number, given):
+    """Does a section's first example lack its place?"""
+    return bool(given) and marked(given[0])[1] is None and number not in LONGER
 
 
 def main():
     page = (HERE.parent / "docs" / "RULES.md").read_bytes()
-    seen = [number for number, lines in examples(page)]
+    seen = [number for number, _ in examples(page)]
     wrong = 0
+    for number in [number for number, given in examples(page) if misses(number, given)]:
+        wrong += 1
+        print("the example of %d marks no place" % number)
     given = list(modules())
     cards = ask.texts("card", [module for _, module, _ in given])
     for (number, _, place), card in zip(given, cards):
-        if card != b"refused\t%d\t%d\n" % (number, place):
+        if not is_answer(number, place, card):
             wrong += 1
-            print("example of %d: answered %r, marked at %d" % (number, card, place))
+            print("example of %d: answered %r, marked at %s" % (number, card, place))
     if seen != [*range(1, 12), 41, 42, *range(12, 23)]:
         wrong += 1
         print("the sections are %s" % seen)

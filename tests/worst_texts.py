@@ -5,6 +5,7 @@ worst_texts.py FOLDER writes a file for each.
 """
 import itertools
 import os
+import random
 import sys
 
 LIMIT = 65536
@@ -156,9 +157,38 @@ def heads_in_a_circle():
     return HEAD + "".join(plain(f"d{k}", f"d{(k + 1) % 511}", 1) for k in range(511)) + TAIL
 
 
-def ranges():
-    return fitted(HEAD + "x OBJECT-TYPE SYNTAX Integer32 (", map(str, itertools.count()), "|",
-                  ') MAX-ACCESS read-only STATUS current DESCRIPTION "" ::= { w 1 }\n' + TAIL)
+def numbers():
+    """Numbers, the short ones first."""
+    for length in itertools.count(1):
+        yield from range(10 ** (length - 1) if length > 1 else 0, 10 ** length)
+        yield from range(-10 ** (length - 2) if length > 2 else -1, -10 ** (length - 1), -1)
+
+
+def ranges(ordered):
+    """The longest list of ranges that share nothing, so ordered."""
+    start, end = HEAD + "x OBJECT-TYPE SYNTAX Integer32 (", ') MAX-ACCESS read-only STATUS current DESCRIPTION "" ::= { w 1 }\n' + TAIL
+    fit = fitted(start, map(str, numbers()), "|", end)[len(start):-len(end)]
+    return start + "|".join(map(str, ordered(sorted(map(int, fit.split("|")))))) + end
+
+
+def shuffled(rising):
+    return random.Random(1).sample(rising, len(rising))
+
+
+def inwards(rising):
+    """The lowest, the highest, the lowest of the others, and so on: each lies between the two before it."""
+    return [rising[k // 2] if k % 2 == 0 else rising[-1 - k // 2] for k in range(len(rising))]
+
+
+def falling_to_the_first(rising):
+    """The lowest, and then from the highest on: each but the first lies between the first and the others."""
+    return rising[:1] + rising[:0:-1]
+
+
+def one_twice(rising):
+    """A number there again at the end of a shuffled list, in the place of another."""
+    order = shuffled(rising)
+    return order[:-1] + [order[len(order) // 2]]
 
 
 def one_convention():
@@ -195,7 +225,12 @@ TEXTS = {
     "INDEX list": long_index,
     "heads backwards": heads_backwards,
     "heads in a circle": heads_in_a_circle,
-    "ranges": ranges,
+    "ranges rising": lambda: ranges(list),
+    "ranges falling": lambda: ranges(lambda rising: rising[::-1]),
+    "ranges shuffled": lambda: ranges(shuffled),
+    "ranges inwards": lambda: ranges(inwards),
+    "ranges to the first": lambda: ranges(falling_to_the_first),
+    "a range twice": lambda: ranges(one_twice),
     "one convention": one_convention,
     "names alike": names_alike,
     "parents": deep_parents,

@@ -62,7 +62,18 @@ $identity" '3:1 10 ifIndex'
 
     imports="IMPORTS MODULE-IDENTITY, OBJECT-TYPE, NOTIFICATION-TYPE, Integer32 FROM SNMPv2-SMI TEXTUAL-CONVENTION FROM SNMPv2-TC;
 $identity"
+    level='L ::= TEXTUAL-CONVENTION STATUS current DESCRIPTION "" SYNTAX Integer32 ('
     state='S ::= TEXTUAL-CONVENTION STATUS current DESCRIPTION "" SYNTAX INTEGER {'
+    stands "explain: a range stands against the first that shares a number with it" "$imports
+$level
+1..3 |
+20..29 |
+7 |
+5..25 )" '8:1 16 5' '6:1 16 20'
+    stands "explain: a pair that is wrong stands against nothing" "$imports
+$level
+1..9 |
+5..5 )" '6:1 16 5'
     stands "explain: an item with the label of one and the number of another stands against the label" "$imports
 $state
 one(1),
@@ -214,6 +225,8 @@ test_explain_no_token() {
 
 test_explain_clauses() {
     rest='STATUS current DESCRIPTION "" ::= { t 1 }'
+    says "a range over an earlier one" "4:40: refused 16: '4' starts a range that shares a number with an earlier one" "a OBJECT-TYPE SYNTAX Integer32 (1..4 | 4..9) MAX-ACCESS read-only $rest"
+    says "a pair of one number" "4:33: refused 16: '4' starts a range whose low number is not below its high one" "a OBJECT-TYPE SYNTAX Integer32 (4..4) MAX-ACCESS read-only $rest"
     says "a range on a counter" "4:33: refused 17: '1' starts a range, and none may stand on this type" "a OBJECT-TYPE SYNTAX Counter32 (1..5) MAX-ACCESS read-only $rest"
     says "a size on an integer" "4:39: refused 17: '1' starts a size, and none may stand on this type" "a OBJECT-TYPE SYNTAX Integer32 (SIZE (1..5)) MAX-ACCESS read-only $rest"
     says "a range outside the limits" "4:33: refused 17: '0' starts a range outside the limits of its type: -2147483648 to 2147483647, or 0 to 4294967295 for Gauge32 and Unsigned32" "a OBJECT-TYPE SYNTAX Integer32 (0..4294967295) MAX-ACCESS read-only $rest"

@@ -10,11 +10,11 @@ use reader::Refusal;
 use token::LONGEST_TEXT;
 
 // A range that stands against none is wrong in itself.
-pub fn print_order(refusal: Refusal, out: Output) -> Output {
+pub fn print_range(refusal: Refusal, out: Output) -> Output {
     if has_other(refusal) {
         return print(
             out,
-            b" starts a range that does not lie above the one before it",
+            b" starts a range that shares a number with an earlier one",
         );
     }
     print(

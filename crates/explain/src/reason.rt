@@ -5,7 +5,7 @@ use crate::name::print_misfit;
 use crate::name::print_unknown;
 use crate::range::print_item;
 use crate::range::print_limits;
-use crate::range::print_order;
+use crate::range::print_range;
 use crate::table::print_access;
 use crate::table::print_notification;
 use crate::table::print_table;
@@ -68,7 +68,7 @@ fn print_named(text: &[u8], refusal: Refusal, out: Output) -> Output {
     match number {
         9 => print_again(refusal, out),
         10 => print_import(text, refusal, out),
-        16 => print_order(refusal, out),
+        16 => print_range(refusal, out),
         17 => print_limits(text, refusal, out),
         18 => print_item(text, refusal, out),
         20 => print_table(text, refusal, out),
@@ -122,7 +122,7 @@ pub fn print_other(text: &[u8], refusal: Refusal, out: Output) -> Output {
     match number {
         9 => print(out, b" stands here first"),
         15 => print(out, b" holds the OID"),
-        16 => print(out, b" starts the range before it"),
+        16 => print(out, b" starts the first range that shares a number with it"),
         18 => print(out, b" is the earlier item"),
         20 => print_table_other(refusal.clause, out),
         21 => print(out, b" is the read-create one"),

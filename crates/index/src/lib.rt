@@ -22,6 +22,13 @@ pub fn wide(word: u32) -> usize
     word as usize
 }
 
+// A word of two bytes, likewise.
+pub fn wide_u16(word: u16) -> usize
+    ensures { λ r. ⌜ r ≡ word ⌝ }
+{
+    word as usize
+}
+
 // A byte, likewise.
 pub fn wide_byte(byte: u8) -> usize
     ensures { λ r. ⌜ (r ≡ byte) × (r < 256) ⌝ }

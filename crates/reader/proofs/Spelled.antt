@@ -21,7 +21,7 @@ use Rattle.sub_type.specs.declared.Limits.{Limits}
 use Rattle.enumeration.specs.Item.{has-label, first-label, item-clause, item-other}
 use Rattle.enumeration.specs.Refusal.{item-rule}
 use Rattle.syntax_check.specs.Refusal.{item-test-rule, items-of, item-rule-of, rules-over, range-rule-of, indirect-convention}
-use Rattle.syntax_check.specs.declared.Demand.the-variants.{Order}
+use Rattle.syntax_check.specs.declared.Demand.the-variants.{Places}
 use Rattle.syntax_check.specs.declared.Demand.the-variants.{Limits as Limited}
 use Rattle.syntax_check.specs.declared.ItemTest.{ItemTest}
 use Rattle.syntax_check.specs.declared.ItemTest.the-variants.{Itemless, Items}
@@ -96,11 +96,11 @@ module _ (cs vs : List ℕ) (x y : ℕ → List ℕ) (agree : (i : ℕ) → is-n
     pub rules-judged : judge (rules-over x cs vs ds) ≡ judge (rules-over y cs vs ds)
     unfolding rules-over each
     rules-judged =
-        let orders = each (range-rule-of cs vs ds Order) 0 (length ds) in
+        let places = each (range-rule-of cs vs ds Places) 0 (length ds) in
         let limits = each (range-rule-of cs vs ds Limited) 0 (length ds) in
         let last = indirect-convention cs vs ds ∷ [] in
-        let split : (z : ℕ → List ℕ) → judge (rules-over z cs vs ds) ≡ and-then (judge orders) (and-then (judge limits) (and-then (judge (each (item-rule-of z cs vs ds) 0 (length ds))) (judge last))) =
-        λ z. judge-row orders _ ∙ ap (and-then (judge orders)) (judge-row limits _ ∙ ap (and-then (judge limits)) (judge-row (each (item-rule-of z cs vs ds) 0 (length ds)) last)) in
+        let split : (z : ℕ → List ℕ) → judge (rules-over z cs vs ds) ≡ and-then (judge places) (and-then (judge limits) (and-then (judge (each (item-rule-of z cs vs ds) 0 (length ds))) (judge last))) =
+        λ z. judge-row places _ ∙ ap (and-then (judge places)) (judge-row limits _ ∙ ap (and-then (judge limits)) (judge-row (each (item-rule-of z cs vs ds) 0 (length ds)) last)) in
         split x
-        ∙ ap (λ (j : Judgement). and-then (judge orders) (and-then (judge limits) (and-then j (judge last)))) (each-judged 0 (length ds - 0))
+        ∙ ap (λ (j : Judgement). and-then (judge places) (and-then (judge limits) (and-then j (judge last)))) (each-judged 0 (length ds - 0))
         ∙ sym (split y)

@@ -37,6 +37,8 @@ use Rattle.type_class.specs.Class as type-class-Class
 use Rattle.type_class.specs.Stage as type-class-Stage
 use Rattle.sub_type.specs.Range as sub-type-Range
 use Rattle.sub_type.specs.Refusal as sub-type-Refusal
+use Rattle.range_list.specs.Misplaced as range-list-Misplaced
+use Rattle.range_list.specs.Refusal as range-list-Refusal
 use Rattle.enumeration.specs.Item as enumeration-Item
 use Rattle.enumeration.specs.Refusal as enumeration-Refusal
 use Rattle.syntax_check.specs.Refusal as syntax-check-Refusal
@@ -73,8 +75,8 @@ unfolding card-tokens tok meaning spelling-of value-of
     name-kind-Serve.serves naming-Rules.too-many naming-Rules.introduced-again naming-Rules.not-offered naming-Rules.is-unfit naming-Rules.unfit-use naming-Values.is-use naming-Values.values-from
     oid-number-Number.number-tokens oid-number-Number.parts-in oid-head-Oid.reaches oid-head-Oid.definition-numbers oid-head-Oid.resolved-oid oid-head-Oid.numbers-before oid-head-Unreached.unreached oid-tree-Refusal.too-long
     oid-tree-Refusal.past-room oid-tree-Refusal.counts-before oid-tree-Refusal.long-by-count oid-tree-Refusal.room-by-count oid-tree-Stage.with-oid oid-tree-Stage.with-oids oid-run-Run.is-below oid-holder-Holder.held-twice
-    type-class-Class.syntax-in type-class-Class.convention-class type-class-Class.object-class type-class-Class.sequence-number type-class-Stage.convention-classed type-class-Stage.object-classed sub-type-Range.starts-range sub-type-Range.is-backward
-    sub-type-Range.is-overlapping sub-type-Range.order-clause sub-type-Range.exceeds sub-type-Range.limit-clause sub-type-Refusal.range-rule enumeration-Item.item-clause enumeration-Item.label-again
+    type-class-Class.syntax-in type-class-Class.convention-class type-class-Class.object-class type-class-Class.sequence-number type-class-Stage.convention-classed type-class-Stage.object-classed sub-type-Range.starts-range sub-type-Range.exceeds
+    sub-type-Range.limit-clause sub-type-Refusal.limit-rule range-list-Misplaced.is-backward range-list-Misplaced.is-below range-list-Misplaced.shares range-list-Misplaced.is-misplaced range-list-Refusal.misplaced-range enumeration-Item.item-clause enumeration-Item.label-again
     enumeration-Item.number-misfit enumeration-Refusal.item-rule syntax-check-Refusal.is-untested syntax-check-Refusal.range-test syntax-check-Refusal.items-of syntax-check-Refusal.rules-over object-tree-Tree.is-parent object-tree-Tree.parents-added
     sequence-list-Named.named-at sequence-list-Named.lists sequence-list-Named.is-repeated sequence-list-Named.repeats sequence-list-Named.is-stranger sequence-list-Named.names-stranger clause-table-Clause.is-of clause-table-Clause.is-first-under
     clause-table-Clause.rowless-table clause-table-Clause.is-row-in clause-table-Clause.stray-row clause-table-Clause.repeating-row clause-table-Clause.misnaming-row clause-table-Clause.unlisted-column clause-table-Clause.unfounded-augments table-check-Refusal.clause-of
@@ -100,8 +102,8 @@ unfolding card-tokens tok meaning spelling-of value-of
     name-kind-Serve.serves naming-Rules.too-many naming-Rules.introduced-again naming-Rules.not-offered naming-Rules.is-unfit naming-Rules.unfit-use naming-Values.is-use naming-Values.values-from
     oid-number-Number.number-tokens oid-number-Number.parts-in oid-head-Oid.reaches oid-head-Oid.definition-numbers oid-head-Oid.resolved-oid oid-head-Oid.numbers-before oid-head-Unreached.unreached oid-tree-Refusal.too-long
     oid-tree-Refusal.past-room oid-tree-Refusal.counts-before oid-tree-Refusal.long-by-count oid-tree-Refusal.room-by-count oid-tree-Stage.with-oid oid-tree-Stage.with-oids oid-run-Run.is-below oid-holder-Holder.held-twice
-    type-class-Class.syntax-in type-class-Class.convention-class type-class-Class.object-class type-class-Class.sequence-number type-class-Stage.convention-classed type-class-Stage.object-classed sub-type-Range.starts-range sub-type-Range.is-backward
-    sub-type-Range.is-overlapping sub-type-Range.order-clause sub-type-Range.exceeds sub-type-Range.limit-clause sub-type-Refusal.range-rule enumeration-Item.item-clause enumeration-Item.label-again
+    type-class-Class.syntax-in type-class-Class.convention-class type-class-Class.object-class type-class-Class.sequence-number type-class-Stage.convention-classed type-class-Stage.object-classed sub-type-Range.starts-range sub-type-Range.exceeds
+    sub-type-Range.limit-clause sub-type-Refusal.limit-rule range-list-Misplaced.is-backward range-list-Misplaced.is-below range-list-Misplaced.shares range-list-Misplaced.is-misplaced range-list-Refusal.misplaced-range enumeration-Item.item-clause enumeration-Item.label-again
     enumeration-Item.number-misfit enumeration-Refusal.item-rule syntax-check-Refusal.is-untested syntax-check-Refusal.range-test syntax-check-Refusal.items-of syntax-check-Refusal.rules-over object-tree-Tree.is-parent object-tree-Tree.parents-added
     sequence-list-Named.named-at sequence-list-Named.lists sequence-list-Named.is-repeated sequence-list-Named.repeats sequence-list-Named.is-stranger sequence-list-Named.names-stranger clause-table-Clause.is-of clause-table-Clause.is-first-under
     clause-table-Clause.rowless-table clause-table-Clause.is-row-in clause-table-Clause.stray-row clause-table-Clause.repeating-row clause-table-Clause.misnaming-row clause-table-Clause.unlisted-column clause-table-Clause.unfounded-augments table-check-Refusal.clause-of

@@ -31,7 +31,7 @@ pub mod SyntaxBreaches
 pub mod TableBreaches
 pub mod ModuleBreaches
 pub mod Breaches
-pub mod RangesRising
+pub mod RangesApart
 pub mod Parents
 pub mod Printed
 pub mod Searching

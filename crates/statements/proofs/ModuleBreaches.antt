@@ -18,18 +18,18 @@ use Rattle.oid_tree.specs.Refusal.{too-long, past-room}
 use Rattle.oid_holder.specs.Holder.{held-twice as held-rule}
 use Rattle.syntax_check.specs.Refusal.{demand-number, range-rule-of, item-rule-of, indirect-convention, rules-over}
 use Rattle.syntax_check.specs.declared.Demand.{Demand}
-use Rattle.syntax_check.specs.declared.Demand.the-variants.{Order, Limits}
+use Rattle.syntax_check.specs.declared.Demand.the-variants.{Places, Limits}
 use Rattle.syntax_check.proofs.Places.{range-rule-inside, item-rule-inside}
 use Rattle.table_check.specs.Refusal.{table-broken}
 use Rattle.access_check.specs.Access.{access-broken}
 use Rattle.access_check.specs.Notification.{notification-broken}
 use Rattle.reader.specs.Reading.{numbered, classed, module-of, oid-rules, object-rules, later-rules, rules}
-use Rattle.statements.specs.Breach.{definition-count, ModuleBreach, definition-513, iso-introduced, introduced-twice, unoffered, unknown, other-kind, unreached, long-oid, many-numbers, held-twice, unordered, misfit, misnumbered, indirect, table-rules, access-rules, notification-rules}
+use Rattle.statements.specs.Breach.{definition-count, ModuleBreach, definition-513, iso-introduced, introduced-twice, unoffered, unknown, other-kind, unreached, long-oid, many-numbers, held-twice, misplaced, misfit, misnumbered, indirect, table-rules, access-rules, notification-rules}
 use Rattle.statements.proofs.Ordered.{Broken, _listed-in_, BrokenIn, broken-in, listed-before, listed-after, listed-each}
 use Rattle.statements.proofs.Rising.{classed-keeps, module-keeps, uses-inside}
 use Rattle.statements.proofs.NameBreaches.{many-told, many-broken, again-told, iso-broken, twice-broken, offer-told, offer-broken, use-told, unknown-broken, kind-broken}
 use Rattle.statements.proofs.OidBreaches.{all-there, definition-broken, definition-told, unreached-told, unreached-broken, long-told, long-broken, room-told, room-broken, held-told, held-broken}
-use Rattle.statements.proofs.SyntaxBreaches.{unordered-told, unordered-broken, misfit-told, misfit-broken, misnumbered-told, misnumbered-broken, indirect-told, indirect-broken}
+use Rattle.statements.proofs.SyntaxBreaches.{misplaced-told, misplaced-broken, misfit-told, misfit-broken, misnumbered-told, misnumbered-broken, indirect-told, indirect-broken}
 use Rattle.statements.proofs.TableBreaches.{table-told, table-clause, access-told, access-clauses, notification-told, notification-clauses}
 
 module _ (ms : List Meaning) where
@@ -128,7 +128,7 @@ module _ (ms : List Meaning) where
   syntax-told : AllTold of-syntax
   unfolding rules-over
   syntax-told =
-      told-row (each (ranges Order) 0 (length (shapes .definitions))) _ (told-of-each (ranges Order) (λ k h i b. rw (ranges-numbered Order k) (unordered-told ms k h i b)))
+      told-row (each (ranges Places) 0 (length (shapes .definitions))) _ (told-of-each (ranges Places) (λ k h i b. rw (ranges-numbered Places k) (misplaced-told ms k h i b)))
       (told-row (each (ranges Limits) 0 (length (shapes .definitions))) _ (told-of-each (ranges Limits) (λ k h i b. rw (ranges-numbered Limits k) (misfit-told ms k h i b)))
       (told-row (each items 0 (length (shapes .definitions))) (conventions ∷ []) (told-of-each items (λ k h i b. rw (items-numbered k) (misnumbered-told ms k h i b)))
       (indirect-told ms, tt)))
@@ -180,27 +180,27 @@ module _ (ms : List Meaning) where
   unfolding each
   one-of f k h = listed-each f 0 (length (shapes .definitions) - 0) k (omega arith) (omega (arith, all-there ms (classed-keeps ms)))
 
-  by-ranges : (k : ℕ) → k < definition-count ms → ranges Order k listed-in of-syntax
+  by-ranges : (k : ℕ) → k < definition-count ms → ranges Places k listed-in of-syntax
   unfolding rules-over
-  by-ranges k h = listed-before (ranges Order k) (each (ranges Order) 0 (length (shapes .definitions))) _ (one-of (ranges Order) k h)
+  by-ranges k h = listed-before (ranges Places k) (each (ranges Places) 0 (length (shapes .definitions))) _ (one-of (ranges Places) k h)
 
   by-limits : (k : ℕ) → k < definition-count ms → ranges Limits k listed-in of-syntax
   unfolding rules-over
   by-limits k h =
-      listed-after (ranges Limits k) (each (ranges Order) 0 (length (shapes .definitions))) _
+      listed-after (ranges Limits k) (each (ranges Places) 0 (length (shapes .definitions))) _
       (listed-before (ranges Limits k) (each (ranges Limits) 0 (length (shapes .definitions))) _ (one-of (ranges Limits) k h))
 
   by-items : (k : ℕ) → k < definition-count ms → items k listed-in of-syntax
   unfolding rules-over
   by-items k h =
-      listed-after (items k) (each (ranges Order) 0 (length (shapes .definitions))) _
+      listed-after (items k) (each (ranges Places) 0 (length (shapes .definitions))) _
       (listed-after (items k) (each (ranges Limits) 0 (length (shapes .definitions))) _
       (listed-before (items k) (each items 0 (length (shapes .definitions))) (conventions ∷ []) (one-of items k h)))
 
   by-conventions : conventions listed-in of-syntax
   unfolding rules-over
   by-conventions =
-      listed-after conventions (each (ranges Order) 0 (length (shapes .definitions))) _
+      listed-after conventions (each (ranges Places) 0 (length (shapes .definitions))) _
       (listed-after conventions (each (ranges Limits) 0 (length (shapes .definitions))) _
       (listed-after conventions (each items 0 (length (shapes .definitions))) (conventions ∷ []) (inl refl)))
 
@@ -224,8 +224,8 @@ module _ (ms : List Meaning) where
       broken-in (past-room (named ms)) (by-oids _ (inr (inr (inl refl)))) refl (room-broken ms k h few many)
   rule-of-row number token (held-twice {k} j h l own other is) =
       broken-in (held-rule (numbered ms .definitions) (numbered ms .numbers)) (by-oids _ (inr (inr (inr (inl refl))))) refl (held-broken ms k j h l own other is)
-  rule-of-row number token (unordered k s h has w b u) =
-      broken-in (ranges Order k) (by-syntax _ (by-ranges k h)) (ranges-numbered Order k) (unordered-broken ms k h s token has w b u)
+  rule-of-row number token (misplaced k s h has w b u) =
+      broken-in (ranges Places k) (by-syntax _ (by-ranges k h)) (ranges-numbered Places k) (misplaced-broken ms k h s token has w b u)
   rule-of-row number token (misfit k h f b mis) =
       broken-in (ranges Limits k) (by-syntax _ (by-limits k h)) (ranges-numbered Limits k) (misfit-broken ms k h token f b mis)
   rule-of-row number token (misnumbered k l s h has w n mis) =

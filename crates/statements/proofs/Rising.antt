@@ -23,7 +23,7 @@ use Rattle.oid_tree.specs.Refusal.{too-long, past-room}
 use Rattle.oid_holder.specs.Holder.{held-twice}
 use Rattle.syntax_check.specs.Refusal.{demand-number, range-rule-of, item-rule-of, indirect-convention, rules-over}
 use Rattle.syntax_check.specs.declared.Demand.{Demand}
-use Rattle.syntax_check.specs.declared.Demand.the-variants.{Order, Limits}
+use Rattle.syntax_check.specs.declared.Demand.the-variants.{Places, Limits}
 use Rattle.syntax_check.proofs.Places.{Inside, range-rule-inside, item-rule-inside}
 use Rattle.table_check.specs.Refusal.{table-broken}
 use Rattle.access_check.specs.Access.{access-broken}
@@ -248,7 +248,7 @@ module _ (ms : List Meaning) where
   syntax-run : Run (rank 16) (suc (rank 19)) of-syntax
   unfolding rules-over rank ranks-before is-among
   syntax-run =
-      run-row (omega arith) (omega arith) (omega arith) (of-each 16 (ranges Order) (ranges-home Order))
+      run-row (omega arith) (omega arith) (omega arith) (of-each 16 (ranges Places) (ranges-home Places))
       (run-row (omega arith) (omega arith) (omega arith) (of-each 17 (ranges Limits) (ranges-home Limits))
       (run-row (omega arith) (omega arith) (omega arith) (of-each 18 items items-home) (run-one indirect-rises)))
 
@@ -289,7 +289,7 @@ module _ (ms : List Meaning) where
   syntax-placed : Placed (length ms) of-syntax
   unfolding rules-over
   syntax-placed =
-      placed-row (length ms) (each (ranges Order) 0 (length shapes)) _ (placed-of-each 16 (ranges Order) (ranges-home Order))
+      placed-row (length ms) (each (ranges Places) 0 (length shapes)) _ (placed-of-each 16 (ranges Places) (ranges-home Places))
       (placed-row (length ms) (each (ranges Limits) 0 (length shapes)) _ (placed-of-each 17 (ranges Limits) (ranges-home Limits))
       (placed-row (length ms) (each items 0 (length shapes)) (indirect-convention (classed ms .classes) (classed ms .values) shapes ∷ []) (placed-of-each 18 items items-home)
       (at-tokens indirect-rises, tt)))

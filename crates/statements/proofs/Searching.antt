@@ -36,7 +36,6 @@ use Rattle.statements.specs.Breach.{definition-count, name-token, Offers
 use Rattle.statements.specs.Searches.{Imported, Named, LeadsPlainly, Searches}
 use Rattle.statements.proofs.Tests.{both, joined, left, right, never, found}
 use Rattle.statements.proofs.NameBreaches.{spelled-same, offers-is, is-offers}
-use Rattle.statements.proofs.RangesRising.{rising-exactly}
 use Rattle.statements.proofs.Parents.{parents}
 use Rattle.statements.proofs.TableBreaches.{row-of-type, of-type}
 
@@ -214,7 +213,6 @@ no-symbol-oid m k oid h (of-symbol j has) = true-false has (rw (List·getD-eq-de
 pub searches : Searches
 searches = record {
   one-row = one-row;
-  rising = rising-exactly;
   parents = parents;
   never-reached = λ m k. (broken-never m k, λ x. never-broken m k (x .0) (x .1));
   has-oid = λ m l. (λ x. oid-reaches m (x .1), reaches-oid m l);

@@ -21,6 +21,7 @@ use Rattle.statements.proofs.Third.{third-demand}
 use Rattle.module_tree.proofs.OfText.{of-text}
 use Rattle.statements.proofs.Printed.{two-numbers, no-answer-changed}
 use Rattle.statements.proofs.Gone.{eleven-gone}
+use Rattle.statements.proofs.RangesApart.{ranges-in-any-order}
 use Rattle.statements.proofs.Alike.{quotes-alike, read-once}
 use Rattle.statements.proofs.Printing.{prints, printed-alike, octets-bound}
 use Rattle.statements.proofs.Rows.{state-kept, same-answer}
@@ -44,6 +45,7 @@ statements = record {
   two-numbers = two-numbers;
   no-answer-changed = no-answer-changed;
   eleven-gone = eleven-gone;
+  ranges = ranges-in-any-order;
   read-settled = read-once answer-to;
   examine-settled = read-once examined-to;
   octets = λ hint value answer before after a. prints _ _ before answer after a;

@@ -4,7 +4,7 @@ use mathlib.Core.Path.{_≡_, refl, ap}
 use mathlib.Core.Logic.{_⊎_, inl, inr, ⊎-elim}
 use mathlib.Core.Bool.{Bool, true, false, cond, not, _&&_}
 use mathlib.Core.List.{List}
-use Prim.Native.Nat.{ℕ, _-_, _<_}
+use Prim.Native.Nat.{ℕ, _<_}
 use native.Mathlib.Omega.{arith}
 use lib.Dec.{eqb, ltb}
 use borrow.Author.Tests.{eqb-true, eq-eqb, not-true}
@@ -12,9 +12,8 @@ use Rattle.index.specs.First.{any}
 use Rattle.index.proofs.Search.{any-at}
 use Rattle.lexicon.proofs.Words.{same-equal}
 use Rattle.rule.specs.Rule.{Rule}
-use Rattle.terminal.specs.Terminal.{bar}
 use Rattle.token.specs.Token.{Meaning}
-use Rattle.definition.specs.Landmark.{class-at, convention}
+use Rattle.definition.specs.Landmark.{convention}
 use Rattle.definition.specs.Members.{is-name}
 use Rattle.definition.specs.declared.Span.{Span}
 use Rattle.definition.specs.declared.Restriction.{Restriction}
@@ -26,20 +25,23 @@ use Rattle.module_table.specs.Module.{Module, at}
 use Rattle.scope.specs.Token.{spelled}
 use Rattle.type_class.specs.Class.{has-syntax, is-named, is-smi-lead, lead-of}
 use Rattle.sub_type.specs.Number.{number-at, is-outside, range-limits, size-limits}
-use Rattle.sub_type.specs.Range.{starts-range, is-pair, is-backward, is-overlapping, order-clause, exceeds, limit-kind, limit-clause}
-use Rattle.sub_type.specs.Refusal.{range-rule}
+use Rattle.sub_type.specs.Range.{starts-range, is-pair, exceeds, limit-kind, limit-clause}
+use Rattle.sub_type.specs.Refusal.{limit-rule}
+use Rattle.range_list.specs.Misplaced.{is-backward, is-sharing, is-misplaced}
+use Rattle.range_list.specs.Refusal.{misplaced-range}
+use Rattle.range_list.proofs.Ranges.{common, sharing}
 use Rattle.sub_type.specs.declared.Limits.{Limits}
 use Rattle.sub_type.specs.declared.Limits.the-variants as limits
 use Rattle.enumeration.specs.Item.{item-number, has-label, has-number, item-clause}
 use Rattle.enumeration.specs.Refusal.{item-rule}
-use Rattle.syntax_check.specs.Refusal.{restriction-of, order-test, limit-test, enumeration-test, item-test, is-untested, range-test, items-of, range-test-rule, item-test-rule, range-rule-of, item-rule-of, indirect-convention}
+use Rattle.syntax_check.specs.Refusal.{restriction-of, place-test, limit-test, enumeration-test, item-test, is-untested, range-test, items-of, range-test-rule, item-test-rule, range-rule-of, item-rule-of, indirect-convention}
 use Rattle.syntax_check.specs.declared.Demand.the-variants as demand
 use Rattle.syntax_check.specs.declared.RangeTest.{RangeTest}
 use Rattle.syntax_check.specs.declared.RangeTest.the-variants.{Untested}
 use Rattle.syntax_check.specs.declared.ItemTest.{ItemTest}
 use Rattle.syntax_check.specs.declared.ItemTest.the-variants.{Itemless}
 use Rattle.reader.specs.Reading.{classed}
-use Rattle.statements.specs.Breach.{definition-count, syntax-of, Within, HasRanges, HasSizes, Unordered, backward, overlapping, Outside, Misfit, range, size, HasItems, of-integer, of-bits, Misnumbered, label-twice, number-twice, outside, ModuleBreach, unordered, misfit, misnumbered, indirect}
+use Rattle.statements.specs.Breach.{definition-count, syntax-of, Within, HasRanges, HasSizes, Misplaced, wrong-pair, shared, Outside, Misfit, range, size, HasItems, of-integer, of-bits, Misnumbered, label-twice, number-twice, outside, ModuleBreach, misplaced, misfit, misnumbered, indirect}
 use Rattle.statements.proofs.Tests.{both, joined, either, left, right, deny, found, clause-told, clause-none, clause-here, clause-later, clause-passed, clause-passing}
 use Rattle.statements.proofs.Ordered.{Broken, BrokenBy}
 use Rattle.statements.proofs.Rising.{classed-keeps}
@@ -55,23 +57,26 @@ module _ (m : Module) where
 
   -- ---- one range
 
-  order-told : (i : ℕ) → ltb 0 (order-clause cs vs i) ≡ true → (starts-range cs i ≡ true) × Unordered m i
-  unfolding order-clause is-backward is-overlapping
-  order-told i e =
-      let o = clause-passed (starts-range cs i) _ e in (
-        o .0,
-        clause-told (is-backward cs vs i) 0 _ (o .1) (λ t. let x = both (is-pair cs i) _ t in backward (x .0) (not-true _ (x .1)))
-            (λ e. clause-told (is-overlapping cs vs i) 1 _ e
-            (λ t. let x = both (eqb (class-at cs (i - 1)) bar) _ t in overlapping (eqb-true _ bar (x .0)) (not-true _ (x .1))) clause-none),
+  pub place-told : (s : Span) (i : ℕ) → is-misplaced cs vs (s .from) i ≡ true → (starts-range cs i ≡ true) × Misplaced m s i
+  unfolding is-misplaced is-backward
+  place-told s i e =
+      let x = both (starts-range cs i) _ e in (
+        x .0,
+        ⊎-elim
+            (λ t. let y = both (is-pair cs i) _ t in wrong-pair (y .0) (not-true _ (y .1)))
+            (λ t.
+            let f = found (is-sharing cs vs i) (s .from) i t in
+            let y = both (starts-range cs (f .0)) _ (f .3) in
+            let z = common cs vs (f .0) i (y .1) in
+            shared (f .0) (z .0) (f .1) (f .2) (y .0) (z .1) (z .2))
+            (either (is-backward cs vs i) _ (x .1)),
       )
 
-  order-breach : (i : ℕ) → starts-range cs i ≡ true → Unordered m i → ltb 0 (order-clause cs vs i) ≡ true
-  unfolding order-clause is-backward is-overlapping
-  order-breach i s (backward pair not-below) =
-      clause-passing (starts-range cs i) _ s (clause-here (is-backward cs vs i) 0 _ (joined pair (deny not-below)))
-  order-breach i s (overlapping behind not-above) =
-      clause-passing (starts-range cs i) _ s
-      (clause-later (is-backward cs vs i) 0 _ (clause-here (is-overlapping cs vs i) 1 _ (joined (eq-eqb _ bar behind) (deny not-above))))
+  pub place-breach : (s : Span) (i : ℕ) → starts-range cs i ≡ true → Misplaced m s i → is-misplaced cs vs (s .from) i ≡ true
+  unfolding is-misplaced is-backward
+  place-breach s i b (wrong-pair pair not-below) = joined b (left _ (joined pair (deny not-below)))
+  place-breach s i b (shared j z l h t own other) =
+      joined b (right (is-backward cs vs i) (any-at (is-sharing cs vs i) (s .from) i j l h (joined t (sharing cs vs j i z own other))))
 
   -- any limits have a clause
   some-kind : (l : Limits) → ltb 0 (limit-kind l) ≡ true
@@ -96,35 +101,35 @@ module _ (m : Module) where
   -- ---- the ranges of a definition
 
   -- 16, by the restriction
-  abbrev order-rule : Restriction → Rule
-  order-rule r = range-test-rule cs vs 16 (order-test r)
+  abbrev place-rule-by : Restriction → Rule
+  place-rule-by r = range-test-rule cs vs 16 (place-test r)
 
   -- what is told of a range, by the brackets that it stands in
-  abbrev OrderTold : Restriction → ℕ → Type 0
-  OrderTold r i =
-      (s : Span) × ((r ≡ Ranges s) ⊎ (r ≡ Sizes s)) × Within m s i × (starts-range cs i ≡ true) × Unordered m i
+  abbrev PlaceTold : Restriction → ℕ → Type 0
+  PlaceTold r i =
+      (s : Span) × ((r ≡ Ranges s) ⊎ (r ≡ Sizes s)) × Within m s i × (starts-range cs i ≡ true) × Misplaced m s i
 
-  order-of : (r : Restriction) (i : ℕ) → Broken (order-rule r) i → OrderTold r (order-rule r .place i)
-  unfolding range-rule
-  order-of Free i b = absurd (omega (arith, b .below))
-  order-of (Ranges s) i b = let t = order-told i (b .breaks) in (s, inl refl, (b .from, b .below), t .0, t .1)
-  order-of (Sizes s) i b = let t = order-told i (b .breaks) in (s, inr refl, (b .from, b .below), t .0, t .1)
-  order-of (Enumeration s) i b = absurd (omega (arith, b .below))
+  place-of : (r : Restriction) (i : ℕ) → Broken (place-rule-by r) i → PlaceTold r (place-rule-by r .place i)
+  unfolding misplaced-range
+  place-of Free i b = absurd (omega (arith, b .below))
+  place-of (Ranges s) i b = let t = place-told s i (b .breaks) in (s, inl refl, (b .from, b .below), t .0, t .1)
+  place-of (Sizes s) i b = let t = place-told s i (b .breaks) in (s, inr refl, (b .from, b .below), t .0, t .1)
+  place-of (Enumeration s) i b = absurd (omega (arith, b .below))
 
-  ranges-ordered : (s : Span) (i : ℕ) → Within m s i → starts-range cs i ≡ true → Unordered m i → BrokenBy (order-rule (Ranges s)) i
-  unfolding range-rule
-  ranges-ordered s i w b u = record {
+  ranges-misplaced : (s : Span) (i : ℕ) → Within m s i → starts-range cs i ≡ true → Misplaced m s i → BrokenBy (place-rule-by (Ranges s)) i
+  unfolding misplaced-range
+  ranges-misplaced s i w b u = record {
     index = i;
-    broken = record { from = w .0; below = w .1; breaks = order-breach i b u };
+    broken = record { from = w .0; below = w .1; breaks = place-breach s i b u };
     placed = refl;
   }
 
-  sizes-ordered : (s : Span) (i : ℕ) → Within m s i → starts-range cs i ≡ true → Unordered m i → BrokenBy (order-rule (Sizes s)) i
-  sizes-ordered s i w b u = ranges-ordered s i w b u
+  sizes-misplaced : (s : Span) (i : ℕ) → Within m s i → starts-range cs i ≡ true → Misplaced m s i → BrokenBy (place-rule-by (Sizes s)) i
+  sizes-misplaced s i w b u = ranges-misplaced s i w b u
 
   -- 17, by the class and the restriction
-  abbrev limit-rule : ℕ → Restriction → Rule
-  limit-rule class r = range-test-rule cs vs 17 (limit-test class r)
+  abbrev limit-rule-by : ℕ → Restriction → Rule
+  limit-rule-by class r = range-test-rule cs vs 17 (limit-test class r)
 
   abbrev LimitTold : ℕ → Restriction → ℕ → Type 0
   LimitTold class r i =
@@ -132,16 +137,16 @@ module _ (m : Module) where
       × (((s : Span) × (r ≡ Ranges s) × Within m s i × Outside m (range-limits class) i)
       ⊎ ((s : Span) × (r ≡ Sizes s) × Within m s i × Outside m (size-limits class) i))
 
-  limit-of : (class : ℕ) (r : Restriction) (i : ℕ) → Broken (limit-rule class r) i → LimitTold class r (limit-rule class r .place i)
-  unfolding range-rule
+  limit-of : (class : ℕ) (r : Restriction) (i : ℕ) → Broken (limit-rule-by class r) i → LimitTold class r (limit-rule-by class r .place i)
+  unfolding limit-rule
   limit-of class Free i b = absurd (omega (arith, b .below))
   limit-of class (Ranges s) i b = let t = limit-told (range-limits class) i (b .breaks) in (t .0, inl (s, refl, (b .from, b .below), t .1))
   limit-of class (Sizes s) i b = let t = limit-told (size-limits class) i (b .breaks) in (t .0, inr (s, refl, (b .from, b .below), t .1))
   limit-of class (Enumeration s) i b = absurd (omega (arith, b .below))
 
   ranges-limited : (class : ℕ) (s : Span) (i : ℕ) → Within m s i → starts-range cs i ≡ true → Outside m (range-limits class) i
-      → BrokenBy (limit-rule class (Ranges s)) i
-  unfolding range-rule
+      → BrokenBy (limit-rule-by class (Ranges s)) i
+  unfolding limit-rule
   ranges-limited class s i w b out = record {
     index = i;
     broken = record { from = w .0; below = w .1; breaks = limit-breach (range-limits class) i b out };
@@ -149,8 +154,8 @@ module _ (m : Module) where
   }
 
   sizes-limited : (class : ℕ) (s : Span) (i : ℕ) → Within m s i → starts-range cs i ≡ true → Outside m (size-limits class) i
-      → BrokenBy (limit-rule class (Sizes s)) i
-  unfolding range-rule
+      → BrokenBy (limit-rule-by class (Sizes s)) i
+  unfolding limit-rule
   sizes-limited class s i w b out = record {
     index = i;
     broken = record { from = w .0; below = w .1; breaks = limit-breach (size-limits class) i b out };
@@ -254,8 +259,8 @@ module _ (ms : List Meaning) where
     abbrev r : Restriction
     r = restriction-of (syntax-of stage k)
 
-    abbrev order-test-by : Bool → RangeTest
-    order-test-by b = cond b (order-test r) Untested
+    abbrev place-test-by : Bool → RangeTest
+    place-test-by b = cond b (place-test r) Untested
 
     abbrev limit-test-by : Bool → RangeTest
     limit-test-by b = cond b (limit-test (d .class) r) Untested
@@ -264,23 +269,23 @@ module _ (ms : List Meaning) where
     item-test-by b = cond b (item-test (syntax-of stage k)) Itemless
 
     -- 16
-    pub unordered-told : (i : ℕ) → Broken (range-rule-of (stage .classes) (stage .values) (stage .definitions) demand.Order k) i
-        → ModuleBreach ms 16 (range-rule-of (stage .classes) (stage .values) (stage .definitions) demand.Order k .place i)
+    pub misplaced-told : (i : ℕ) → Broken (range-rule-of (stage .classes) (stage .values) (stage .definitions) demand.Places k) i
+        → ModuleBreach ms 16 (range-rule-of (stage .classes) (stage .values) (stage .definitions) demand.Places k .place i)
     unfolding range-test
-    unordered-told i = go (has-syntax d) refl
+    misplaced-told i = go (has-syntax d) refl
       where
-        go : (b : Bool) → has-syntax d ≡ b → Broken (range-test-rule (stage .classes) (stage .values) 16 (order-test-by b)) i
-            → ModuleBreach ms 16 (range-test-rule (stage .classes) (stage .values) 16 (order-test-by b) .place i)
+        go : (b : Bool) → has-syntax d ≡ b → Broken (range-test-rule (stage .classes) (stage .values) 16 (place-test-by b)) i
+            → ModuleBreach ms 16 (range-test-rule (stage .classes) (stage .values) 16 (place-test-by b) .place i)
         go true has b =
-            let t = order-of stage r i b in
-            unordered k (t .0) h (⊎-elim (λ is. inl (has, is)) (λ is. inr (has, is)) (t .1)) (t .2) (t .3) (t .4)
+            let t = place-of stage r i b in
+            misplaced k (t .0) h (⊎-elim (λ is. inl (has, is)) (λ is. inr (has, is)) (t .1)) (t .2) (t .3) (t .4)
         go false has b = absurd (omega (arith, b .below))
 
-    pub unordered-broken : (s : Span) (i : ℕ) → HasRanges stage k s ⊎ HasSizes stage k s → Within stage s i → starts-range (stage .classes) i ≡ true
-        → Unordered stage i → BrokenBy (range-rule-of (stage .classes) (stage .values) (stage .definitions) demand.Order k) i
+    pub misplaced-broken : (s : Span) (i : ℕ) → HasRanges stage k s ⊎ HasSizes stage k s → Within stage s i → starts-range (stage .classes) i ≡ true
+        → Misplaced stage s i → BrokenBy (range-rule-of (stage .classes) (stage .values) (stage .definitions) demand.Places k) i
     unfolding range-test
-    unordered-broken s i (inl has) w b u = rw (has .0, has .1) (ranges-ordered stage s i w b u)
-    unordered-broken s i (inr has) w b u = rw (has .0, has .1) (sizes-ordered stage s i w b u)
+    misplaced-broken s i (inl has) w b u = rw (has .0, has .1) (ranges-misplaced stage s i w b u)
+    misplaced-broken s i (inr has) w b u = rw (has .0, has .1) (sizes-misplaced stage s i w b u)
 
     -- 17
     abbrev tested : Bool

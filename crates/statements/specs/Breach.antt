@@ -11,6 +11,7 @@ use mathlib.Core.Bool.{true, false}
 use mathlib.Core.List.{List, []}
 use Prim.Native.Nat.{ℕ, suc, _+_, _-_, _≤_, _<_}
 use lib.ListN.{length, getD}
+use lib.IntN.{ℤ}
 use lib.Signed.{ltZ}
 use Rattle.token.specs.Token.{Meaning, class-of-token}
 use Rattle.token.specs.Cut.{cut, whole, refused, meanings-in}
@@ -19,8 +20,7 @@ use Rattle.grammar.specs.Grammar.{smi-module}
 use Rattle.grammar.specs.Derivation.{DerivesTokens}
 use Rattle.syntax.specs.Parsing.{Fault}
 use Rattle.symbol.specs.Symbol.{iso-name, symbol-count, symbol-names, module-name}
-use Rattle.terminal.specs.Terminal.{bar}
-use Rattle.definition.specs.Landmark.{class-at, definitions, convention}
+use Rattle.definition.specs.Landmark.{definitions, convention}
 use Rattle.definition.specs.Members.{is-name}
 use Rattle.definition.specs.declared.Span.{Span}
 use Rattle.definition.specs.declared.Restriction.the-variants.{Ranges, Sizes, Enumeration}
@@ -41,7 +41,7 @@ use Rattle.oid_tree.specs.Refusal.{longest-oid, most-numbers}
 use Rattle.oid_holder.specs.Holder.{is-holder}
 use Rattle.type_class.specs.Class.{has-syntax, syntax-in, is-named, is-smi-lead, lead-of}
 use Rattle.sub_type.specs.Number as number
-use Rattle.sub_type.specs.Range.{starts-range, is-pair, high-token}
+use Rattle.sub_type.specs.Range.{starts-range, is-pair, low, high}
 use Rattle.sub_type.specs.declared.Limits.{Limits}
 use Rattle.sub_type.specs.declared.Limits.the-variants as limits
 use Rattle.enumeration.specs.Item.{item-number}
@@ -100,18 +100,21 @@ HasRanges m k s = (has-syntax (at m k) ≡ true) × (restriction-of (syntax-of m
 abbrev pub HasSizes : Module → ℕ → Span → Type 0
 HasSizes m k s = (has-syntax (at m k) ≡ true) × (restriction-of (syntax-of m k) ≡ Sizes s)
 
--- 16, of the range that starts at token i: "low not below high", or it does not lie above the range before the `|`
-pub data Unordered (m : Module) (i : ℕ) : Type 0 where
-  backward : is-pair (m .classes) i ≡ true
-      → ltZ (number.number-at (m .classes) (m .values) i) (number.number-at (m .classes) (m .values) (i + 2)) ≡ false → Unordered m i
-  overlapping : class-at (m .classes) (i - 1) ≡ bar
-      → ltZ (number.number-at (m .classes) (m .values) (i - 2)) (number.number-at (m .classes) (m .values) i) ≡ false → Unordered m i
+-- a number lies in the range that starts at token i: it is not below the low, nor above the high, and a single number is both
+abbrev pub LiesIn : Module → ℕ → ℤ → Type 0
+LiesIn m i z = (ltZ z (low (m .classes) (m .values) i) ≡ false) × (ltZ (high (m .classes) (m .values) i) z ≡ false)
+
+-- 16, of the range that starts at token i, between these brackets, as request 2 of document 02 has it
+pub data Misplaced (m : Module) (s : Span) (i : ℕ) : Type 0 where
+  -- "whose pair is wrong": its low is not below its high
+  wrong-pair : is-pair (m .classes) i ≡ true → ltZ (low (m .classes) (m .values) i) (high (m .classes) (m .values) i) ≡ false → Misplaced m s i
+  -- "that shares a number with an earlier one"
+  shared : (j : ℕ) (z : ℤ) → s .from ≤ j → j < i → starts-range (m .classes) j ≡ true → LiesIn m j z → LiesIn m i z → Misplaced m s i
 
 -- 17, of the range that starts at token i: its low or its high is outside these limits, as each number is where the class takes none
 abbrev pub Outside : Module → Limits → ℕ → Type 0
 Outside m l i =
-    (number.is-outside l (number.number-at (m .classes) (m .values) i) ≡ true)
-    ⊎ (number.is-outside l (number.number-at (m .classes) (m .values) (high-token (m .classes) i)) ≡ true)
+    (number.is-outside l (low (m .classes) (m .values) i) ≡ true) ⊎ (number.is-outside l (high (m .classes) (m .values) i) ≡ true)
 
 -- 17, of definition k: a range outside the limits of its class, or a size
 pub data Misfit (m : Module) (k i : ℕ) : Type 0 where
@@ -246,10 +249,10 @@ pub data ModuleBreach (ms : List Meaning) : ℕ → ℕ → Type 0 where
   held-twice : {k : ℕ} (j : ℕ) → k < definition-count ms → j < k → is-holder (at (numbered ms) k) ≡ true
       → is-holder (at (numbered ms) j) ≡ true
       → oid-of (numbered ms) j ≡ oid-of (numbered ms) k → ModuleBreach ms 15 (name-token ms k)
-  -- 16: range with low not below high, or ranges not in rising order without overlap
-  unordered : {i : ℕ} (k : ℕ) (s : Span) → k < definition-count ms → HasRanges (classed ms) k s ⊎ HasSizes (classed ms) k s
+  -- 16: range that shares a number with an earlier one, or whose pair is wrong
+  misplaced : {i : ℕ} (k : ℕ) (s : Span) → k < definition-count ms → HasRanges (classed ms) k s ⊎ HasSizes (classed ms) k s
       → Within (classed ms) s i
-      → starts-range (classed ms .classes) i ≡ true → Unordered (classed ms) i → ModuleBreach ms 16 i
+      → starts-range (classed ms .classes) i ≡ true → Misplaced (classed ms) s i → ModuleBreach ms 16 i
   -- 17: ranges on a class other than 1, 8, 9, sizes on one other than 3, or outside: class 1 -2147483648..2147483647, 8 and 9
   -- 0..4294967295, sizes 0..65535; not tested in a convention that breaches 19, nor in an object naming one
   misfit : {i : ℕ} (k : ℕ) → k < definition-count ms

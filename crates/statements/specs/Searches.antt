@@ -4,14 +4,9 @@ use mathlib.Core.Path.{_≡_}
 use mathlib.Core.Logic.{_↔_}
 use mathlib.Core.Bool.{true}
 use mathlib.Core.List.{List, [], _∷_, _++_}
-use Prim.Native.Nat.{ℕ, suc, _+_, _-_, _≤_, _<_}
-use lib.Signed.{ltZ}
+use Prim.Native.Nat.{ℕ, suc, _≤_, _<_}
 use lib.ListN.{length}
-use Rattle.terminal.specs.Terminal.{left-paren, right-paren, dots, bar}
 use Rattle.token.specs.Token.{Meaning}
-use Rattle.definition.specs.Landmark.{class-at}
-use Rattle.sub_type.specs.Number.{number-at}
-use Rattle.sub_type.specs.Range.{is-number, starts-range, is-pair, high-token}
 use Rattle.symbol.specs.Symbol.{iso-name, symbol-of, symbol-count}
 use Rattle.module_table.specs.Module.{Module, at, oid-of}
 use Rattle.module_table.specs.declared.Lead.{Lead}
@@ -24,7 +19,7 @@ use Rattle.oid_head.specs.Unreached.{unreached}
 use Rattle.clause_table.specs.Clause.{has-one-row}
 use Rattle.object_tree.specs.Words.{is-object}
 use Rattle.reader.specs.Reading.{module-of}
-use Rattle.statements.specs.Breach.{definition-count, name-token, Offers, parent, Unordered, OneRow, ModuleBreach}
+use Rattle.statements.specs.Breach.{definition-count, name-token, Offers, parent, OneRow, ModuleBreach}
 
 -- a symbol of this name is imported
 abbrev pub Imported : List Meaning → List ℕ → Type 0
@@ -48,30 +43,9 @@ IsParent m j k =
     (j < length (m .definitions)) × (is-object (at m j) ≡ true) × (is-object (at m k) ≡ true)
     × (last : ℕ) × (oid-of m k ≡ oid-of m j ++ (last ∷ []))
 
--- a range stands from token a on, before e, as the grammar has it: "number or number .. number"
-pub data RangeStands (cs : List ℕ) : ℕ → ℕ → Type 0 where
-  alone : {a : ℕ} → is-number (class-at cs a) ≡ true → RangeStands cs a (a + 1)
-  pair : {a : ℕ} → is-number (class-at cs a) ≡ true → class-at cs (a + 1) ≡ dots → is-number (class-at cs (a + 2)) ≡ true
-      → RangeStands cs a (a + 3)
-
--- ranges stand from token a on, parted by `|`, before the bracket that closes them at b
-pub data RangesStand (cs : List ℕ) : ℕ → ℕ → Type 0 where
-  final : {a b : ℕ} → RangeStands cs a b → class-at cs b ≡ right-paren → RangesStand cs a b
-  parted : {a e b : ℕ} → RangeStands cs a e → class-at cs e ≡ bar → RangesStand cs (e + 1) b → RangesStand cs a b
-
--- the ranges from token a on, before b, rise: each pair's low is below its high, and of any two the later lies above the earlier
-pub record Rising (m : Module) (a b : ℕ) : Type 0 where
-  pub pairs : (i : ℕ) → a ≤ i → i < b → starts-range (m .classes) i ≡ true → is-pair (m .classes) i ≡ true
-      → ltZ (number-at (m .classes) (m .values) i) (number-at (m .classes) (m .values) (i + 2)) ≡ true
-  pub apart : (i j : ℕ) → a ≤ i → i < j → j < b → starts-range (m .classes) i ≡ true → starts-range (m .classes) j ≡ true
-      → ltZ (number-at (m .classes) (m .values) (high-token (m .classes) i)) (number-at (m .classes) (m .values) j) ≡ true
-
 pub record Searches : Type 0 where
   -- "exactly one row"
   pub one-row : (m : Module) (type : ℕ) → (has-one-row (m .definitions) type ≡ true) ↔ ((r : ℕ) × OneRow m type r)
-  -- "ranges not in rising order without overlap": what 16 asks of each range and the one before it says it of any two
-  pub rising : (m : Module) (a b : ℕ) → class-at (m .classes) (a - 1) ≡ left-paren → RangesStand (m .classes) a b
-      → ((i : ℕ) → a ≤ i → i < b → starts-range (m .classes) i ≡ true → Unordered m i → ⊥) ↔ Rising m a b
   -- the parent of a definition, by its number, counted from 1, where no token breaks rule 15
   pub parents : (ms : List Meaning) → ((i : ℕ) → ModuleBreach ms 15 i → ⊥) → (k j : ℕ) → k < definition-count ms
       → (parent (module-of ms) k ≡ suc j) ↔ IsParent (module-of ms) j k

@@ -45,6 +45,7 @@ use Rattle.mib.specs.Raw as raw
 use Rattle.digit.specs.Digits.{glyph, digits, numeral}
 use Rattle.row_status.specs.declared.Answer.{Answer as RowAnswer}
 use Rattle.statements.specs.Card.{card-text, record-of-t, record-of-a, card-numbers}
+use Rattle.statements.specs.Ranges.{RangesInAnyOrder}
 use Rattle.statements.specs.Searches.{Searches}
 use Rattle.statements.specs.Breach.{WithinLimits, Cuts, Derives, InBreach, FirstBreach}
 use Rattle.statements.specs.Printed.{NoAnswerChanged}
@@ -233,6 +234,8 @@ pub record Statements : Type 0 where
   pub no-answer-changed : (text : List ℕ) (records numbers : ℕ) → NoAnswerChanged text records numbers
   -- "11 is no longer given"
   pub eleven-gone : NeverGiven 11
+  -- "Correct the rule: any order, no number in two ranges"
+  pub ranges : RangesInAnyOrder
   -- the contracts leave nothing open: number, place, count and each lent word are settled; of reader::examine, clause and other place too
   pub read-settled : (text : List ℕ) → ReadAlike text text
   pub examine-settled : (text : List ℕ) → ExaminedAlike text text

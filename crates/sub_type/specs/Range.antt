@@ -1,12 +1,12 @@
--- The ranges of a restriction, those of sizes alike, each by the token that it starts with: what breaks refusals 16 and 17.
+-- The ranges of a restriction, those of sizes alike, each by the token that it starts with; and what breaks refusal 17.
 -- `cs` are the classes of a module's tokens, `vs` their values.
 -- Assumes nothing.
 use mathlib.Core.Bool.{Bool, not, _&&_, _||_}
 use mathlib.Core.List.{List}
 use Prim.Native.Nat.{ℕ, _+_, _-_}
 use lib.Dec.{eqb}
-use lib.Signed.{ltZ}
-use Rattle.terminal.specs.Terminal.{number, negative, dots, bar}
+use lib.IntN.{ℤ}
+use Rattle.terminal.specs.Terminal.{number, negative, dots}
 use Rattle.definition.specs.Landmark.{class-at}
 use Rattle.index.specs.Choice.{if_then_else_}
 use Rattle.sub_type.specs.Number.{number-at, is-outside}
@@ -29,26 +29,16 @@ is-pair cs i = eqb (class-at cs (i + 1)) dots
 abbrev pub high-token : List ℕ → ℕ → ℕ
 high-token cs i = if is-pair cs i then i + 2 else i
 
--- it is a pair with low not below high
-unfoldable pub is-backward : List ℕ → List ℕ → ℕ → Bool
-is-backward cs vs i = is-pair cs i && not (ltZ (number-at cs vs i) (number-at cs vs (i + 2)))
+-- its low, and its high
+abbrev pub low : List ℕ → List ℕ → ℕ → ℤ
+low cs vs i = number-at cs vs i
 
--- it does not lie above the range before it, which ends directly before the `|` that parts the two
-unfoldable pub is-overlapping : List ℕ → List ℕ → ℕ → Bool
-is-overlapping cs vs i = eqb (class-at cs (i - 1)) bar && not (ltZ (number-at cs vs (i - 2)) (number-at cs vs i))
-
--- the first token of the range before it: of a pair, two tokens before its high
-abbrev pub range-before : List ℕ → ℕ → ℕ
-range-before cs i = if eqb (class-at cs (i - 3)) dots then i - 4 else i - 2
-
--- 16: 1 where the range that starts at token i is a pair with low not below high, 2 where it does not lie above the one before it
-unfoldable pub order-clause : List ℕ → List ℕ → ℕ → ℕ
-order-clause cs vs i =
-    if starts-range cs i then (if is-backward cs vs i then 1 else if is-overlapping cs vs i then 2 else 0) else 0
+abbrev pub high : List ℕ → List ℕ → ℕ → ℤ
+high cs vs i = number-at cs vs (high-token cs i)
 
 -- one of its bounds is outside the limits
 unfoldable pub exceeds : List ℕ → List ℕ → Limits → ℕ → Bool
-exceeds cs vs limits i = is-outside limits (number-at cs vs i) || is-outside limits (number-at cs vs (high-token cs i))
+exceeds cs vs limits i = is-outside limits (low cs vs i) || is-outside limits (high cs vs i)
 
 -- how a range breaks limits: 1 where the class takes no such restriction, 2 where it is outside
 abbrev pub limit-kind : Limits → ℕ

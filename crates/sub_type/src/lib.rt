@@ -1,16 +1,19 @@
-// The numbers of a module, and the ranges and sizes of a syntax, walked by their cursors: refusals 16 and 17 on one restriction.
+// The numbers of a module, and the ranges and sizes of a syntax: refusal 17 on one restriction.
 mod number;
 mod range;
 
 pub use number::class_at;
 pub use number::end_in;
+pub use number::is_less;
 pub use number::is_outside;
 pub use number::is_same_number;
 pub use number::less;
 pub use number::range_limits;
 pub use number::size_limits;
 pub use number::word_at;
-pub use range::judge_ranges;
+pub use range::high_token;
+pub use range::judge_limits;
+pub use range::starts_range;
 
 // What numbers may be: none is allowed; those of class 1; those of classes 8 and 9, and of BITS; sizes.
 pub enum Limits {
@@ -18,10 +21,4 @@ pub enum Limits {
     Integer,
     Unsigned,
     Sizes,
-}
-
-// What ranges are tested for: their order, which is refusal 16, or their limits, which is 17.
-pub enum Check {
-    Order,
-    Within(Limits),
 }

@@ -1,6 +1,5 @@
 // Numbers of tokens, compared as signed numbers of 64 bits, and what they may be.
 ghost use mathlib.Core.Path.{_≡_};
-ghost use mathlib.Core.Bool.{not};
 ghost use Prim.Native.Nat.{_-_};
 ghost use lib.ListN.{getD};
 ghost use lib.Signed.{ltZ};
@@ -62,13 +61,13 @@ pub fn number_at(classes: &[u8], values: &[u32], i: usize) -> i64
     magnitude
 }
 
-// Whether the number of token i is not below that of token j.
-pub fn is_not_below(classes: &[u8], values: &[u32], i: usize, j: usize) -> bool
-    ensures { λ r. ⌜ r ≡ not (ltZ (number-at (now (classes .entry)) (now (values .entry)) i) (number-at (now (classes .entry)) (now (values .entry)) j)) ⌝ }
+// Whether the number of token i is below that of token j.
+pub fn is_less(classes: &[u8], values: &[u32], i: usize, j: usize) -> bool
+    ensures { λ r. ⌜ r ≡ ltZ (number-at (now (classes .entry)) (now (values .entry)) i) (number-at (now (classes .entry)) (now (values .entry)) j) ⌝ }
 {
     let a = number_at(classes, values, i);
     let b = number_at(classes, values, j);
-    !(a < b)
+    a < b
 }
 
 // Whether tokens i and j have the same number.

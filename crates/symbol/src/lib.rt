@@ -13,6 +13,7 @@ use crate::table::MODULES;
 use crate::table::NUMBER_STARTS;
 use crate::table::NUMBERS;
 use crate::table::SORTS;
+use index::wide_u16;
 
 // How many symbols there are: what `symbol_named` answers where a name is none.
 pub const SYMBOLS: usize = table::SYMBOLS;
@@ -22,13 +23,6 @@ pub enum Sort {
     Oid,
     Type(u8),
     Macro,
-}
-
-// The same number in a wider type.
-fn wide_u16(x: u16) -> usize
-    ensures { λ r. ⌜ r ≡ x ⌝ }
-{
-    x as usize
 }
 
 // Where the list k of a table of joined lists starts; after the last, where that one ends.

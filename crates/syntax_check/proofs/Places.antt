@@ -25,14 +25,13 @@ use Rattle.module_table.specs.declared.Definition.{Definition}
 use Rattle.type_class.specs.Class.{has-syntax, syntax-in}
 use Rattle.sub_type.specs.Number.{end-in, range-limits, size-limits}
 use Rattle.enumeration.specs.Item.{Spelling}
-use Rattle.sub_type.specs.Refusal.{number-of, range-rule}
+use Rattle.sub_type.specs.Refusal.{limit-rule}
+use Rattle.range_list.specs.Refusal.{misplaced-range}
 use Rattle.enumeration.specs.Refusal.{item-rule}
 use Rattle.sub_type.specs.declared.Limits as limits
-use Rattle.sub_type.specs.declared.Check.{Check}
-use Rattle.sub_type.specs.declared.Check.the-variants.{Order as InOrder, Within}
-use Rattle.syntax_check.specs.Refusal.{restriction-of, order-test, limit-test, enumeration-test, item-test, is-untested, range-test, items-of, nothing-tested, demand-number, range-test-rule, item-test-rule, range-rule-of, item-rule-of}
+use Rattle.syntax_check.specs.Refusal.{restriction-of, place-test, limit-test, enumeration-test, item-test, is-untested, range-test, items-of, nothing-tested, demand-number, range-test-rule, item-test-rule, range-rule-of, item-rule-of}
 use Rattle.syntax_check.specs.declared.Demand.{Demand}
-use Rattle.syntax_check.specs.declared.Demand.the-variants.{Order, Limits}
+use Rattle.syntax_check.specs.declared.Demand.the-variants.{Places, Limits}
 use Rattle.syntax_check.specs.declared.RangeTest.the-variants.{Untested}
 use Rattle.syntax_check.specs.declared.ItemTest.the-variants.{Itemless}
 
@@ -123,26 +122,36 @@ nothing-inside number a b = record {
 }
 
 module _ (cs vs : List ℕ) (a b : ℕ) where
-  ranges-inside : (check : Check) (s : Span) → SpanIn a b s → Inside (number-of check) a b (range-rule cs vs check s)
-  unfolding range-rule SpanIn
-  ranges-inside check s fits = record {
+  -- a rule that is tested at the tokens of a span
+  tested-inside : (r : Rule) (s : Span) → SpanIn a b s → r .from ≡ s .from → r .to ≡ end-in cs s → ((i : ℕ) → r .place i ≡ i)
+      → Inside (r .number) a b r
+  unfolding SpanIn
+  tested-inside r s fits from to placed = record {
     numbered = refl;
-    placed = λ i. refl;
-    between = λ i l h. fits i l (omega (arith, end-before cs s));
+    placed = placed;
+    between = λ i l h. fits i (omega (arith, l, from)) (omega (arith, h, to, end-before cs s));
   }
 
-  order-inside : (r : Restriction) → FitsIn a b r → Inside 16 a b (range-test-rule cs vs 16 (order-test r))
+  placed-inside : (s : Span) → SpanIn a b s → Inside 16 a b (misplaced-range cs vs s)
+  unfolding misplaced-range
+  placed-inside s fits = tested-inside (misplaced-range cs vs s) s fits refl refl (λ i. refl)
+
+  limited-inside : (l : limits.Limits) (s : Span) → SpanIn a b s → Inside 17 a b (limit-rule cs vs l s)
+  unfolding limit-rule
+  limited-inside l s fits = tested-inside (limit-rule cs vs l s) s fits refl refl (λ i. refl)
+
+  place-inside : (r : Restriction) → FitsIn a b r → Inside 16 a b (range-test-rule cs vs 16 (place-test r))
   unfolding FitsIn
-  order-inside Free f = nothing-inside 16 a b
-  order-inside (Ranges s) f = ranges-inside InOrder s f
-  order-inside (Sizes s) f = ranges-inside InOrder s f
-  order-inside (Enumeration s) f = nothing-inside 16 a b
+  place-inside Free f = nothing-inside 16 a b
+  place-inside (Ranges s) f = placed-inside s f
+  place-inside (Sizes s) f = placed-inside s f
+  place-inside (Enumeration s) f = nothing-inside 16 a b
 
   limit-inside : (class : ℕ) (r : Restriction) → FitsIn a b r → Inside 17 a b (range-test-rule cs vs 17 (limit-test class r))
   unfolding FitsIn
   limit-inside class Free f = nothing-inside 17 a b
-  limit-inside class (Ranges s) f = ranges-inside (Within (range-limits class)) s f
-  limit-inside class (Sizes s) f = ranges-inside (Within (size-limits class)) s f
+  limit-inside class (Ranges s) f = limited-inside (range-limits class) s f
+  limit-inside class (Sizes s) f = limited-inside (size-limits class) s f
   limit-inside class (Enumeration s) f = nothing-inside 17 a b
 
   enumeration-inside : (x : Spelling) (l : limits.Limits) (r : Restriction) → FitsIn a b r → Inside 18 a b (item-test-rule x cs vs (enumeration-test l r))
@@ -150,11 +159,7 @@ module _ (cs vs : List ℕ) (a b : ℕ) where
   enumeration-inside x l Free f = nothing-inside 18 a b
   enumeration-inside x l (Ranges s) f = nothing-inside 18 a b
   enumeration-inside x l (Sizes s) f = nothing-inside 18 a b
-  enumeration-inside x l (Enumeration s) f = record {
-    numbered = refl;
-    placed = λ i. refl;
-    between = λ i m h. f i m (omega (arith, end-before cs s));
-  }
+  enumeration-inside x l (Enumeration s) f = tested-inside (item-rule x cs vs l s) s f refl refl (λ i. refl)
 
   items-inside : (x : Spelling) (y : Syntax) → FitsIn a b (restriction-of y) → Inside 18 a b (item-test-rule x cs vs (item-test y))
   items-inside x (Integer r) f = enumeration-inside x limits.the-variants.Integer r f
@@ -168,12 +173,12 @@ module _ (cs vs : List ℕ) (ds : List Definition) (k : ℕ) where
   -- rules 16 and 17 of definition k stand inside its syntax
   pub range-rule-inside : (demand : Demand) → Inside (demand-number demand) (entry ds k .syntax .from) (entry ds k .syntax .to) (range-rule-of cs vs ds demand k)
   unfolding range-test
-  range-rule-inside Order = go (has-syntax (entry ds k))
+  range-rule-inside Places = go (has-syntax (entry ds k))
     where
       go : (b : Bool)
           → Inside 16 (entry ds k .syntax .from) (entry ds k .syntax .to)
-          (range-test-rule cs vs 16 (cond b (order-test (restriction-of (syntax-in cs (entry ds k .syntax)))) Untested))
-      go true = order-inside cs vs _ _ _ (syntax-fits cs (entry ds k .syntax))
+          (range-test-rule cs vs 16 (cond b (place-test (restriction-of (syntax-in cs (entry ds k .syntax)))) Untested))
+      go true = place-inside cs vs _ _ _ (syntax-fits cs (entry ds k .syntax))
       go false = nothing-inside 16 _ _
   range-rule-inside Limits = go (has-syntax (entry ds k) && not (is-untested cs vs ds (entry ds k)))
     where

@@ -22,14 +22,14 @@ use Rattle.index.specs.Choice.{if_then_else_}
 use Rattle.type_class.specs.Class.{has-syntax, syntax-in, lead-of, is-indirect}
 use Rattle.sub_type.specs.Number.{range-limits, size-limits}
 use Rattle.enumeration.specs.Item.{Spelling}
-use Rattle.sub_type.specs.Refusal.{range-rule}
+use Rattle.sub_type.specs.Refusal.{limit-rule}
+use Rattle.range_list.specs.Refusal.{misplaced-range}
 use Rattle.enumeration.specs.Refusal.{item-rule}
 use Rattle.sub_type.specs.declared.Limits as limits
-use Rattle.sub_type.specs.declared.Check.the-variants.{Order as InOrder, Within}
 use Rattle.syntax_check.specs.declared.Demand.{Demand}
-use Rattle.syntax_check.specs.declared.Demand.the-variants.{Order, Limits}
+use Rattle.syntax_check.specs.declared.Demand.the-variants.{Places, Limits}
 use Rattle.syntax_check.specs.declared.RangeTest.{RangeTest}
-use Rattle.syntax_check.specs.declared.RangeTest.the-variants.{Untested, Tested}
+use Rattle.syntax_check.specs.declared.RangeTest.the-variants.{Untested, Placed, Within}
 use Rattle.syntax_check.specs.declared.ItemTest.{ItemTest}
 use Rattle.syntax_check.specs.declared.ItemTest.the-variants.{Itemless, Items}
 
@@ -42,18 +42,18 @@ restriction-of ObjectIdentifier = Free
 restriction-of (Bits r) = r
 restriction-of (SequenceOf t) = Free
 
--- 16, on a restriction: ranges and sizes are tested for their order
-abbrev pub order-test : Restriction → RangeTest
-order-test Free = Untested
-order-test (Ranges s) = Tested InOrder s
-order-test (Sizes s) = Tested InOrder s
-order-test (Enumeration s) = Untested
+-- 16, on a restriction: ranges and sizes are tested against each other
+abbrev pub place-test : Restriction → RangeTest
+place-test Free = Untested
+place-test (Ranges s) = Placed s
+place-test (Sizes s) = Placed s
+place-test (Enumeration s) = Untested
 
 -- 17, on a restriction of a syntax of this class: ranges and sizes are tested for their limits
 abbrev pub limit-test : ℕ → Restriction → RangeTest
 limit-test class Free = Untested
-limit-test class (Ranges s) = Tested (Within (range-limits class)) s
-limit-test class (Sizes s) = Tested (Within (size-limits class)) s
+limit-test class (Ranges s) = Within (range-limits class) s
+limit-test class (Sizes s) = Within (size-limits class) s
 limit-test class (Enumeration s) = Untested
 
 -- 18, on a restriction, with the limits of its numbers
@@ -86,7 +86,7 @@ is-untested cs vs ds d =
 
 -- how the ranges of a definition are tested
 unfoldable pub range-test : List ℕ → List ℕ → List Definition → Demand → Definition → RangeTest
-range-test cs vs ds Order d = if has-syntax d then order-test (restriction-of (syntax-in cs (d .syntax))) else Untested
+range-test cs vs ds Places d = if has-syntax d then place-test (restriction-of (syntax-in cs (d .syntax))) else Untested
 range-test cs vs ds Limits d =
     if has-syntax d && not (is-untested cs vs ds d) then limit-test (d .class) (restriction-of (syntax-in cs (d .syntax))) else Untested
 
@@ -100,13 +100,14 @@ nothing-tested number = plain-rule number 0 0 (λ k. false) (λ k. k)
 
 -- the refusal of a demand
 abbrev pub demand-number : Demand → ℕ
-demand-number Order = 16
+demand-number Places = 16
 demand-number Limits = 17
 
 -- what a test of this refusal asks
 abbrev pub range-test-rule : List ℕ → List ℕ → ℕ → RangeTest → Rule
 range-test-rule cs vs number Untested = nothing-tested number
-range-test-rule cs vs number (Tested check s) = range-rule cs vs check s
+range-test-rule cs vs number (Placed s) = misplaced-range cs vs s
+range-test-rule cs vs number (Within limits s) = limit-rule cs vs limits s
 
 abbrev pub item-test-rule : Spelling → List ℕ → List ℕ → ItemTest → Rule
 item-test-rule x cs vs Itemless = nothing-tested 18
@@ -128,7 +129,7 @@ indirect-convention cs vs ds =
 -- the rules in the order of their numbers: 16 of all definitions before 17 of any, and so on
 unfoldable pub rules-over : Spelling → List ℕ → List ℕ → List Definition → List Rule
 rules-over x cs vs ds =
-    each (range-rule-of cs vs ds Order) 0 (length ds)
+    each (range-rule-of cs vs ds Places) 0 (length ds)
     ++ (each (range-rule-of cs vs ds Limits) 0 (length ds)
     ++ (each (item-rule-of x cs vs ds) 0 (length ds) ++ indirect-convention cs vs ds ∷ []))
 

@@ -16,18 +16,19 @@ use enumeration::Enumeration;
 use restriction::judge_all_items;
 use restriction::judge_all_ranges;
 use rule::Judgement;
-use sub_type::Check;
+use sub_type::Limits;
 
 // What is asked of the ranges of all definitions: refusal 16 or 17.
 pub enum Demand {
-    Order,
+    Places,
     Limits,
 }
 
-// How the ranges of a definition are tested, if they are.
+// How the ranges of a definition are tested, if they are: against each other, or for their limits.
 pub enum RangeTest {
     Untested,
-    Tested(Check, Span),
+    Placed(Span),
+    Within(Limits, Span),
 }
 
 // The items of a definition that are tested, if it has them.
@@ -48,9 +49,9 @@ pub fn judge_syntax(
     requires { ⌜ length (now classes) ≤ 65536 ⌝ }
     ensures { λ r. ⌜ r ≡ judge (rules-over (spelling-in (now (text .entry)) (now (starts .entry)) (now (ends .entry))) (now (classes .entry)) (now (values .entry)) (definitions-in (now (definitions .entry)))) ⌝ }
 {
-    let orders = judge_all_ranges(classes, values, definitions, Demand::Order);
-    let Judgement::Kept = orders else {
-        return orders;
+    let places = judge_all_ranges(classes, values, definitions, Demand::Places);
+    let Judgement::Kept = places else {
+        return places;
     };
     let limits = judge_all_ranges(classes, values, definitions, Demand::Limits);
     let Judgement::Kept = limits else {

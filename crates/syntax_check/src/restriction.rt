@@ -15,8 +15,9 @@ use enumeration::judge_items;
 use index::RecordIndex;
 use module_table::count;
 use module_table::definition_at;
+use range_list::judge_misplaced;
 use rule::Judgement;
-use sub_type::judge_ranges;
+use sub_type::judge_limits;
 
 // What a test of ranges says, whichever refusal it is of.
 fn judge_range_test(classes: &[u8], values: &[u32], test: RangeTest) -> Judgement
@@ -25,7 +26,8 @@ fn judge_range_test(classes: &[u8], values: &[u32], test: RangeTest) -> Judgemen
 {
     match test {
         RangeTest::Untested => Judgement::Kept,
-        RangeTest::Tested(check, span) => judge_ranges(classes, values, check, span),
+        RangeTest::Placed(span) => judge_misplaced(classes, values, span),
+        RangeTest::Within(limits, span) => judge_limits(classes, values, limits, span),
     }
 }
 

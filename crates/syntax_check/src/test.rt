@@ -3,7 +3,7 @@ ghost use mathlib.Core.Path.{_≡_};
 ghost use Prim.Native.Nat.{_≤_};
 ghost use lib.ListN.{length};
 ghost use Rattle.module_table.specs.Definition.{definitions-in};
-ghost use Rattle.syntax_check.specs.Refusal.{restriction-of, order-test, limit-test, enumeration-test, item-test, leads-to-indirect};
+ghost use Rattle.syntax_check.specs.Refusal.{restriction-of, place-test, limit-test, enumeration-test, item-test, leads-to-indirect};
 ghost use Rattle.syntax_check.specs.Refusal.{is-untested, range-test, items-of};
 use crate::Demand;
 use crate::ItemTest;
@@ -15,7 +15,6 @@ use enumeration::Enumeration;
 use module_table::Definition;
 use module_table::Lead;
 use module_table::definition_at;
-use sub_type::Check;
 use sub_type::Limits;
 use sub_type::range_limits;
 use sub_type::size_limits;
@@ -39,13 +38,13 @@ fn restriction_of(syntax: Syntax) -> Restriction
 }
 
 // Refusal 16 on a restriction.
-fn order_test(restriction: Restriction) -> RangeTest
-    ensures { λ r. ⌜ r ≡ order-test restriction ⌝ }
+fn place_test(restriction: Restriction) -> RangeTest
+    ensures { λ r. ⌜ r ≡ place-test restriction ⌝ }
 {
     match restriction {
         Restriction::Free => RangeTest::Untested,
-        Restriction::Ranges(span) => RangeTest::Tested(Check::Order, span),
-        Restriction::Sizes(span) => RangeTest::Tested(Check::Order, span),
+        Restriction::Ranges(span) => RangeTest::Placed(span),
+        Restriction::Sizes(span) => RangeTest::Placed(span),
         Restriction::Enumeration(_) => RangeTest::Untested,
     }
 }
@@ -56,8 +55,8 @@ fn limit_test(class: usize, restriction: Restriction) -> RangeTest
 {
     match restriction {
         Restriction::Free => RangeTest::Untested,
-        Restriction::Ranges(span) => RangeTest::Tested(Check::Within(range_limits(class)), span),
-        Restriction::Sizes(span) => RangeTest::Tested(Check::Within(size_limits(class)), span),
+        Restriction::Ranges(span) => RangeTest::Within(range_limits(class), span),
+        Restriction::Sizes(span) => RangeTest::Within(size_limits(class), span),
         Restriction::Enumeration(_) => RangeTest::Untested,
     }
 }
@@ -125,14 +124,14 @@ pub fn range_test(
 {
     let has = has_syntax(d);
     let restriction = restriction_of(syntax_in(classes, d.syntax));
-    let Demand::Order = demand else {
+    let Demand::Places = demand else {
         if has & !is_untested(classes, values, definitions, d) {
             return limit_test(d.class, restriction);
         }
         return RangeTest::Untested;
     };
     if has {
-        return order_test(restriction);
+        return place_test(restriction);
     }
     RangeTest::Untested
 }

@@ -44,7 +44,7 @@ fn refusal_text(number: u32) -> &'static str {
         13 => "the OID has more than 128 numbers",
         14 => "with this OID those of the module pass 8,192 numbers",
         15 => "an earlier definition holds the OID",
-        16 => "the range has its low number not below its high one, or does not lie above the one before it",
+        16 => "the range shares a number with an earlier one, or has its low number not below its high one",
         17 => "a range or size may not stand on this type, or is outside its limits",
         18 => "the label or its number stands there already, or the number is out of range",
         19 => "the SYNTAX of a convention names none of SMI's eight types, imported",

@@ -137,7 +137,7 @@ fn cases_by_hand() {
         let expected = (case.number, place, case.other);
         assert_eq!(other(&case.text), expected, "{}", case.title);
     }
-    assert_eq!(cases.len(), 356);
+    assert_eq!(cases.len(), 420);
 }
 
 /// Those with long texts are below. "11 is no longer given."
@@ -582,4 +582,43 @@ fn numbers_14() {
     );
     full.push(plain("@d", "t 1"));
     check_marked("the definition that passes 8,192", &body(&full), 14);
+}
+
+/// The `@` stands before the place of the range, behind the `~` of the other.
+fn check_ranges(title: &str, ranges: &[String]) {
+    let mut text = ranged(ranges).into_bytes();
+    let shared = taken_out(&mut text, b'~');
+    let place = taken_out(&mut text, b'@').expect("a mark");
+    assert_eq!(other(&text), (16, place, shared), "{title}");
+}
+
+fn ranged(ranges: &[String]) -> String {
+    let syntax = format!("INTEGER ({})", ranges.join("|"));
+    body(&[convention("A", &syntax)])
+}
+
+/// With another range at this index, and one more at the end.
+fn changed(ranges: &[String], i: usize, range: &str, last: &str) -> Vec<String> {
+    let mut ranges = ranges.to_vec();
+    ranges[i] = range.to_string();
+    ranges.push(last.to_string());
+    ranges
+}
+
+#[test]
+fn long_lists_16() {
+    // 3000 down to 1; 30000..30009 down to 10..19, which touch.
+    let singles = numbered(3000, |i| (3000 - i).to_string());
+    let pairs = numbered(3000, |i| format!("{}..{}", 30000 - 10 * i, 30009 - 10 * i));
+    for list in [&singles, &pairs] {
+        assert_eq!(card(ranged(list).as_bytes()), card_of("5 A - 1 0 1"));
+    }
+    let again = changed(&singles, 7, "~2993", "@2993");
+    check_ranges("a number again, far behind", &again);
+    let end = changed(&pairs, 1000, "~20000..20009", "@20009");
+    check_ranges("the end of a pair again", &end);
+    let around = changed(&pairs, 0, "~30000..30009", "@1..40000");
+    check_ranges("a pair around all", &around);
+    let wrong = changed(&pairs, 1500, "@15000..15000", "20009");
+    check_ranges("a wrong pair, then a number again", &wrong);
 }

@@ -1,7 +1,7 @@
 -- `judge_syntax` is right because the rules before the one that is broken are kept.
 -- Assumes nothing.
 use Rattle.syntax_check.specs.declared.Demand.{Demand}
-use Rattle.syntax_check.specs.declared.Demand.the-variants.{Order, Limits}
+use Rattle.syntax_check.specs.declared.Demand.the-variants.{Places, Limits}
 use Rattle.syntax_check.specs.Refusal.{range-rule-of, item-rule-of, indirect-convention, rules-over}
 use Rattle.enumeration.specs.Item.{spelling-in}
 use Rattle.module_table.specs.Definition.{definitions-in}
@@ -42,18 +42,18 @@ abbrev all-rules : tie.Start → List Rule
 all-rules s = rules-over (spelling-in (s .args .text .now) (s .args .starts .now) (s .args .ends .now)) (s .args .classes .now) (s .args .values .now) (definitions-in (s .args .definitions .now))
 
 -- what is left to judge where the rules before are kept
-after-orders : (c : tie.After-enum-told) → (let s = start-of (c .before .before) in judge (all-rules s) ≡ judge (from-limits s))
+after-places : (c : tie.After-enum-told) → (let s = start-of (c .before .before) in judge (all-rules s) ≡ judge (from-limits s))
 unfolding rules-over
-after-orders c =
+after-places c =
     let j = c .before .before in
     let s = start-of j in
-    kept-row (ranges-of s Order) (from-limits s) _ (j .judge-all-ranges .ensures) (c .enum-told .given .1)
+    kept-row (ranges-of s Places) (from-limits s) _ (j .judge-all-ranges .ensures) (c .enum-told .given .1)
 
 after-limits : (c : tie.After-enum-told3) → (let s = start-of (c .before .before .before .before .before) in judge (all-rules s) ≡ judge (from-items s))
 after-limits c =
     let j = c .before .before in
     let s = start-of (j .before .before .before) in
-    after-orders (j .before) ∙ kept-row (ranges-of s Limits) (from-items s) _ (j .judge-all-ranges2 .ensures) (c .enum-told3 .given .1)
+    after-places (j .before) ∙ kept-row (ranges-of s Limits) (from-items s) _ (j .judge-all-ranges2 .ensures) (c .enum-told3 .given .1)
 
 after-items : (c : tie.After-enum-told5)
     → (let s = start-of (c .before .before .before .before .before .before .before .before) in judge (all-rules s) ≡ judge (from-conventions s))
@@ -76,7 +76,7 @@ unfolding rules-over
 returns c =
     let j = c .before .before in
     let s = start-of j in
-    broken-row (ranges-of s Order) (from-limits s) _ (j .judge-all-ranges .ensures) _ (c .enum-told2 .given .1)
+    broken-row (ranges-of s Places) (from-limits s) _ (j .judge-all-ranges .ensures) _ (c .enum-told2 .given .1)
 
 judge-all-ranges-requires-2 : tie.Need-judge-all-ranges-requires-2
 judge-all-ranges-requires-2 c κs = search needs
@@ -91,7 +91,7 @@ returns-2 : tie.Need-returns-2
 returns-2 c =
     let j = c .before .before in
     let s = start-of (j .before .before .before) in
-    broken-row (ranges-of s Limits) (from-items s) _ (j .judge-all-ranges2 .ensures) _ (c .enum-told4 .given .1) ∙ sym (after-orders (j .before))
+    broken-row (ranges-of s Limits) (from-items s) _ (j .judge-all-ranges2 .ensures) _ (c .enum-told4 .given .1) ∙ sym (after-places (j .before))
 
 judge-all-items-requires : tie.Need-judge-all-items-requires
 judge-all-items-requires c κs = search needs

@@ -2,6 +2,7 @@
 //! every construct of the grammar occurs. Names and OIDs differ because each
 //! takes the next number of a counter.
 
+use super::lists;
 use super::model::*;
 use super::rng::Rng;
 use crate::modules::symbols;
@@ -326,6 +327,7 @@ impl Maker<'_> {
             let pair = self.rng.chance(60);
             ranges.push((first, if pair { points.next() } else { None }));
         }
+        lists::reorder(self.rng, &mut ranges);
         ranges
     }
 

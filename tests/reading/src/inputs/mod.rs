@@ -3,6 +3,7 @@
 
 mod damage;
 mod edits;
+mod lists;
 mod maker;
 mod model;
 mod rng;
@@ -124,10 +125,10 @@ fn filled(rng: &mut Rng) -> Vec<u8> {
 fn large(rng: &mut Rng) -> Vec<u8> {
     let size = 1 + rng.below(30);
     let mut model = maker::module(rng, size);
-    match rng.below(6) {
+    match rng.below(7) {
         0 | 1 => edits::oids::definitions_filled(rng, &mut model),
         2 | 3 => edits::oids::numbers_filled(rng, &mut model),
-        4 => edits::wide::widened(rng, &mut model),
+        4 | 5 => edits::wide::widened(rng, &mut model),
         _ => edits::oids::chain_filled(rng, &mut model),
     }
     if rng.chance(20) {

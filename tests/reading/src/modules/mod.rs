@@ -1,6 +1,6 @@
 //! A reading of the module rules, made from the paper and change requests
-//! No. 1 and No. 8 alone: the answer for any text and any lengths of the two
-//! lent buffers. Comments in quotation marks are the papers' words.
+//! No. 1, No. 2 and No. 8 alone: the answer for any text and any lengths of
+//! the two lent buffers. Comments in quotation marks are the papers' words.
 
 mod grammar;
 mod listing;

@@ -48,7 +48,7 @@ pub fn judge(m: &Module) -> Result<Settled, Refusal> {
     refuse(14, numbers_too_many(m, &lengths))?;
     let oids = oid_values(m, &chains);
     refuse(15, oid_again(m, &oids))?;
-    refuse(16, range_out_of_order(m))?;
+    refuse(16, range_wrong(m))?;
     let classes = classes(m, &names);
     refuse(17, range_out_of_place(m, &classes))?;
     refuse(18, label_wrong(m))?;
@@ -284,22 +284,35 @@ fn ranges_of<'m>(d: &'m Definition) -> &'m [Range] {
     }
 }
 
-/// "range with low not below high, or ranges not in rising order without
-/// overlap"; "of two the later". The first range in breach is found by
-/// looking at neighbours: all before it rise.
-fn range_out_of_order(m: &Module) -> Option<usize> {
-    m.definitions.iter().find_map(|d| {
-        let mut before: Option<i64> = None;
-        for range in ranges_of(d) {
-            let upside_down = range.high.is_some_and(|high| range.low >= high);
-            let not_above = before.is_some_and(|highest| range.low <= highest);
-            if upside_down || not_above {
-                return Some(range.place);
-            }
-            before = Some(range.highest());
+/// "any order, no number in two ranges. The place is the first range that
+/// shares a number with an earlier one, or whose pair is wrong."
+fn range_wrong(m: &Module) -> Option<usize> {
+    let mut lists = m.definitions.iter().map(ranges_of);
+    lists.find_map(first_wrong_range)
+}
+
+fn first_wrong_range(ranges: &[Range]) -> Option<usize> {
+    for (i, range) in ranges.iter().enumerate() {
+        if pair_is_wrong(range) || first_sharing(range, &ranges[..i]).is_some() {
+            return Some(range.place);
         }
-        None
-    })
+    }
+    None
+}
+
+/// "a pair's first value must be below its second"; a single number is no
+/// pair.
+fn pair_is_wrong(range: &Range) -> bool {
+    range.high.is_some_and(|high| range.low >= high)
+}
+
+/// The first of the earlier ranges that has a number in common with this one.
+fn first_sharing<'r>(range: &Range, earlier: &'r [Range]) -> Option<&'r Range> {
+    let (low, high) = (range.low, range.highest());
+    // In both are the numbers from the higher low up to the lower high.
+    earlier
+        .iter()
+        .find(|other| other.low.max(low) <= other.highest().min(high))
 }
 
 /// "ranges on a class other than 1, 8, 9, sizes on one other than 3, or

@@ -1,6 +1,6 @@
 -- `range_test` is right: it is the definition, demand by demand.
 -- Assumes nothing.
-use Rattle.syntax_check.specs.Refusal.{restriction-of, order-test, limit-test, range-test}
+use Rattle.syntax_check.specs.Refusal.{restriction-of, place-test, limit-test, range-test}
 use mathlib.Core.Path.{ap, _∙_}
 use borrow.Author.Needs.{needs}
 use Rattle.syntax_check.proofs.test.range_test.Statement.{statement}
@@ -44,8 +44,8 @@ returns-2 c =
     let r = un .before .before .before in
     rw (un .before .enum-told2 .given .1, ← r .before .before .has-syntax .ensures, ← un .is-untested .ensures) (simp (c .if1 .left))
 
-order-test-requires : tie.Need-order-test-requires
-order-test-requires c κs = search needs
+place-test-requires : tie.Need-place-test-requires
+place-test-requires c κs = search needs
 
 returns-3 : tie.Need-returns-3
 unfolding range-test
@@ -54,7 +54,7 @@ returns-3 c =
     let r = told .before .before in
     rw (told .enum-told .given .1, ← r .before .before .has-syntax .ensures)
     (simp (c .before .if2 .taken)
-    (c .order-test .ensures ∙ ap order-test (r .restriction-of .ensures ∙ ap restriction-of (r .before .syntax-in .ensures))))
+    (c .place-test .ensures ∙ ap place-test (r .restriction-of .ensures ∙ ap restriction-of (r .before .syntax-in .ensures))))
 
 returns-4 : tie.Need-returns-4
 unfolding range-test
@@ -76,6 +76,6 @@ range-test-spec =
     limit-test-requires
     returns
     returns-2
-    order-test-requires
+    place-test-requires
     returns-3
     returns-4)

@@ -5,6 +5,7 @@
 mod grammar;
 mod names;
 pub mod oids;
+mod ranges;
 mod syntaxes;
 mod tables;
 mod uses;
@@ -62,16 +63,21 @@ const AIMS: [&[Edit]; 15] = [
         oids::at_built_in_place,
     ],
     &[
-        syntaxes::ranges_put,
-        syntaxes::bounds_exchanged,
-        syntaxes::range_again,
-        syntaxes::ranges_shuffled,
+        ranges::ranges_put,
+        // Twice, as they have most of the rule's cases.
+        ranges::list_put,
+        ranges::list_put,
+        ranges::range_added,
+        ranges::range_added,
+        ranges::bounds_exchanged,
+        ranges::range_again,
+        ranges::ranges_reordered,
     ],
     &[
-        syntaxes::bounds_put,
-        syntaxes::restriction_put,
-        syntaxes::type_with_restriction,
-        syntaxes::bound_moved,
+        ranges::bounds_put,
+        ranges::restriction_put,
+        ranges::type_with_restriction,
+        ranges::bound_moved,
     ],
     &[
         syntaxes::labels_put,
@@ -132,9 +138,10 @@ const AIMS: [&[Edit]; 15] = [
     ],
 ];
 
-/// Tables, access and uses have the most clauses, so they are aimed at most.
-const WEIGHTED: [usize; 24] = [
-    0, 1, 2, 2, 2, 2, 3, 4, 5, 6, 7, 7, 8, 9, 10, 10, 11, 11, 11, 12, 12, 13, 14, 14,
+/// Tables, access, uses and ranges have the most cases, so they are aimed at
+/// most.
+const WEIGHTED: [usize; 26] = [
+    0, 1, 2, 2, 2, 2, 3, 4, 5, 6, 6, 6, 7, 7, 8, 9, 10, 10, 11, 11, 11, 12, 12, 13, 14, 14,
 ];
 
 /// One edit; when it is to be repeated, all have the same aim.

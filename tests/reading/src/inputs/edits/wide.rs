@@ -5,14 +5,14 @@ use super::*;
 
 pub fn widened(rng: &mut Rng, model: &mut Model) {
     let count = *rng.one(&[300, 1000, 3000]);
-    let done = match rng.below(7) {
+    let done = match rng.below(12) {
         0 => many_labels(rng, model, count),
-        1 => many_ranges(rng, model, count),
-        2 => many_defaults(rng, model, count),
-        3 => many_indexes(rng, model, count),
-        4 => many_columns(rng, model, count),
-        5 => many_objects(rng, model, count),
-        _ => many_parts(rng, model, count),
+        1 => many_defaults(rng, model, count),
+        2 => many_indexes(rng, model, count),
+        3 => many_columns(rng, model, count),
+        4 => many_objects(rng, model, count),
+        5 => many_parts(rng, model, count),
+        _ => ranges::list_of(rng, model, count),
     };
     if !done {
         many_symbols(rng, model, count);
@@ -32,23 +32,6 @@ fn many_labels(rng: &mut Rng, model: &mut Model, count: usize) -> bool {
         }
         let base = rng.one(&[Base::Integer, Base::Bits]).clone();
         set_syntax(&mut model.definitions[i], base, Restriction::Labels(labels));
-        Some(())
-    })
-}
-
-fn many_ranges(rng: &mut Rng, model: &mut Model, count: usize) -> bool {
-    done(|| {
-        let i = some(rng, model, Definition::is_simple)?;
-        let mut ranges: Vec<Range> = (0..count as i64).map(|n| (2 * n, None)).collect();
-        if rng.chance(50) {
-            ranges[count - 1].0 = rng.below(2 * count) as i64;
-        }
-        let d = &mut model.definitions[i];
-        if rng.chance(50) {
-            set_syntax(d, Base::Integer, Restriction::Ranges(ranges));
-        } else {
-            set_syntax(d, Base::OctetString, Restriction::Sizes(ranges));
-        }
         Some(())
     })
 }

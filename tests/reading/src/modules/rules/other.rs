@@ -1,12 +1,13 @@
 //! Where the other one stands, for a refusal that is about two things: the
 //! name or label that was there first, the module that does not offer the
 //! symbol, the definition or the import of a name of another kind, the
-//! definition that holds the OID, the range before, the part of a table, the
-//! column or the name in a list that does not fit.
+//! definition that holds the OID, the earlier range that shares a number, the
+//! part of a table, the column or the name in a list that does not fit.
 
 use super::{
-    classes, introduced, next_to_last, oid_values, ranges_of, uses, Chains, Definition, Kind,
-    Module, Names, Refusal, Restriction, Settled, Tables, NOT_ACCESSIBLE, READ_CREATE, READ_WRITE,
+    classes, first_sharing, introduced, next_to_last, oid_values, pair_is_wrong, ranges_of, uses,
+    Chains, Definition, Kind, Module, Names, Refusal, Restriction, Settled, Tables, NOT_ACCESSIBLE,
+    READ_CREATE, READ_WRITE,
 };
 
 /// The module derives, and the refusal is the one that it gets.
@@ -16,7 +17,7 @@ pub fn other(m: &Module, refusal: Refusal) -> Option<usize> {
         9 => earlier_name(m, place),
         10 => module_named(m, place),
         15 => earlier_holder(m, place),
-        16 => range_before(m, place),
+        16 => earlier_range(m, place),
         18 => earlier_label(m, place),
         20 => of_table(m, place),
         21 => created_column(m, place),
@@ -74,19 +75,17 @@ fn earlier_holder(m: &Module, place: usize) -> Option<usize> {
     Some(m.definitions[first].name.start)
 }
 
-/// A range whose low is not below its high is wrong by itself.
-fn range_before(m: &Module, place: usize) -> Option<usize> {
-    let ranges = m
-        .definitions
-        .iter()
-        .map(ranges_of)
-        .find(|ranges| ranges.iter().any(|range| range.place == place))?;
-    let at = ranges.iter().position(|range| range.place == place)?;
-    let alone = ranges[at].high.is_some_and(|high| ranges[at].low >= high);
-    if alone || at == 0 {
-        return None;
-    }
-    Some(ranges[at - 1].place)
+/// The first in the same list that shares a number with the range at this
+/// place. A pair that is wrong is so by itself, whatever it shares.
+fn earlier_range(m: &Module, place: usize) -> Option<usize> {
+    let mut lists = m.definitions.iter().map(ranges_of);
+    lists.find_map(|ranges| {
+        let at = ranges.iter().position(|range| range.place == place)?;
+        if pair_is_wrong(&ranges[at]) {
+            return None;
+        }
+        Some(first_sharing(&ranges[at], &ranges[..at])?.place)
+    })
 }
 
 /// A label that was there counts before a number that was there; a number out

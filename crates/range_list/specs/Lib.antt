@@ -1,0 +1,4 @@
+pub mod Misplaced
+pub mod Refusal
+pub mod Spread
+pub mod Sorted
