@@ -1,5 +1,7 @@
 // Trees of entries by the bits of what they are compared by: a search passes no more entries than there are bits, whatever the entries
 // are. One word for each entry holds its two children, which are later entries.
+#![tactic(auto)]
+
 ghost use Rattle.std.specs.Prelude.{◌≡◌, ◌/◌, ◌<◌, length};
 ghost use Rattle.lexicon.specs.Word.{between, Within};
 ghost use Rattle.bit_tree.specs.Bit.{bit, bit_byte, name_bit};

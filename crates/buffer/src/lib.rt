@@ -1,4 +1,6 @@
 // Bytes read by place and written to the output buffer.
+#![tactic(auto)]
+
 ghost use Rattle.std.specs.Prelude.{◌+◌, ◌≤◌, ◌<◌, ◌≡◌, ◌∷◌, [], ◌++◌, length, drop, replicate};
 ghost use Rattle.buffer.specs.Buffer.{byte_at, Wrote};
 

@@ -3,6 +3,8 @@
 // card FILE prints what a module defines: a line `accepted` with the count, and a line for each definition: kind, name, dotted OID
 // or -, class, access, status, with tabs between them. A module that breaks a rule gives one line: refused, the number and the
 // place. With several files, a line with the file's name heads each card.
+#![tactic(auto)]
+
 ghost use Rattle.std.specs.Prelude.{◌+◌, ◌*◌, ◌≤◌, ◌<◌, ◌≡◌, length};
 ghost use Rattle.records.specs.Record.{record_width};
 ghost use Rattle.card.specs.Page.{longest_path, page_size, full};
@@ -15,7 +17,7 @@ use reader::{Answer, FILE_BYTES, NUMBER_WORDS, RECORD_WORDS};
 const FULL: usize = 8192;
 
 // How many bytes are laid into the page and not written out yet, and how the output went so far.
-#[derive(Drop)]
+#[derive(Clone, Copy)]
 struct Laid {
     at: usize,
     out: Output,

@@ -1,4 +1,6 @@
 // The lines of the shelf card: one for an answer, and one for each record. They are laid into an output buffer, which the program writes out.
+#![tactic(auto)]
+
 ghost use Rattle.std.specs.Prelude.{◌≡◌, ◌+◌, ◌≤◌, min, length, get_or};
 ghost use Rattle.buffer.specs.Buffer.{Wrote};
 ghost use Rattle.digit.specs.Digits.{digits};
@@ -104,7 +106,7 @@ pub fn word(words: &[u32], i: usize) -> u32
 }
 
 // A part of a list: from its first index up to, not including, the second.
-#[derive(Drop)]
+#[derive(Clone, Copy)]
 struct Part {
     from: usize,
     to: usize,

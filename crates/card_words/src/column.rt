@@ -3,7 +3,7 @@ use crate::{RECORDS, record_at};
 use output::{Output, print};
 
 // How wide each column is. 0 is one that is not aligned.
-#[derive(Drop)]
+#[derive(Clone, Copy)]
 pub struct Widths {
     pub kind: usize,
     pub name: usize,
@@ -26,7 +26,7 @@ const STATUS: usize = 10;
 const BLANKS: usize = 1536;
 
 // How many bytes the longest name of a card has, and the longest OID.
-#[derive(Drop)]
+#[derive(Clone, Copy)]
 struct Longest {
     name: usize,
     oid: usize,

@@ -2,6 +2,8 @@
 //
 // card_words FILE prints what card prints, with a word for each number, a hyphen for what a definition does not have, and the syntax as
 // it is written behind the rest. Where standard output is a terminal, the columns are aligned.
+#![tactic(auto)]
+
 mod column;
 mod meaning;
 mod syntax_line;

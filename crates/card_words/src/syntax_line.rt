@@ -8,7 +8,7 @@ use lexicon::word::{LOOKUP_SIZE, lookup_table};
 use piece::{Found, GAP, piece_at};
 
 // What stands at a place: a token or a gap, and where it ends.
-#[derive(Drop)]
+#[derive(Clone, Copy)]
 struct Step {
     gap: bool,
     end: usize,

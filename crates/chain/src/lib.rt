@@ -1,4 +1,6 @@
 // Entries chained by their keys, the latest first, so that a search for an entry passes only those of its own key.
+#![tactic(auto)]
+
 ghost use Rattle.std.specs.Prelude.{◌≡◌, ℕ, ◌+◌, ◌<◌, length};
 ghost use Rattle.chain.specs.Chain.{Chained, key_count, most_entries};
 ghost use Rattle.chain.specs.Key.{key};

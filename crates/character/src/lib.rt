@@ -1,4 +1,6 @@
 // Characters of UTF-8 and of ASCII among octets.
+#![tactic(auto)]
+
 ghost use Rattle.std.specs.Prelude.{◌<◌, ◌≡◌, length};
 ghost use Rattle.character.specs.Cut.{stuck_at};
 ghost use Rattle.character.specs.Character.{between, lead_size, second_low, second_high, sequence_size, character_size, characters};
@@ -6,7 +8,7 @@ ghost use Rattle.character.specs.Character.{between, lead_size, second_low, seco
 use buffer::byte_at;
 
 // Where something is found first, or that it is nowhere.
-#[derive(Drop)]
+#[derive(Clone, Copy)]
 pub enum Search {
     At(usize),
     Nowhere,

@@ -52,7 +52,7 @@ fn argument(buf: &mut [u8], at: usize, index: usize) -> usize
 }
 
 // A file that an argument names: how many bytes its name has, and how many the file holds; or it cannot be read, and errno says why.
-#[derive(Drop)]
+#[derive(Clone, Copy)]
 pub struct Named {
     pub name: usize,
     pub count: usize,

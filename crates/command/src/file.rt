@@ -4,7 +4,7 @@ ghost use Rattle.io.specs.Counts.{IsPrefixLen};
 use libc::STDIN_FILENO;
 
 // What a file holds: so many bytes, at the start of the buffer; or it cannot be opened or read, and errno says why.
-#[derive(Drop)]
+#[derive(Clone, Copy)]
 pub struct Content {
     pub count: usize,
     pub failed: bool,

@@ -1,4 +1,6 @@
 // What the programs read: their words, the names and bytes of files, and the lines of a list. Nothing here knows of SMI.
+#![tactic(auto)]
+
 mod argument;
 mod file;
 mod line;

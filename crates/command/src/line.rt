@@ -3,7 +3,7 @@ ghost use Rattle.std.specs.Prelude.{◌≡◌, ℕ, ◌+◌, ◌≤◌, ◌<◌,
 ghost use Rattle.command.specs.Within.{LineWithin, LinesWithin, PartWithin};
 
 // The bytes of the buffer that are read and not used yet: from `from` up to, not including, `to`; and the byte that ends a line.
-#[derive(Drop)]
+#[derive(Clone, Copy)]
 pub struct Lines {
     pub from: usize,
     pub to: usize,
@@ -11,7 +11,7 @@ pub struct Lines {
 }
 
 // What comes next in a list.
-#[derive(Drop)]
+#[derive(Clone, Copy)]
 pub enum Line {
     // A line's bytes in the buffer, without its line end, and what stands behind it.
     At(usize, usize, Lines),
@@ -128,7 +128,7 @@ fn last_line(buf: &[u8], to: usize, end: u8) -> Line
 }
 
 // How many bytes came in: none at the end of the input, and where it cannot be read.
-#[derive(Drop)]
+#[derive(Clone, Copy)]
 struct More {
     count: usize,
     failed: bool,

@@ -9,7 +9,7 @@ use libc::STDIN_FILENO;
 pub const NO_LINE: u64 = u64::MAX;
 
 // How far a list is read.
-#[derive(Drop)]
+#[derive(Clone, Copy)]
 pub struct List {
     // The number of the last line, from 1 on.
     pub line: u64,

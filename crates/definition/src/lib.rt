@@ -1,5 +1,7 @@
 // What a derived token sequence defines: where each definition starts and ends, what kind it has, and where its fields stand.
 // All is read off the classes of the first n tokens; the definitions are in specs/.
+#![tactic(auto)]
+
 mod field;
 pub mod kind;
 mod landmark;
@@ -11,14 +13,14 @@ pub use landmark::{begins, class_at, definition_end, has_oid, is_lower, is_macro
 pub use syntax_clause::syntax_at;
 
 // The tokens from `from` up to, not including, `to`.
-#[derive(Drop)]
+#[derive(Clone, Copy)]
 pub struct Span {
     pub from: usize,
     pub to: usize,
 }
 
 // The restriction of a syntax, with what stands between its brackets.
-#[derive(Drop)]
+#[derive(Clone, Copy)]
 pub enum Restriction {
     Free,
     Ranges(Span),
@@ -27,7 +29,7 @@ pub enum Restriction {
 }
 
 // A syntax by its first word, with its restriction; a name is that of token TokenIndex.
-#[derive(Drop)]
+#[derive(Clone, Copy)]
 pub enum Syntax {
     Integer(Restriction),
     Named(TokenIndex, Restriction),
@@ -38,7 +40,7 @@ pub enum Syntax {
 }
 
 // The fields of a definition. A field that it lacks is 0, or a span of no tokens at its end.
-#[derive(Drop)]
+#[derive(Clone, Copy)]
 pub struct Fields {
     pub kind: u8,
     pub status: u8,

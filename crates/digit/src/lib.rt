@@ -1,4 +1,6 @@
 // Digits of a number, most significant first.
+#![tactic(auto)]
+
 ghost use Rattle.std.specs.Prelude.{◌+◌, ◌≤◌, ◌<◌, ◌≡◌, length};
 ghost use Rattle.buffer.specs.Buffer.{Wrote};
 ghost use Rattle.digit.specs.Digits.{glyph, digits, pointed, big_endian};

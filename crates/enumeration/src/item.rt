@@ -24,7 +24,7 @@ const SHORT_SPAN: usize = 256;
 const LONG_SPAN: usize = LONGEST_TEXT;
 
 // The token of an item's label, and the first token of its enumeration.
-#[derive(Drop)]
+#[derive(Clone, Copy)]
 pub struct Entry {
     pub base: usize,
     pub token: usize,

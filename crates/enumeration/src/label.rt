@@ -10,7 +10,7 @@ use lexicon::word::same_spelling;
 use sub_type::{class_at, word_at};
 
 // A part of the text, from start up to end.
-#[derive(Drop)]
+#[derive(Clone, Copy)]
 pub struct Part {
     pub start: usize,
     pub end: usize,

@@ -1,4 +1,6 @@
 // The enumerations of a syntax: refusal 18 on one of them.
+#![tactic(auto)]
+
 mod item;
 mod label;
 
@@ -7,7 +9,7 @@ pub use item::judge_items;
 use sub_type::Limits;
 
 // An enumeration: what stands between its braces, and what its numbers may be.
-#[derive(Drop)]
+#[derive(Clone, Copy)]
 pub struct Enumeration {
     pub span: Span,
     pub limits: Limits,

@@ -2,6 +2,8 @@
 //
 // explain FILE prints, for a module that is refused, FILE:LINE:COLUMN, the number and the rule with the word at fault, then the line and a
 // mark below the place; and for a rule about two things the other one likewise. A module that is accepted gives one line.
+#![tactic(auto)]
+
 mod class_name;
 mod count;
 mod expected;

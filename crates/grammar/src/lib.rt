@@ -1,5 +1,7 @@
 // The grammar: whether a sequence of token classes is a module and, where it is none, the token at fault. One load of the
 // transition table for each token. A class is the number that crate `terminal` gives a terminal of the grammar.
+#![tactic(auto)]
+
 ghost use Rattle.std.specs.Prelude.{◌≡◌, true, ◌↔◌, ◌++◌, ◌∷◌, [], ◌≤◌, ◌<◌, length, take, set};
 ghost use Rattle.grammar.specs.Allowed.{allowed};
 ghost use Rattle.grammar.specs.Answer.{Answers, Begins};
@@ -15,7 +17,7 @@ use table::{ACCEPTING, DEAD, ENTRIES, START, TABLE};
 use terminal::TERMINALS;
 
 // What the grammar says of a sequence.
-#[derive(Drop)]
+#[derive(Clone, Copy)]
 pub enum Reading {
     Derived,
     // The first token with which no derived sequence goes on, or the end, where the sequence is only the beginning of one.

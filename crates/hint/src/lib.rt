@@ -1,5 +1,7 @@
 // Prints a value by its DISPLAY-HINT: octets by octet-format pieces, integers by one integer format (RFC 2579, 3.1).
 // The caller lends the output buffer. Nothing is asked of the arguments: what cannot be printed is refused.
+#![tactic(auto)]
+
 mod pieces;
 
 ghost use Rattle.std.specs.Prelude.{◌≡◌};
@@ -12,7 +14,7 @@ use hint_piece::Progress;
 use pieces::print_pieces;
 
 // What a call answers. specs/Answer.antt gives the number, place and length of each case.
-#[derive(Drop)]
+#[derive(Clone, Copy)]
 pub enum Answer {
     // The text's length.
     Printed(usize),

@@ -12,7 +12,7 @@ use character::Search;
 const LONGEST: usize = 255;
 
 // What is wrong, with its place, counted from 0.
-#[derive(Drop)]
+#[derive(Clone, Copy)]
 pub enum Fault {
     // Nothing.
     Sound,

@@ -1,4 +1,6 @@
 // Reads hints for octets: their pieces. Numbers and format letters serve hints for integers too.
+#![tactic(auto)]
+
 ghost use Rattle.std.specs.Prelude.{◌<◌, ◌^◌, ◌≡◌, cond, not, ◌&&◌, eqb, length};
 ghost use Rattle.character.specs.Cut.{cut, stuck_at};
 ghost use Rattle.hint_form.specs.Hint.{found, is_pieces, piece_size, read_hint, digit, mark, mark_at, mark_size, number_at, allowed, longest, length_place, starred, base_of};
@@ -10,7 +12,7 @@ use character::Search;
 pub use fault::{Fault, integer_fault, octets_fault};
 
 // One octet-format specification. A separator or terminator of 0 is none.
-#[derive(Drop)]
+#[derive(Clone, Copy)]
 pub struct Piece {
     pub starred: bool,
     pub size: usize,
@@ -20,14 +22,14 @@ pub struct Piece {
 }
 
 // A number of a hint, and the place after it.
-#[derive(Drop)]
+#[derive(Clone, Copy)]
 pub struct Number {
     pub value: usize,
     pub next: usize,
 }
 
 // What stands at a place of a hint: a piece and the place after it, or none.
-#[derive(Drop)]
+#[derive(Clone, Copy)]
 pub enum Found {
     Whole(Piece, usize),
     Nothing,

@@ -1,4 +1,6 @@
 // Reads hints for integers, and prints integers by them: a minus below zero, and then the magnitude.
+#![tactic(auto)]
+
 ghost use Rattle.std.specs.Prelude.{◌+◌, ◌≤◌, ◌≡◌, true, nat_abs, length};
 ghost use Rattle.buffer.specs.Buffer.{Wrote};
 ghost use Rattle.hint_integer.specs.Form.{Usable, is_bad, read_form, read_point};
@@ -9,7 +11,7 @@ use digit::{print_digits, print_pointed};
 use hint_form::{base_of, is_allowed, number_at};
 
 // A hint for integers: a base, or a decimal point before so many digits.
-#[derive(Drop)]
+#[derive(Clone, Copy)]
 pub enum Form {
     Base(u64),
     Point(u64),

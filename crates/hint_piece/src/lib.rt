@@ -1,4 +1,6 @@
 // Prints octets by one piece of a hint.
+#![tactic(auto)]
+
 ghost use Rattle.std.specs.Prelude.{◌+◌, ◌-◌, ◌*◌, ◌≤◌, ◌<◌, ◌≡◌, length, take, drop};
 ghost use Rattle.hint_form.specs.Hint.{longest, passes};
 ghost use Rattle.buffer.specs.Buffer.{Wrote};
@@ -11,7 +13,7 @@ use digit::{big_endian, print_digits};
 use hint_form::{Piece, base_of};
 
 // Printing has come to this place of the output, or found this octet at fault.
-#[derive(Drop)]
+#[derive(Clone, Copy)]
 pub enum Progress {
     To(usize),
     Fault(usize),

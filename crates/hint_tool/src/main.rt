@@ -3,6 +3,8 @@
 // hint_tool octets HINT HEX and hint_tool integer HINT NUMBER print one line: `printed` and the text, or `refused`, the
 // refusal's number and its place, tabs between; a bad hint is explained on standard error. Without arguments it reads the same
 // words from standard input, a case a line, with tabs between them, and answers each in one line.
+#![tactic(auto)]
+
 mod reason;
 
 ghost use Rattle.std.specs.Prelude.{◌≤◌, length};

@@ -1,5 +1,7 @@
 // The library for C and for Rust: the questions as exported functions. Nothing is asked of what is lent. An answer goes over the first
 // words of a slice that the caller lends, as far as it reaches; words beyond the answer stay as they were.
+#![tactic(auto)]
+
 ghost use Rattle.std.specs.Prelude.{◌≡◌, ◌∷◌, []};
 ghost use Rattle.reader.specs.Buffers.{number_of, place_of, answered_count};
 ghost use Rattle.hint.specs.Answer.{number_of as printed-number, place_of as printed-place, length_of as printed-length};

@@ -1,6 +1,8 @@
 // A module as the rules from 12 on see it, in lent slices: the classes of its tokens, the value of each token, its definitions, and
 // the sub-identifiers of their OIDs. A slice carries its length. What a slice holds is read off it by total functions, so that no
 // rule asks anything of what it is lent; specs/ has the same in the paper's words.
+#![tactic(auto)]
+
 mod definition_table;
 mod lead_word;
 
@@ -10,7 +12,7 @@ use index::{NumberIndex, RecordIndex, TokenIndex};
 pub use lead_word::{lead_at, lead_in, word_for};
 
 // What a name leads to: `iso`, the built-in symbol of that index that is imported, the definition of that index, or nothing.
-#[derive(Drop)]
+#[derive(Clone, Copy)]
 pub enum Lead {
     Iso,
     Import(usize),
@@ -19,7 +21,7 @@ pub enum Lead {
 }
 
 // A definition. A number that it lacks is 0, and a span that it lacks has no tokens; what a later stage finds is 0 before it.
-#[derive(Drop)]
+#[derive(Clone, Copy)]
 pub struct Definition {
     // from 1 to 7, as "Records" numbers the kinds
     pub kind: usize,

@@ -1,4 +1,6 @@
 // What each token is needed as, where it is used as a name; and whether what its name leads to is of that kind: it serves the need.
+#![tactic(auto)]
+
 ghost use Rattle.std.specs.Prelude.{◌≡◌};
 ghost use Rattle.symbol.specs.Symbol.{what_is, sort_of};
 ghost use Rattle.name_kind.specs.declared.need.Need.TheVariants.{ObjectType};

@@ -6,7 +6,7 @@ ghost use Rattle.name_kind.specs.Need.{enclosing, upper_need, lists_objects, low
 use definition::{class_at, is_lower, is_macro};
 
 // What a token is used as.
-#[derive(Drop)]
+#[derive(Clone, Copy)]
 pub enum Need {
     // It is no use of a name.
     NoName,

@@ -1,5 +1,7 @@
 // Names of a text in trees by their bits, a tree for each key, so that a search for a name passes few names and never more than a name
 // has bits. An entry is an index: that of a token, by which the name's start and end are found.
+#![tactic(auto)]
+
 ghost use Rattle.std.specs.Prelude.{◌≡◌, ◌<◌, length};
 ghost use Rattle.lexicon.specs.Word.{between, Within};
 ghost use Rattle.name_tree.specs.Key.{key_count, key_step, name_key};

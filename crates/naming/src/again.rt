@@ -19,7 +19,7 @@ use symbol::part::names_iso;
 
 // How a token stands to those before it that introduce names: its name is new, or stands against that of a token, which for `iso` is
 // its own.
-#[derive(Drop)]
+#[derive(Clone, Copy)]
 pub enum Introduced {
     New,
     Again(usize),

@@ -1,4 +1,6 @@
 // The names of a module: refusals 8 to 10, 41 and 42, what each name in use leads to, and the outline of the definitions.
+#![tactic(auto)]
+
 ghost use Rattle.std.specs.Prelude.{◌≡◌, ◌*◌, ◌≤◌, length};
 ghost use Rattle.rule.specs.Rule.{judge};
 ghost use Rattle.token.specs.Cut.{meanings_in};
@@ -25,7 +27,7 @@ use rule::{Finding, Judgement};
 use usage::judge_uses;
 
 // What the rules on names say of a module.
-#[derive(Drop)]
+#[derive(Clone, Copy)]
 pub enum Names {
     // All are kept: so many definitions.
     Named(usize),

@@ -14,7 +14,7 @@ use scope::{imports_end, is_import, is_offered, name_at, source};
 use symbol::part::{names_module, symbol_named};
 
 // What a token of the imports is worth: its value, or that its module doesn't offer it.
-#[derive(Drop)]
+#[derive(Clone, Copy)]
 pub enum Offer {
     Word(u32),
     Missing,

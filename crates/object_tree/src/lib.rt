@@ -1,5 +1,7 @@
 // The tree of objects by their OIDs: each object's parent, whose OID is its own less the last number. With the words of SMI for a
 // definition, which the rules on tables, access and notifications share.
+#![tactic(auto)]
+
 mod parent;
 mod words;
 

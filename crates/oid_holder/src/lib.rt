@@ -1,5 +1,7 @@
 // Refusal 15: an OID that an earlier definition already holds. Definitions are chained by the keys of their OIDs, so that an OID is
 // compared only with those of its own key.
+#![tactic(auto)]
+
 ghost use Rattle.std.specs.Prelude.{◌≡◌, ◌*◌, ◌≤◌, ◌<◌, length};
 ghost use Rattle.index.specs.First.{any};
 ghost use Rattle.chain.specs.Chain.{Chained, most_entries};

@@ -1,5 +1,7 @@
 // What OIDs are made of: the numbers of built-in names and of a definition's own parts, counted, and written to the start of what is
 // left of the number buffer; and numbers of the buffer, copied.
+#![tactic(auto)]
+
 mod buffer;
 mod built_in;
 mod part;

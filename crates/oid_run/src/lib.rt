@@ -1,5 +1,7 @@
 // The OID of a definition as a run of the number buffer: whatever the definition's words say, the run lies inside; the key of a run,
 // by which definitions are chained; and how two runs stand to each other.
+#![tactic(auto)]
+
 ghost use Rattle.std.specs.Prelude.{◌≡◌, cond, ◌+◌, ◌≤◌, ltb, length};
 ghost use Rattle.chain.specs.Key.{list_key};
 ghost use Rattle.oid_run.specs.Run.{run};

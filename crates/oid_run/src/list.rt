@@ -7,7 +7,7 @@ ghost use Rattle.oid_run.specs.Run.{run, is_below};
 use index::NumberIndex;
 
 // The numbers of the buffer from an index on, so many of them.
-#[derive(Drop)]
+#[derive(Clone, Copy)]
 pub struct Run {
     pub from: NumberIndex,
     pub count: usize,

@@ -1,5 +1,7 @@
 // OIDs: refusals 12 to 14, and the OIDs themselves, written one after the other into the number buffer. All is read off a module whose
 // names are known, as the crate `module_table` lays it out.
+#![tactic(auto)]
+
 ghost use Rattle.std.specs.Prelude.{◌*◌, ◌≤◌, length};
 ghost use Rattle.token.specs.Table.{longest_text};
 ghost use Rattle.module_table.specs.Definition.{width};

@@ -1,5 +1,7 @@
 // The outline of a module: its definitions in text order, each with its kind, its name and where its fields stand. All of it is read
 // off the classes of the module's tokens.
+#![tactic(auto)]
+
 ghost use Rattle.std.specs.Prelude.{◌≡◌, ◌*◌, ◌≤◌, ◌<◌, length};
 ghost use Rattle.index.specs.First.{first};
 ghost use Rattle.definition.specs.Landmark.{begins, last_token};
@@ -13,7 +15,7 @@ use index::{NumberIndex, RecordIndex, TokenIndex};
 use module_table::{Definition, MOST_DEFINITIONS, store};
 
 // The definitions collected: so many, or the name of the first that is too many.
-#[derive(Drop)]
+#[derive(Clone, Copy)]
 pub enum Collected {
     All(usize),
     TooMany(TokenIndex),

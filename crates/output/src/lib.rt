@@ -1,4 +1,6 @@
 // What a program writes: its standard output, messages on standard error, and the status that it ends with. Nothing here knows of SMI.
+#![tactic(auto)]
+
 ghost use Rattle.std.specs.Prelude.{◌≡◌, false};
 ghost use Rattle.output.specs.Status.{accepted, refused, rating, larger, Rated, Printed};
 
@@ -20,7 +22,7 @@ const REFUSED: u8 = 1;
 const COMPLAINT: u8 = 2;
 
 // How the output went so far.
-#[derive(Drop)]
+#[derive(Clone, Copy)]
 pub struct Output {
     pub status: u8,
     // A write failed. It was said once, and nothing is written after it.

@@ -1,4 +1,6 @@
 // Which refusals are of what this reader leaves out, and not of a fault in the module. specs/Outside.antt has the words.
+#![tactic(auto)]
+
 ghost use Rattle.std.specs.Prelude.{◌≡◌, ◌≤◌, length};
 ghost use Rattle.lexicon.specs.Word.{same, between, Within};
 ghost use Rattle.outside.specs.Outside.{among, conformance_words, first_words, kind_of, behind, left_out, is_left, is_outside};
@@ -8,7 +10,7 @@ use lexicon::word::{lookup_table, same_spelling};
 use piece::{Found, piece_at};
 
 // What of SMI is left out.
-#[derive(Drop)]
+#[derive(Clone, Copy)]
 pub enum Left {
     // Nothing: the module is at fault.
     Nothing,

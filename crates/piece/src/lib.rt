@@ -1,4 +1,6 @@
 // What the text holds at a place: a token, a gap (blanks or a comment), or a refusal.
+#![tactic(auto)]
+
 ghost use Rattle.std.specs.Prelude.{◌≡◌, ◌+◌, ◌≤◌, ◌<◌, length, get_or, drop, true, ◌&&◌, leb};
 ghost use Rattle.terminal.specs.Terminal.{left_brace, bar};
 ghost use Rattle.lexicon.specs.Byte.{ClassTable, digit_byte, alphanumeric};
@@ -38,7 +40,7 @@ const LARGEST_NUMBER: u64 = 4294967295;
 const LARGEST_NEGATIVE: u64 = 2147483648;
 
 // What stands at a place: a token or a gap, with its class and its end; or the refusal's number and place.
-#[derive(Drop)]
+#[derive(Clone, Copy)]
 pub enum Found {
     Piece(u8, usize),
     Refused(u8, Place),

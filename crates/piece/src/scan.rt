@@ -75,7 +75,7 @@ fn in_comment(table: &[u8; 256], text: &[u8], at: usize) -> bool
 }
 
 // Which bytes a run has.
-#[derive(Drop)]
+#[derive(Clone, Copy)]
 pub enum Run {
     // bytes with classes from the first to the second
     Classes(u8, u8),
@@ -119,7 +119,7 @@ pub fn run_end(table: &[u8; 256], text: &[u8], at: usize, run: Run) -> usize
 const TOO_LARGE: u64 = 4294967296;
 
 // A run of digits: its end, and its value or TOO_LARGE.
-#[derive(Drop)]
+#[derive(Clone, Copy)]
 pub struct Digits {
     pub end: usize,
     pub value: u64,

@@ -1,4 +1,6 @@
 // Where a place stands in a text, for people and editors: its line, its column, and what stands below the line up to it.
+#![tactic(auto)]
+
 mod line;
 mod margin;
 mod window;

@@ -9,7 +9,7 @@ use crate::margin::is_inside;
 pub const REACH: usize = 100;
 
 // A part of a text, up to `to`.
-#[derive(Drop)]
+#[derive(Clone, Copy)]
 pub struct Part {
     pub from: usize,
     pub to: usize,

@@ -1,5 +1,7 @@
 // The ranges of a restriction against each other: refusal 16. They may stand in any order, but a pair's low is below its high, and no number
 // lies in two ranges.
+#![tactic(auto)]
+
 mod range;
 mod sorted;
 mod spread;

@@ -17,7 +17,7 @@ const SHORT_SPAN: usize = 256;
 const LONG_SPAN: usize = LONGEST_TEXT;
 
 // What becomes of a token.
-#[derive(Drop)]
+#[derive(Clone, Copy)]
 pub enum Admission {
     // A range starts there that is misplaced.
     Misplaced,

@@ -9,14 +9,14 @@ use definition::Span;
 use sub_type::starts_range;
 
 // The lowest and the highest of some ranges.
-#[derive(Drop)]
+#[derive(Clone, Copy)]
 pub struct Extremes {
     pub lowest: usize,
     pub highest: usize,
 }
 
 // What a token does to the extremes of the ranges before it.
-#[derive(Drop)]
+#[derive(Clone, Copy)]
 pub enum Widening {
     // Nothing can be said: its pair is wrong, or it lies neither above all of them nor below all.
     Unclear,

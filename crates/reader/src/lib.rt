@@ -1,4 +1,6 @@
 // The reader: one call that reads a module's text into records and sub-identifiers, or says which rule it breaks first, and where.
+#![tactic(auto)]
+
 ghost use Rattle.std.specs.Prelude.{◌≡◌, ◌≤◌, length};
 ghost use Rattle.token.specs.Table.{longest_text};
 ghost use Rattle.reader.specs.Buffers.{record_words, number_words, zeros, answer_of, alone, unparsed, ReadInto, ReadParts, Reads, Examines};
@@ -24,7 +26,7 @@ pub const NUMBER_WORDS: usize = MOST_NUMBERS;
 pub const FILE_BYTES: usize = LONGEST_TEXT + 1;
 
 // The answer to a text. specs/Buffers.antt gives each case its number, place and count.
-#[derive(Drop)]
+#[derive(Clone, Copy)]
 pub enum Answer {
     // Accepted: so many definitions.
     Accepted(usize),
@@ -34,7 +36,7 @@ pub enum Answer {
 
 // A refusal with all that there is to say of it: its number, which of the rule's clauses, from 1 on, and 0 where it has only one; the
 // place; and the place that this one stands against, which is the same where the rule is about one thing.
-#[derive(Drop)]
+#[derive(Clone, Copy)]
 pub struct Refusal {
     pub number: u8,
     pub clause: u8,
@@ -43,7 +45,7 @@ pub struct Refusal {
 }
 
 // The answer to a text with all that there is to say.
-#[derive(Drop)]
+#[derive(Clone, Copy)]
 pub enum Examined {
     Accepted(usize),
     Refused(Refusal),

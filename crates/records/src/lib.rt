@@ -1,4 +1,6 @@
 // The records of a module's definitions, ten words each, written in text order.
+#![tactic(auto)]
+
 ghost use Rattle.std.specs.Prelude.{◌≡◌, ◌-◌, ◌≤◌, ◌<◌, ◌*◌, length, get_or};
 ghost use Rattle.overlay.specs.Writing.{Written};
 ghost use Rattle.module_table.specs.Definition.{definitions_in};
@@ -12,7 +14,7 @@ use module_table::{Definition, definition_at};
 pub const WIDTH: usize = 10;
 
 // Some bytes of the text: where they start, and how many there are.
-#[derive(Drop)]
+#[derive(Clone, Copy)]
 struct Bytes {
     offset: u32,
     length: u32,

@@ -3,6 +3,8 @@
 // row STATE COMPLETE WILLING [VALUE] prints a line for each set value, or for the one value given. Without a case it
 // reads the same words from standard input, a case a line, with tabs between them. After the word --words it says answers and
 // states in words.
+#![tactic(auto)]
+
 ghost use Rattle.std.specs.Prelude.{length};
 ghost use Rattle.command.specs.Within.{ListWithin};
 
@@ -76,7 +78,7 @@ fn answer_line(space: &[u8], list: List, in_words: bool, out: Output) -> Output
 }
 
 // The flags of a case: whether the row is complete, whether the agent is willing, and whether answers and states are said in words.
-#[derive(Drop)]
+#[derive(Clone, Copy)]
 struct Flags {
     complete: bool,
     willing: bool,

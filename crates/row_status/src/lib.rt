@@ -1,4 +1,6 @@
 // What may be done next to a conceptual row, by its RowStatus (RFC 2579).
+#![tactic(auto)]
+
 ghost use Rattle.std.specs.Prelude.{◌≡◌, ℕ};
 ghost use Rattle.row_status.specs.RowStatus.{number_of, next_of, outcome, Sets};
 ghost use Rattle.row_status.specs.RowStatus.{if_complete, set_active, set_not_in_service, createAndGo, createAndWait};
@@ -14,7 +16,7 @@ pub const NOT_READY: u64 = 3;
 
 // How the agent answers a set of a row's RowStatus. `outcome` of specs/RowStatus.antt gives each case its number and
 // the state that the row is in afterwards.
-#[derive(Drop)]
+#[derive(Clone, Copy)]
 pub enum Answer {
     // The set succeeds, and the row is now in this state.
     NoError(u64),

@@ -74,7 +74,7 @@ fn defines_name(
 }
 
 // Some definitions: from one up to, not including, another.
-#[derive(Drop)]
+#[derive(Clone, Copy)]
 struct Stretch {
     from: RecordIndex,
     to: RecordIndex,

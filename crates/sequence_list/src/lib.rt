@@ -1,5 +1,7 @@
 // The objects that SEQUENCE types name. Each list is walked once, for its type and not for each row of the type, and what the rules on
 // rows ask of it is noted in arrays by the numbers of types and objects.
+#![tactic(auto)]
+
 mod listed;
 mod name;
 mod verdict;

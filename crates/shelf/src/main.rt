@@ -3,6 +3,8 @@
 // shelf FILE... prints a line for each file: its name, `accepted` and the count of definitions; or its name, `refused`, the number and the
 // place; with tabs between them. Without arguments the names are lines of standard input, and with -0 each ends with a byte 0. At the end a
 // summary goes to standard error.
+#![tactic(auto)]
+
 ghost use Rattle.std.specs.Prelude.{length};
 ghost use Rattle.command.specs.Within.{ListWithin};
 

@@ -1,4 +1,6 @@
 // The numbers of a module, and the ranges and sizes of a syntax: refusal 17 on one restriction.
+#![tactic(auto)]
+
 mod number;
 mod range;
 
@@ -8,7 +10,7 @@ pub use number::{
 pub use range::{high_token, judge_limits, starts_range};
 
 // What numbers may be: none is allowed; those of class 1; those of classes 8 and 9, and of BITS; sizes.
-#[derive(Drop)]
+#[derive(Clone, Copy)]
 pub enum Limits {
     Nothing,
     Integer,

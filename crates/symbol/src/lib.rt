@@ -1,5 +1,7 @@
 // The built-in symbols: what each is; in part.rt, which one a name is, and the module that offers it. specs/Symbol.antt has the symbols;
 // those of the code stand in table.rt, in the same order.
+#![tactic(auto)]
+
 ghost use Rattle.std.specs.Prelude.{◌≡◌, ◌+◌, ◌<◌, length, get_or};
 ghost use Rattle.symbol.specs.Symbol.{symbol_count, what_is, numbers_of, sort_of, type_class, class_of_sort, is_smi_type, start_in, part};
 
@@ -14,7 +16,7 @@ use index::wide_u16;
 pub const SYMBOLS: usize = table::SYMBOLS;
 
 // What a symbol is: a name with an OID, a type with its class, or a macro.
-#[derive(Drop)]
+#[derive(Clone, Copy)]
 pub enum Sort {
     Oid,
     Type(u8),

@@ -1,4 +1,6 @@
 // A text as a derived sequence of tokens, or its first refusal of 3 to 7 with its place.
+#![tactic(auto)]
+
 ghost use Rattle.std.specs.Prelude.{◌≡◌, ◌≤◌, length, take};
 ghost use Rattle.grammar.specs.Automaton.{run};
 ghost use Rattle.grammar.specs.Table.{module-automaton};
@@ -11,7 +13,7 @@ use index::Place;
 use token::LONGEST_TEXT;
 
 // The answer to a text. specs/Parsing.antt gives each case its number and place.
-#[derive(Drop)]
+#[derive(Clone, Copy)]
 pub enum Answer {
     // The grammar derives the text's tokens: so many of them.
     Derived(usize),

@@ -1,4 +1,6 @@
 // Refusals 16 to 19 over the definitions of a module whose classes are known.
+#![tactic(auto)]
+
 mod convention;
 mod restriction;
 mod test;
@@ -17,14 +19,14 @@ use rule::Judgement;
 use sub_type::Limits;
 
 // What is asked of the ranges of all definitions: refusal 16 or 17.
-#[derive(Drop)]
+#[derive(Clone, Copy)]
 pub enum Demand {
     Places,
     Limits,
 }
 
 // How the ranges of a definition are tested, if they are: against each other, or for their limits.
-#[derive(Drop)]
+#[derive(Clone, Copy)]
 pub enum RangeTest {
     Untested,
     Placed(Span),
@@ -32,7 +34,7 @@ pub enum RangeTest {
 }
 
 // The items of a definition that are tested, if it has them.
-#[derive(Drop)]
+#[derive(Clone, Copy)]
 pub enum ItemTest {
     Itemless,
     Items(Enumeration),

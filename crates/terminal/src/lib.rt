@@ -1,5 +1,6 @@
 // The terminals of the grammar, numbered once: the class that each token has. specs/Terminal.antt has the same
 // numbers under the same names; a contract that cites both holds only where they agree.
+#![tactic(auto)]
 
 // 0 or a positive number.
 pub const NUMBER: u8 = 0;

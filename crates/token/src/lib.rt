@@ -1,4 +1,6 @@
 // Any bytes cut into the tokens of an SMI module, or refused at the right byte. specs/Cut.antt says what the cut of a text is.
+#![tactic(auto)]
+
 ghost use Rattle.std.specs.Prelude.{◌≡◌};
 ghost use Rattle.token.specs.Table.{Held, Lent, refusal_of};
 
@@ -11,7 +13,7 @@ use piece::{Found, GAP, piece_at};
 pub const LONGEST_TEXT: usize = 65536;
 
 // The answer to a cut: how many tokens the text has, or the refusal's number and place.
-#[derive(Drop)]
+#[derive(Clone, Copy)]
 pub enum Answer {
     Tokens(usize),
     Refused(u8, Place),

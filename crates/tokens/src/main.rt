@@ -3,6 +3,8 @@
 // tokens FILE prints a line for each token: its start, its end and its class, with tabs between them; and a last line: derived
 // where the grammar derives the tokens, else refused, 7 and the place. A text that does not cut into tokens gives just one line:
 // refused, the number and the place. With several files, a line with the file's name heads each listing.
+#![tactic(auto)]
+
 ghost use Rattle.std.specs.Prelude.{◌≤◌, length};
 ghost use Rattle.lexicon.specs.Word.{Within};
 ghost use Rattle.token.specs.Cut.{cut};

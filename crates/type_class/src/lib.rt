@@ -1,4 +1,6 @@
 // The class of each definition, and the SEQUENCE type of each table and row, found once and stored with the definition.
+#![tactic(auto)]
+
 mod class_of;
 mod fill;
 mod type_name;

@@ -1,5 +1,7 @@
 // Bytes as people may see them: control bytes, which would break a list's lines or move a terminal's cursor, as \xNN. All others stay as
 // they are.
+#![tactic(auto)]
+
 ghost use Rattle.std.specs.Prelude.{◌≡◌, ◌+◌, ◌*◌, ◌≤◌, ◌<◌, length};
 ghost use Rattle.buffer.specs.Buffer.{Wrote};
 ghost use Rattle.visible.specs.Visible.{is_control, byte_before, is_late_control, breaks_line, breaks_terminal, is_hidden, escaped, seen, visible};
@@ -9,7 +11,7 @@ use digit::glyph_of;
 use position::is_inside;
 
 // Where bytes go: into a line of a list, to a terminal, to both or to neither.
-#[derive(Drop)]
+#[derive(Clone, Copy)]
 pub struct Manner {
     pub line: bool,
     pub terminal: bool,

@@ -4,7 +4,7 @@ ghost use Rattle.words.specs.Flag.{Means};
 use crate::word::same;
 
 // What a word is as a flag: yes is true, no is false, and any other is none.
-#[derive(Drop)]
+#[derive(Clone, Copy)]
 pub enum Flag {
     Is(bool),
     IsNot,

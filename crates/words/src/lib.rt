@@ -1,4 +1,6 @@
 // The words of a line, and the numbers, octets and flags that they write. Nothing here knows of SMI, and nothing reads or prints.
+#![tactic(auto)]
+
 mod flag;
 mod heading;
 mod hex;

@@ -3,7 +3,7 @@ ghost use Rattle.std.specs.Prelude.{◌≡◌, true, ◌+◌, ◌-◌, ◌*◌, 
 ghost use Rattle.words.specs.Decimal.{Small, above, all_digits, below, decimal_after, limit, natural_of, number_of};
 
 // What a word is as a number.
-#[derive(Drop)]
+#[derive(Clone, Copy)]
 pub enum Number {
     // This number, of at most 18 digits.
     Is(i64),
@@ -14,7 +14,7 @@ pub enum Number {
 }
 
 // What a word is as a number without a sign: this one, of at most 18 digits, one of more digits, or none.
-#[derive(Drop)]
+#[derive(Clone, Copy)]
 pub enum Natural {
     Is(u64),
     Beyond,

@@ -7,14 +7,14 @@ use crate::hex::hex_digit;
 use buffer::byte_at;
 
 // How many octets were read, or that the word writes none of this form.
-#[derive(Drop)]
+#[derive(Clone, Copy)]
 pub enum Octets {
     Are(usize),
     AreNot,
 }
 
 // What stands directly before a byte.
-#[derive(Drop)]
+#[derive(Clone, Copy)]
 pub enum Before {
     // The start, or a blank.
     Nothing,
@@ -27,7 +27,7 @@ pub enum Before {
 }
 
 // What a byte does.
-#[derive(Drop)]
+#[derive(Clone, Copy)]
 pub enum Step {
     // Nothing is put for it.
     Pass(Before),

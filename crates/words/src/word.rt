@@ -3,7 +3,7 @@ ghost use Rattle.std.specs.Prelude.{◌≡◌, true, [], ◌≤◌, length, get_
 ghost use Rattle.words.specs.Words.{Found, place, words};
 
 // The word asked for, from its first byte up to, not including, the second index; or there are not so many.
-#[derive(Drop)]
+#[derive(Clone, Copy)]
 pub enum Word {
     At(usize, usize),
     Missing,
