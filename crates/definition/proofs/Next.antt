@@ -1,7 +1,7 @@
 -- No definition starts inside another: a definition ends where the next of the definitions starts or, at END, before it.
 -- Assumes nothing.
 use mathlib.Core.Path.{◌≡◌}
-use mathlib.Core.Bool.{true, or_true}
+use mathlib.Core.Bool.{true, or-true}
 use mathlib.Core.List.{List}
 use Prim.Native.Nat.{ℕ, suc, ◌+◌, ◌≤◌, ◌<◌}
 use native.Mathlib.Decide.{dec_lt}
@@ -30,7 +30,7 @@ module _ (cs : List ℕ) (d : ℕ) (h : d < last_token cs) where
       next = first (begins cs) (d + 1) (last_token cs)
 
       either : begins cs next ≡ true → closes cs next ≡ true
-      either e = rw e (or_true (eqb (class_at cs next) END))
+      either e = rw e (or-true (eqb (class_at cs next) END))
 
       go : Dec (next < first (closes cs) (d + 1) (last_token cs)) → first (closes cs) (d + 1) (last_token cs) ≤ next
       go (yes l) =

@@ -1,7 +1,7 @@
 -- The items of an enumeration in trees: what is alike has the same turns, and the walk of a token, which passes no item that is alike.
 -- Assumes nothing.
 use mathlib.Core.Path.{◌≡◌, refl, sym, ap, subst, ◌∙◌}
-use mathlib.Core.Bool.{Bool, true, false, cond, ◌&&◌, ◌||◌, or_true}
+use mathlib.Core.Bool.{Bool, true, false, cond, ◌&&◌, ◌||◌, or-true}
 use mathlib.Core.Logic.{inr}
 use mathlib.Core.List.{List}
 use Prim.Native.Nat.{ℕ, zero, suc, ◌+◌, ◌-◌, ◌≤◌, ◌<◌}
@@ -151,7 +151,7 @@ module _ (cs : List ℕ) (turns : ℕ → ℕ → Bool) (base : ℕ) where
 
       -- a label is an entry
       entry : (j : ℕ) → is_name cs (base + j) ≡ true → is_entry cs base j ≡ true
-      entry j e = ap (λ (b : Bool). eqb j 0 || b) e ∙ or_true (eqb j 0)
+      entry j e = ap (λ (b : Bool). eqb j 0 || b) e ∙ or-true (eqb j 0)
 
       -- at its end no token before is alike
       none : (d : ℕ) → Seeking turns has base token links d 0

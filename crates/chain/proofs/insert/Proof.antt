@@ -5,25 +5,25 @@ use Rattle.chain.proofs.Chain.{chained_more}
 use Rattle.chain.proofs.insert.Statement.{statement}
 use Rattle.chain.proofs.insert.Tie as tie
 
-mul-links : tie.Need-overflow-mul-links
+mul-links : tie.Need-offset_bounds-heads-key
 mul-links c = search rules
 
-element-copy-out-links : tie.Need-element-copy-out-links
+element-copy-out-links : tie.Need-bounds-heads-key
 element-copy-out-links c = search rules
 
-mul-links-2 : tie.Need-overflow-mul-links-2
+mul-links-2 : tie.Need-offset_bounds-links-k
 mul-links-2 c = search rules
 
-element-write-links : tie.Need-element-write-links
+element-write-links : tie.Need-bounds-links-k
 element-write-links c = search rules
 
-add-heads : tie.Need-overflow-add-heads
+add-heads : tie.Need-overflow_add-heads
 add-heads c = search rules
 
-mul_heads : tie.Need-overflow-mul-heads
+mul_heads : tie.Need-offset_bounds-heads-key-2
 mul_heads c = search rules
 
-element-write-heads : tie.Need-element-write-heads
+element-write-heads : tie.Need-bounds-heads-key-2
 element-write-heads c = search rules
 
 returns : tie.Need-returns

@@ -44,44 +44,44 @@ module _ (classes : List ℕ) (n x : ℕ) (room : n < length classes) where
       let same : r ≡ allowed ts = told ∙ ap (λ k. unspoiled k v) (sym sized) ∙ ap (unspoiled (length ts)) (e ∙ ap (run module-automaton) asked) in
       (same, subst (λ b. (b ≡ true) ↔ Begins smi_module ts) (sym same) (begun (yield smi_module) ts (run module-automaton ts) (grammar_theorem ts)))
 
-slice-write-classes : tie.Need-slice-write-classes
+slice-write-classes : tie.Need-bounds-classes-n
 slice-write-classes c = search rules
 
-add-recognise : tie.Need-overflow-add-recognise
+add-recognise : tie.Need-overflow_add-n
 add-recognise c = search rules
 
 recognise-requires : tie.Need-recognise-requires
 recognise-requires c κs = simp length-set (search rules)
 
-enum-known-index : tie.Need-enum-known-index
+enum-known-index : tie.Need-enum_known-index
 enum-known-index c = search rules
 
-enum_told : tie.Need-enum-told
+enum_told : tie.Need-enum_told-1
 enum_told c = search rules
 
-same_length : tie.Need-same-length
+same_length : tie.Need-shape_of-classes-in_default
 same_length c = search rules
 
-returns : tie.Need-returns
+returns : tie.Need-returns-in_default
 returns c =
     let read = c.before.before in
     let start = read.before.before.before in
     let a = start.args in
     let h = ensured a.classes.now a.n a.class start.requires true derived
-    (ap verdict (sym c.enum_told.given.1) ∙ read.recognise.ensures.0) refl in
+    (ap verdict (sym c.enum_told-1.given.1) ∙ read.recognise.ensures.0) refl in
     (h.0, (h.1, refl))
 
-same-length-2 : tie.Need-same-length-2
+same-length-2 : tie.Need-shape_of-classes
 same-length-2 c = search rules
 
-returns-2 : tie.Need-returns-2
+returns-2 : tie.Need-returns
 returns-2 c =
     let read = c.before.before.before in
     let start = read.before.before.before in
     let a = start.args in
-    let i = c.before.index.given.0.0.0 in
+    let i = c.index-1.given.0.0.0 in
     let h = ensured a.classes.now a.n a.class start.requires (ltb a.n i) (refused i)
-    (ap verdict (sym c.before.index.given.1) ∙ read.recognise.ensures.0) (ap (λ k. leb k i) (sym (add-one a.n))) in
+    (ap verdict (sym c.index-1.given.1) ∙ read.recognise.ensures.0) (ap (λ k. leb k i) (sym (add-one a.n))) in
     (h.0, (h.1, refl))
 
 pub allows_spec : {M : Type 1} → statement M

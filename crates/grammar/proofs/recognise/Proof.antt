@@ -17,14 +17,14 @@ use Rattle.grammar.proofs.Theorem.{grammar_theorem}
 use Rattle.grammar.proofs.recognise.Statement.{statement}
 use Rattle.grammar.proofs.recognise.Tie as tie
 
-abbrev invariant-loop : tie.invariant-loop
+abbrev invariant-loop : tie.invariant-loop-i
 invariant-loop classes n table state₀ i₀ state i =
     (table ≡ module-automaton.table)
     × (i ≤ n)
     × (state < module-automaton.states)
     × Resumed module-automaton (take n classes) state i
 
-abbrev decreases-loop : tie.decreases-loop
+abbrev decreases-loop : tie.decreases-loop-i
 decreases-loop classes n table state₀ i₀ state i = n - i
 
 -- what is ensured of the verdict on a class sequence: it is the run's, and right
@@ -64,59 +64,59 @@ module _ (classes : List ℕ) (n s i : ℕ) (enough : n ≤ length classes) (h :
         let e : i ≡ n = omega arith in
         answered (take n classes) (refused n) (resumed_short module-automaton (take n classes) s i h past other ∙ ap refused e)
 
-loop-holds : tie.Need-loop-init invariant-loop decreases-loop
+loop-holds : tie.Need-loop-i-init invariant-loop decreases-loop
 unfolding module-automaton transitions
 loop-holds c =
-    let args = c.before.args in
+    let args = c.args in
     (refl, zero-le, lit< tt, resumed_start module-automaton (take args.n args.classes.now))
 
-shared-slice-read-step : tie.Need-shared-slice-read-step invariant-loop decreases-loop
+shared-slice-read-step : tie.Need-bounds-classes-i invariant-loop decreases-loop
 shared-slice-read-step c = search rules
 
-step-requires : tie.Need-step-requires invariant-loop decreases-loop
+step-requires : tie.Need-step-state-requires invariant-loop decreases-loop
 step-requires c κs = search rules
 
-returns : tie.Need-returns invariant-loop decreases-loop
+returns : tie.Need-returns-then-state-eq-DEAD invariant-loop decreases-loop
 returns c =
     let test = c.before.before.before.before in
     let at = test.before in
     let start = at.before.before in
-    dead start.args.classes.now start.args.n at.loop.state at.loop.i start.requires at.loop.invariant.3
-    test.loop-test.true c.before.step.result c.before.step.ensures.0 c.if1.true
+    dead start.args.classes.now start.args.n at.loop-i.state at.loop-i.i start.requires at.loop-i.invariant.3
+    test.loop-i-test.true c.step-state.result c.step-state.ensures.0 c.if-state-eq-DEAD.true
 
-add-i : tie.Need-overflow-add-i invariant-loop decreases-loop
+add-i : tie.Need-overflow_add-i invariant-loop decreases-loop
 add-i c = search rules
 
-loop-less : tie.Need-loop-smaller invariant-loop decreases-loop
+loop-less : tie.Need-loop-i-smaller invariant-loop decreases-loop
 loop-less c = search rules
 
-loop-again : tie.Need-loop-preserved invariant-loop decreases-loop
+loop-again : tie.Need-loop-i-preserved invariant-loop decreases-loop
 loop-again c =
     let test = c.before.before.before.before in
     let at = test.before in
     let start = at.before.before in (
-      at.loop.invariant.0,
+      at.loop-i.invariant.0,
       search rules,
-      c.before.step.ensures.1,
-      one_further start.args.classes.now start.args.n at.loop.state at.loop.i start.requires at.loop.invariant.3
-          test.loop-test.true c.before.step.result c.before.step.ensures.0 c.if1.false,
+      c.step-state.ensures.1,
+      one_further start.args.classes.now start.args.n at.loop-i.state at.loop-i.i start.requires at.loop-i.invariant.3
+          test.loop-i-test.true c.step-state.result c.step-state.ensures.0 c.if-state-eq-DEAD.false,
     )
 
-returns-2 : tie.Need-returns-2 invariant-loop decreases-loop
+returns-2 : tie.Need-returns-then-state-eq-ACCEPTING invariant-loop decreases-loop
 unfolding module-automaton
 returns-2 c =
     let at = c.before.before in
     let start = at.before.before in
-    accepted start.args.classes.now start.args.n at.loop.state at.loop.i start.requires at.loop.invariant.3
-    c.before.loop-test.false c.if2.true
+    accepted start.args.classes.now start.args.n at.loop-i.state at.loop-i.i start.requires at.loop-i.invariant.3
+    c.loop-i-test.false c.if-state-eq-ACCEPTING.true
 
-returns-3 : tie.Need-returns-3 invariant-loop decreases-loop
+returns-3 : tie.Need-returns-else-state-eq-ACCEPTING invariant-loop decreases-loop
 unfolding module-automaton
 returns-3 c =
     let at = c.before.before in
     let start = at.before.before in
-    ended start.args.classes.now start.args.n at.loop.state at.loop.i start.requires at.loop.invariant.3
-    c.before.loop-test.false c.if2.false at.loop.invariant.1
+    ended start.args.classes.now start.args.n at.loop-i.state at.loop-i.i start.requires at.loop-i.invariant.3
+    c.loop-i-test.false c.if-state-eq-ACCEPTING.false at.loop-i.invariant.1
 
 pub recognise_spec : {M : Type 1} → statement M
 recognise_spec =

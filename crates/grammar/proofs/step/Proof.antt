@@ -14,31 +14,36 @@ use Rattle.grammar.proofs.States.{module-passes}
 use Rattle.grammar.proofs.step.Statement.{statement}
 use Rattle.grammar.proofs.step.Tie as tie
 
-mul-result : tie.Need-overflow-mul-result
+mul-result : tie.Need-overflow_mul-result
 mul-result c = search rules
 
-add-result : tie.Need-overflow-add-result
+add-result : tie.Need-overflow_add-result
 add-result c = search rules
 
-element-copy-out-result : tie.Need-element-copy-out-result
+element-copy-out-result : tie.Need-bounds-table-row
 unfolding module-automaton
 element-copy-out-result c = omega arith
 
-returns : tie.Need-returns
+returns : tie.Need-returns-then-column-lt-TERMINALS
 unfolding module-automaton
 returns c =
-    let start = c.before.before in
+    let start = c.before.before.before in
     let s = start.args.state in
     let k = start.args.class in
-    let class = c.before.if1.true in
+    let class = c.if-column-lt-TERMINALS.true in
     let e = ap (λ (l : List ℕ). get_or l (s * module-automaton.width + k) 0) start.requires.0 in (
       e ∙ sym (next_inside module-automaton s k class),
       subst (λ (x : ℕ). x < module-automaton.states) (sym e) (entry_state module-passes s start.requires.1 k class),
     )
 
-returns-2 : tie.Need-returns-2
+returns-2 : tie.Need-returns-else-column-lt-TERMINALS
 unfolding module-automaton
-returns-2 c = (sym (next_outside module-automaton c.before.args.state c.before.args.class c.if1.false), lit< tt)
+returns-2 c = (sym (next_outside module-automaton c.args.state c.args.class c.if-column-lt-TERMINALS.false), lit< tt)
 
 pub step_spec : {M : Type 1} → statement M
-step_spec = tie.close (tie.spec mul-result add-result element-copy-out-result returns returns-2)
+step_spec = tie.close (tie.spec
+    mul-result
+    add-result
+    element-copy-out-result
+    returns
+    returns-2)

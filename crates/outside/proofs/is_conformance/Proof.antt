@@ -1,6 +1,6 @@
 -- `is_conformance` is right: it asks for each of the words.
 -- Assumes nothing.
-use mathlib.Core.Bool.{or_false}
+use mathlib.Core.Bool.{or-false}
 use mathlib.Core.Path.{sym, ◌∙◌}
 use borrow.Author.Rules.{rules}
 use Rattle.lexicon.specs.Word.{bytes}
@@ -46,7 +46,7 @@ is-word-requires-4 c κs = search rules
 
 returns-4 : tie.Need-returns-4
 unfolding among conformance_words bytes
-returns-4 c = simp (sym c.before.before.before.before.before.before.before.before.before.is_IsWord.ensures ∙ c.before.before.before.before.before.before.before.before.if1.false, sym c.before.before.before.before.before.before.is-word2.ensures ∙ c.before.before.before.before.before.if2.false, sym c.before.before.before.is-word3.ensures ∙ c.before.before.if3.false, ← c.is-word4.ensures, or_false)
+returns-4 c = simp (sym c.before.before.before.before.before.before.before.before.before.is_IsWord.ensures ∙ c.before.before.before.before.before.before.before.before.if1.false, sym c.before.before.before.before.before.before.is-word2.ensures ∙ c.before.before.before.before.before.if2.false, sym c.before.before.before.is-word3.ensures ∙ c.before.before.if3.false, ← c.is-word4.ensures, or-false)
 
 pub is_conformance_spec : {M : Type 1} → statement M
 is_conformance_spec =

@@ -1,6 +1,6 @@
 -- `is_of_first_version` is right: it asks for each of the words.
 -- Assumes nothing.
-use mathlib.Core.Bool.{or_false}
+use mathlib.Core.Bool.{or-false}
 use mathlib.Core.Path.{sym, ◌∙◌}
 use borrow.Author.Rules.{rules}
 use Rattle.lexicon.specs.Word.{bytes}
@@ -26,7 +26,7 @@ is-word-requires-2 c κs = search rules
 
 returns-2 : tie.Need-returns-2
 unfolding among first_words bytes
-returns-2 c = simp (sym c.before.before.before.is_IsWord.ensures ∙ c.before.before.if1.false, ← c.is-word2.ensures, or_false)
+returns-2 c = simp (sym c.before.before.before.is_IsWord.ensures ∙ c.before.before.if1.false, ← c.is-word2.ensures, or-false)
 
 pub is_of_first_version_spec : {M : Type 1} → statement M
 is_of_first_version_spec =

@@ -2,11 +2,13 @@
 use Rattle.row_status.proofs.if_complete.Statement.{statement}
 use Rattle.row_status.proofs.if_complete.Tie as tie
 
-returns : tie.Need-returns
-returns c = λ state. simp c.if1.true
+returns : tie.Need-returns-then-complete
+returns c = λ state. simp c.if-complete.true
 
-returns-2 : tie.Need-returns-2
-returns-2 c = λ state. simp c.if1.false
+returns-2 : tie.Need-returns-else-complete
+returns-2 c = λ state. simp c.if-complete.false
 
 pub if_complete_spec : {M : Type 1} → statement M
-if_complete_spec = tie.close (tie.spec returns returns-2)
+if_complete_spec = tie.close (tie.spec
+    returns
+    returns-2)

@@ -6,19 +6,23 @@ use borrow.Author.Rules.{rules}
 use Rattle.definition.proofs.field.braced_at.Statement.{statement}
 use Rattle.definition.proofs.field.braced_at.Tie as tie
 
-add-from : tie.Need-overflow-add-from
+add-from : tie.Need-overflow_add-from
 add-from c = search rules
 
-find-requires : tie.Need-find-requires
+find-requires : tie.Need-find-to-requires
 find-requires c κs = search rules
 
-returns : tie.Need-returns
+returns : tie.Need-returns-then-w-e
 unfolding braced_at
-returns c = rw (← c.find.ensures) (simp (lt-ltb _ _ c.before.if1.true))
+returns c = rw (← c.find-to.ensures) (simp (lt-ltb _ _ c.if-w-e.true))
 
-returns-2 : tie.Need-returns-2
+returns-2 : tie.Need-returns-else-w-e
 unfolding braced_at
-returns-2 c = simp (le-ltb _ _ c.if1.false)
+returns-2 c = simp (le-ltb _ _ c.if-w-e.false)
 
 pub braced_at_spec : {M : Type 1} → statement M
-braced_at_spec = tie.close (tie.spec add-from find-requires returns returns-2)
+braced_at_spec = tie.close (tie.spec
+    add-from
+    find-requires
+    returns
+    returns-2)

@@ -30,73 +30,73 @@ fields_equal f g kind status access syntax index augments default objects column
     }
 
 -- what is found first of each class
-found : (f : tie.After-first-tokens) (class : ℕ) → class < terminals
-    → get_or f.first-tokens.result class 0 ≡ find (take f.before.before.args.n f.before.before.args.classes.now) class f.before.before.args.d f.before.before.args.e
-found f class h = f.first-tokens.ensures.first_is class h
+found : (f : tie.After-first_tokens-firsts) (class : ℕ) → class < terminals
+    → get_or f.first_tokens-firsts.result class 0 ≡ find (take f.args.n f.args.classes.now) class f.args.d f.args.e
+found f class h = f.first_tokens-firsts.ensures.first_is class h
 
-first-tokens-requires : tie.Need-first-tokens-requires
+first-tokens-requires : tie.Need-first_tokens-firsts-requires
 first-tokens-requires c κs = search rules
 
-kind-at-requires : tie.Need-kind-at-requires
+kind-at-requires : tie.Need-kind_at-kind-requires
 kind-at-requires c κs = search rules
 
-array-read-word-at : tie.Need-array-read-word-at
+array-read-word-at : tie.Need-bounds-firsts-53
 array-read-word-at c = search rules
 
-word-at-requires : tie.Need-word-at-requires
+word-at-requires : tie.Need-word_at-status-requires
 word-at-requires c κs = search rules
 
-array-read-word-at-2 : tie.Need-array-read-word-at-2
+array-read-word-at-2 : tie.Need-bounds-firsts-39
 array-read-word-at-2 c = search rules
 
-word-at-requires-2 : tie.Need-word-at-requires-2
+word-at-requires-2 : tie.Need-word_at-access-requires
 word-at-requires-2 c κs = search rules
 
-array-read-syntax-behind : tie.Need-array-read-syntax-behind
+array-read-syntax-behind : tie.Need-bounds-firsts-55
 array-read-syntax-behind c = search rules
 
-syntax-behind-requires : tie.Need-syntax-behind-requires
+syntax-behind-requires : tie.Need-syntax_behind-syntax-requires
 syntax-behind-requires c κs = search rules
 
-array-read-braced-at : tie.Need-array-read-braced-at
+array-read-braced-at : tie.Need-bounds-firsts-36
 array-read-braced-at c = search rules
 
-braced-at-requires : tie.Need-braced-at-requires
+braced-at-requires : tie.Need-braced_at-index-requires
 braced-at-requires c κs = search rules
 
-array-read-braced-at-2 : tie.Need-array-read-braced-at-2
+array-read-braced-at-2 : tie.Need-bounds-firsts-23
 array-read-braced-at-2 c = search rules
 
-braced-at-requires-2 : tie.Need-braced-at-requires-2
+braced-at-requires-2 : tie.Need-braced_at-augments-requires
 braced-at-requires-2 c κs = search rules
 
-array-read-has-default : tie.Need-array-read-has-default
+array-read-has-default : tie.Need-bounds-firsts-28
 array-read-has-default c = search rules
 
-array-read-braced-at-3 : tie.Need-array-read-braced-at-3
+array-read-braced-at-3 : tie.Need-bounds-firsts-45
 array-read-braced-at-3 c = search rules
 
-braced-at-requires-3 : tie.Need-braced-at-requires-3
+braced-at-requires-3 : tie.Need-braced_at-objects-requires
 braced-at-requires-3 c κs = search rules
 
-array-read-braced-if : tie.Need-array-read-braced-if
+array-read-braced-if : tie.Need-bounds-firsts-51
 array-read-braced-if c = search rules
 
-braced-if-requires : tie.Need-braced-if-requires
+braced-if-requires : tie.Need-braced_if-columns-requires
 braced-if-requires c κs =
     let start = c.before.before.before.before.before.before.before.before.before in
     (start.requires.0, start.requires.1.1)
 
-cast-has-oid : tie.Need-overflow-cast-has-oid
+cast-has-oid : tie.Need-overflow_cast-kind
 cast-has-oid c = search rules
 
-has-oid-requires : tie.Need-has-oid-requires
+has-oid-requires : tie.Need-has_oid-requires
 has-oid-requires c κs = search rules
 
-array-read-braced-if-2 : tie.Need-array-read-braced-if-2
+array-read-braced-if-2 : tie.Need-bounds-firsts-4
 array-read-braced-if-2 c = search rules
 
-braced-if-requires-2 : tie.Need-braced-if-requires-2
+braced-if-requires-2 : tie.Need-braced_if-oid-requires
 braced-if-requires-2 c κs =
     let start = c.before.before.before.before.before.before.before.before.before.before.before in
     (start.requires.0, start.requires.1.1)
@@ -115,16 +115,16 @@ returns c =
     let f = kind.before in
     let start = f.before.before in
     fields_equal _ (fields_of (take start.args.n start.args.classes.now) start.args.d start.args.e)
-    kind.kind_at.ensures
-    (rw (← found f STATUS (omega arith)) status.word_at.ensures)
-    (rw (← found f MAX-ACCESS (omega arith)) access.word-at2.ensures)
-    (rw (← found f SYNTAX (omega arith)) syntax.syntax_behind.ensures)
-    (rw (← found f INDEX (omega arith)) index.braced_at.ensures)
-    (rw (← found f AUGMENTS (omega arith)) augments.braced-at2.ensures)
+    kind.kind_at-kind.ensures
+    (rw (← found f STATUS (omega arith)) status.word_at-status.ensures)
+    (rw (← found f MAX-ACCESS (omega arith)) access.word_at-access.ensures)
+    (rw (← found f SYNTAX (omega arith)) syntax.syntax_behind-syntax.ensures)
+    (rw (← found f INDEX (omega arith)) index.braced_at-index.ensures)
+    (rw (← found f AUGMENTS (omega arith)) augments.braced_at-augments.ensures)
     (rw (← found f DEFVAL (omega arith)))
-    (rw (← found f OBJECTS (omega arith)) objects.braced-at3.ensures)
-    (rw (← found f SEQUENCE (omega arith), ← kind.kind_at.ensures) columns.braced-if.ensures)
-    (rw (← found f assign (omega arith), ← kind.kind_at.ensures, ← c.before.has_oid.ensures) c.braced-if2.ensures)
+    (rw (← found f OBJECTS (omega arith)) objects.braced_at-objects.ensures)
+    (rw (← found f SEQUENCE (omega arith), ← kind.kind_at-kind.ensures) columns.braced_if-columns.ensures)
+    (rw (← found f assign (omega arith), ← kind.kind_at-kind.ensures, ← c.has_oid.ensures) c.braced_if-oid.ensures)
 
 pub fields_of_spec : {M : Type 1} → statement M
 fields_of_spec =

@@ -17,38 +17,38 @@ use Rattle.definition.proofs.field.find.Tie as tie
 abbrev is_of : List ℕ → ℕ → ℕ → ℕ → Bool
 is_of classes n class i = eqb (class_at (take n classes) i) class
 
-abbrev invariant-loop : tie.invariant-loop
+abbrev invariant-loop : tie.invariant-loop-i
 invariant-loop classes n class a b i₀ i = Passed (is_of classes n class) a b i
 
-abbrev decreases-loop : tie.decreases-loop
+abbrev decreases-loop : tie.decreases-loop-i
 decreases-loop classes n class a b i₀ i = b - i
 
-loop-holds : tie.Need-loop-init invariant-loop decreases-loop
+loop-holds : tie.Need-loop-i-init invariant-loop decreases-loop
 loop-holds c = refl
 
-class-at-requires : tie.Need-class-at-requires invariant-loop decreases-loop
+class-at-requires : tie.Need-class_at-requires invariant-loop decreases-loop
 class-at-requires c κs = search rules
 
-returns : tie.Need-returns invariant-loop decreases-loop
+returns : tie.Need-returns-then-class_at-class invariant-loop decreases-loop
 returns c =
     let test = c.before.before in
-    passed_hit _ _ _ _ test.before.loop.invariant test.loop-test.true
-    (eq-eqb _ _ (sym c.before.class_at.ensures ∙ c.if1.true))
+    passed_hit _ _ _ _ test.loop-i.invariant test.loop-i-test.true
+    (eq-eqb _ _ (sym c.class_at.ensures ∙ c.if-class_at-class.true))
 
-add-i : tie.Need-overflow-add-i invariant-loop decreases-loop
+add-i : tie.Need-overflow_add-i invariant-loop decreases-loop
 add-i c = search rules
 
-loop-less : tie.Need-loop-smaller invariant-loop decreases-loop
+loop-less : tie.Need-loop-i-smaller invariant-loop decreases-loop
 loop-less c = search rules
 
-loop-again : tie.Need-loop-preserved invariant-loop decreases-loop
+loop-again : tie.Need-loop-i-preserved invariant-loop decreases-loop
 loop-again c =
     let test = c.before.before in
-    passed_miss _ _ _ _ test.before.loop.invariant test.loop-test.true
-    (ne_eqb _ _ (λ e. c.if1.false (c.before.class_at.ensures ∙ e)))
+    passed_miss _ _ _ _ test.loop-i.invariant test.loop-i-test.true
+    (ne_eqb _ _ (λ e. c.if-class_at-class.false (c.class_at.ensures ∙ e)))
 
-returns-2 : tie.Need-returns-2 invariant-loop decreases-loop
-returns-2 c = passed_end _ _ _ _ c.before.loop.invariant c.loop-test.false
+returns-2 : tie.Need-returns invariant-loop decreases-loop
+returns-2 c = passed_end _ _ _ _ c.loop-i.invariant c.loop-i-test.false
 
 pub find_spec : {M : Type 1} → statement M
 find_spec =

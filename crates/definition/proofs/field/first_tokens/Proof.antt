@@ -11,72 +11,72 @@ use Rattle.definition.proofs.Firsts.{firsts_start, firsts_more, firsts_other, fi
 use Rattle.definition.proofs.field.first_tokens.Statement.{statement}
 use Rattle.definition.proofs.field.first_tokens.Tie as tie
 
-abbrev invariant-loop : tie.invariant-loop
+abbrev invariant-loop : tie.invariant-loop-i
 invariant-loop classes n d e end firsts₀ i₀ firsts i = FirstTokens (take n classes) i end firsts × (d ≤ i) × (i ≤ end)
 
-abbrev decreases-loop : tie.decreases-loop
+abbrev decreases-loop : tie.decreases-loop-i
 decreases-loop classes n d e end firsts₀ i₀ firsts i = i - d
 
 -- the class that was read is the token's
-own : (c : tie.After-wide-byte invariant-loop decreases-loop) → c.wide-byte.result ≡ class_at (take c.before.before.before.before.before.before.before.args.n c.before.before.before.before.before.before.before.args.classes.now) (c.before.before.before.loop.i - 1)
-own c = c.wide-byte.ensures.0 ∙ c.before.class_at.ensures
+own : (c : tie.After-wide_byte-class invariant-loop decreases-loop) → c.wide_byte-class.result ≡ class_at (take c.args.n c.args.classes.now) (c.loop-i.i - 1)
+own c = c.wide_byte-class.ensures.0 ∙ c.class_at.ensures
 
-later-requires : tie.Need-later-requires invariant-loop decreases-loop
+later-requires : tie.Need-later-end-requires invariant-loop decreases-loop
 later-requires c κs = search rules
 
-same-for-all-requires : tie.Need-same-for-all-requires invariant-loop decreases-loop
+same-for-all-requires : tie.Need-same_for_all-firsts-requires invariant-loop decreases-loop
 same-for-all-requires c κs = search rules
 
-loop-holds : tie.Need-loop-init invariant-loop decreases-loop
+loop-holds : tie.Need-loop-i-init invariant-loop decreases-loop
 loop-holds c =
-    let l = c.before.later.ensures in
-    (rw c.same-for-all.ensures (firsts_start _ _), later_from _ _ _ l.0 l.1, omega arith)
+    let l = c.later-end.ensures in
+    (rw c.same_for_all-firsts.ensures (firsts_start _ _), later_from _ _ _ l.0 l.1, omega arith)
 
-sub-i : tie.Need-overflow-sub-i invariant-loop decreases-loop
+sub-i : tie.Need-overflow_sub-i invariant-loop decreases-loop
 sub-i c = search rules
 
-class-at-requires : tie.Need-class-at-requires invariant-loop decreases-loop
+class-at-requires : tie.Need-class_at-requires invariant-loop decreases-loop
 class-at-requires c κs = search rules
 
-wide-byte-requires : tie.Need-wide-byte-requires invariant-loop decreases-loop
+wide-byte-requires : tie.Need-wide_byte-class-requires invariant-loop decreases-loop
 wide-byte-requires c κs = search rules
 
-mul-firsts : tie.Need-overflow-mul-firsts invariant-loop decreases-loop
+mul-firsts : tie.Need-offset_bounds-firsts-class invariant-loop decreases-loop
 mul-firsts c = search rules
 
-array-write-firsts : tie.Need-array-write-firsts invariant-loop decreases-loop
+array-write-firsts : tie.Need-bounds-firsts-class invariant-loop decreases-loop
 array-write-firsts c = search rules
 
-loop-less : tie.Need-loop-smaller invariant-loop decreases-loop
+loop-less : tie.Need-loop-i-smaller-then-class-lt-TERMINALS invariant-loop decreases-loop
 loop-less c = search rules
 
-loop-again : tie.Need-loop-preserved invariant-loop decreases-loop
+loop-again : tie.Need-loop-i-preserved-then-class-lt-TERMINALS invariant-loop decreases-loop
 loop-again c =
     let t = c.before.before.before in
     let l = t.before in (
-      firsts_more _ _ _ _ l.loop.invariant.0 (omega (arith, t.loop-test.true)) l.loop.invariant.2 _ (own c.before) c.if1.true,
-      omega (arith, t.loop-test.true),
-      omega (arith, l.loop.invariant.2),
+      firsts_more _ _ _ _ l.loop-i.invariant.0 (omega (arith, t.loop-i-test.true)) l.loop-i.invariant.2 _ (own c.before) c.if-class-lt-TERMINALS.true,
+      omega (arith, t.loop-i-test.true),
+      omega (arith, l.loop-i.invariant.2),
     )
 
-loop-less-2 : tie.Need-loop-smaller-2 invariant-loop decreases-loop
+loop-less-2 : tie.Need-loop-i-smaller invariant-loop decreases-loop
 loop-less-2 c = search rules
 
-loop-again-2 : tie.Need-loop-preserved-2 invariant-loop decreases-loop
+loop-again-2 : tie.Need-loop-i-preserved invariant-loop decreases-loop
 loop-again-2 c =
     let t = c.before.before.before in
     let l = t.before in (
-      firsts_other _ _ _ _ l.loop.invariant.0 (omega (arith, t.loop-test.true)) l.loop.invariant.2 (omega (arith, c.if1.false, own c.before)),
-      omega (arith, t.loop-test.true),
-      omega (arith, l.loop.invariant.2),
+      firsts_other _ _ _ _ l.loop-i.invariant.0 (omega (arith, t.loop-i-test.true)) l.loop-i.invariant.2 (omega (arith, c.if-class-lt-TERMINALS.false, own c.before)),
+      omega (arith, t.loop-i-test.true),
+      omega (arith, l.loop-i.invariant.2),
     )
 
 returns : tie.Need-returns invariant-loop decreases-loop
 returns c =
     let l = c.before in
-    let r = l.before.before.later.ensures in
-    let there : l.loop.i ≡ c.before.before.before.before.before.args.d = omega (arith, c.loop-test.false, l.loop.invariant.1) in
-    firsts_end _ _ _ _ _ r.0 r.1 (rw there at l.loop.invariant.0)
+    let r = l.later-end.ensures in
+    let there : l.loop-i.i ≡ c.args.d = omega (arith, c.loop-i-test.false, l.loop-i.invariant.1) in
+    firsts_end _ _ _ _ _ r.0 r.1 (rw there at l.loop-i.invariant.0)
 
 pub first_tokens_spec : {M : Type 1} → statement M
 first_tokens_spec =

@@ -6,19 +6,23 @@ use borrow.Author.Rules.{rules}
 use Rattle.definition.proofs.field.syntax_behind.Statement.{statement}
 use Rattle.definition.proofs.field.syntax_behind.Tie as tie
 
-add-from : tie.Need-overflow-add-from
+add-from : tie.Need-overflow_add-from
 add-from c = search rules
 
-find-syntax-end-requires : tie.Need-find-syntax-end-requires
+find-syntax-end-requires : tie.Need-find_syntax_end-to-requires
 find-syntax-end-requires c κs = search rules
 
-returns : tie.Need-returns
+returns : tie.Need-returns-then-w-e
 unfolding syntax_behind
-returns c = rw (← c.find-syntax-end.ensures) (simp (lt-ltb _ _ c.before.if1.true))
+returns c = rw (← c.find_syntax_end-to.ensures) (simp (lt-ltb _ _ c.if-w-e.true))
 
-returns-2 : tie.Need-returns-2
+returns-2 : tie.Need-returns-else-w-e
 unfolding syntax_behind
-returns-2 c = simp (le-ltb _ _ c.if1.false)
+returns-2 c = simp (le-ltb _ _ c.if-w-e.false)
 
 pub syntax_behind_spec : {M : Type 1} → statement M
-syntax_behind_spec = tie.close (tie.spec add-from find-syntax-end-requires returns returns-2)
+syntax_behind_spec = tie.close (tie.spec
+    add-from
+    find-syntax-end-requires
+    returns
+    returns-2)

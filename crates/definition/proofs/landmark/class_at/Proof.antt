@@ -9,20 +9,23 @@ use lib.Seq.{get_or-take, length-take-le}
 use Rattle.definition.proofs.landmark.class_at.Statement.{statement}
 use Rattle.definition.proofs.landmark.class_at.Tie as tie
 
-shared-slice-read-result : tie.Need-shared-slice-read-result
+shared-slice-read-result : tie.Need-bounds-classes-i
 shared-slice-read-result c = search rules
 
-returns : tie.Need-returns
+returns : tie.Need-returns-then-i-n
 returns c =
-    let args = c.before.before.args in
-    sym (get_or-take args.n args.classes.now args.i 0 c.before.if1.true)
+    let args = c.args in
+    sym (get_or-take args.n args.classes.now args.i 0 c.if-i-n.true)
 
-returns-2 : tie.Need-returns-2
+returns-2 : tie.Need-returns-else-i-n
 returns-2 c =
-    let args = c.before.args in
+    let args = c.args in
     let past : length (take args.n args.classes.now) ≤ args.i =
-    omega (arith, length-take-le args.n args.classes.now c.before.requires) in
+    omega (arith, length-take-le args.n args.classes.now c.requires) in
     sym (get_or-eq_default (take args.n args.classes.now) 0 past)
 
 pub class_at_spec : {M : Type 1} → statement M
-class_at_spec = tie.close (tie.spec shared-slice-read-result returns returns-2)
+class_at_spec = tie.close (tie.spec
+    shared-slice-read-result
+    returns
+    returns-2)

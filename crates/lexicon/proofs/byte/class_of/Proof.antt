@@ -4,11 +4,13 @@ use borrow.Author.Rules.{rules}
 use Rattle.lexicon.proofs.byte.class_of.Statement.{statement}
 use Rattle.lexicon.proofs.byte.class_of.Tie as tie
 
-element-copy-out-result : tie.Need-element-copy-out-result
+element-copy-out-result : tie.Need-bounds-table-b
 element-copy-out-result c = search rules
 
 returns : tie.Need-returns
-returns c = c.before.requires.gives c.before.args.b (search rules)
+returns c = c.requires.gives c.args.b (search rules)
 
 pub class_of_spec : {M : Type 1} → statement M
-class_of_spec = tie.close (tie.spec element-copy-out-result returns)
+class_of_spec = tie.close (tie.spec
+    element-copy-out-result
+    returns)

@@ -11,4 +11,5 @@ unfolding right class_of class_in rows
 returns c = class_table _ refl tt
 
 pub class_table_spec : {M : Type 1} → statement M
-class_table_spec = tie.close (tie.spec returns)
+class_table_spec = tie.close (tie.spec
+    returns)

@@ -4,11 +4,13 @@ use borrow.Author.Rules.{rules}
 use Rattle.lexicon.proofs.byte.is_blank.Statement.{statement}
 use Rattle.lexicon.proofs.byte.is_blank.Tie as tie
 
-class-of-requires : tie.Need-class-of-requires
+class-of-requires : tie.Need-class_of-class-requires
 class-of-requires c κs = search rules
 
 returns : tie.Need-returns
-returns c = rw (← c.class_of.ensures)
+returns c = rw (← c.class_of-class.ensures)
 
 pub is_blank_spec : {M : Type 1} → statement M
-is_blank_spec = tie.close (tie.spec class-of-requires returns)
+is_blank_spec = tie.close (tie.spec
+    class-of-requires
+    returns)

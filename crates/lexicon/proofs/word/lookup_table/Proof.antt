@@ -11,4 +11,5 @@ unfolding some_class own_slot own_size own_spelling words word_table word bytes 
 returns c = lookup_table _ refl tt tt tt tt
 
 pub lookup_table_spec : {M : Type 1} → statement M
-lookup_table_spec = tie.close (tie.spec returns)
+lookup_table_spec = tie.close (tie.spec
+    returns)

@@ -15,53 +15,53 @@ use Rattle.lexicon.proofs.word.name_class.Statement.{statement}
 use Rattle.lexicon.proofs.word.name_class.Tie as tie
 
 -- the name, and its place among the words
-abbrev name_of : tie.After-word-of → List ℕ
-name_of c = let a = c.before.before.args in between a.text.now a.start a.end
+abbrev name_of : tie.After-word_of-k → List ℕ
+name_of c = let a = c.args in between a.text.now a.start a.end
 
-place : (c : tie.After-word-of) → place_in (name_of c) words ≡ c.word_of.result
-place c = sym c.word_of.ensures
+place : (c : tie.After-word_of-k) → place_in (name_of c) words ≡ c.word_of-k.result
+place c = sym c.word_of-k.ensures
 
 -- where it is no word, the class of its first letter
-abbrev no_word : tie.After-class-of → tie.Else1
+abbrev no_word : tie.After-class_of → tie.Else-k-lt-WORDS
 no_word c = c.before.before
 
-letter : (c : tie.After-class-of) → class_of (get_or (name_of (no_word c).before) 0 0) ≡ c.class_of.result
+letter : (c : tie.After-class_of) → class_of (get_or (name_of (no_word c).before) 0 0) ≡ c.class_of.result
 letter c =
     let s = (no_word c).before.before.before in
     let a = s.args in
-    let first = between_byte a.text.now a.start a.end 0 a.start (omega arith) s.pre.0.some in
+    let first = between_byte a.text.now a.start a.end 0 a.start (omega arith) s.requires.0.some in
     ap class_of first ∙ sym c.class_of.ensures
 
-word-of-requires : tie.Need-word-of-requires
+word-of-requires : tie.Need-word_of-k-requires
 word-of-requires c κs = search rules
 
-add-result : tie.Need-overflow-add-result
+add-result : tie.Need-overflow_add-result
 add-result c = search rules
 
-cast-result : tie.Need-overflow-cast-result
+cast-result : tie.Need-overflow_cast-result
 cast-result c = search rules
 
-returns : tie.Need-returns
+returns : tie.Need-returns-then-k-lt-WORDS
 unfolding name_class
-returns c = simp (place c.before, lt-ltb _ _ c.if1.true, word_class _ c.if1.true)
+returns c = simp (place c.before, lt-ltb _ _ c.if-k-lt-WORDS.true, word_class _ c.if-k-lt-WORDS.true)
 
-shared-slice-read-class-of : tie.Need-shared-slice-read-class-of
+shared-slice-read-class-of : tie.Need-bounds-text-start
 shared-slice-read-class-of c = search rules
 
-class-of-requires : tie.Need-class-of-requires
+class-of-requires : tie.Need-class_of-requires
 class-of-requires c κs = search rules
 
-returns-2 : tie.Need-returns-2
+returns-2 : tie.Need-returns-then-class_of-ge-CAPITAL_HEX
 unfolding name_class
 returns-2 c =
     let none = no_word c.before in
-    simp (place none.before, le-ltb _ _ none.if1.left, letter c.before, le-leb _ _ c.if2.true)
+    simp (place none.before, le-ltb _ _ none.if-k-lt-WORDS.false, letter c.before, le-leb _ _ c.if-class_of-ge-CAPITAL_HEX.true)
 
-returns-3 : tie.Need-returns-3
+returns-3 : tie.Need-returns
 unfolding name_class
 returns-3 c =
     let none = no_word c.before in
-    simp (place none.before, le-ltb _ _ none.if1.left, letter c.before, lt-leb _ _ c.if2.false)
+    simp (place none.before, le-ltb _ _ none.if-k-lt-WORDS.false, letter c.before, lt-leb _ _ c.if-class_of-ge-CAPITAL_HEX.false)
 
 pub name_class_spec : {M : Type 1} → statement M
 name_class_spec =

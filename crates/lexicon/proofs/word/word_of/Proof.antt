@@ -14,89 +14,89 @@ use Rattle.lexicon.proofs.word.word_of.Tie as tie
 
 -- the name, and its slot is the one that was read
 abbrev Read : Type 0
-Read = tie.After-slot-class
+Read = tie.After-slot_class-class
 
-abbrev start_of : tie.After-shared-slice-known3 → tie.Start
+abbrev start_of : tie.After-shared_slice_known-3-1 → tie.Start
 start_of c = c.before.before.before
 
 abbrev name_of : Read → List ℕ
 name_of c = let a = (start_of c.before).args in between a.text.now a.start a.end
 
-held : (c : Read) → SlotWord (slot_of (name_of c)) c.slot-class.result
+held : (c : Read) → SlotWord (slot_of (name_of c)) c.slot_class-class.result
 held c =
     let s = start_of c.before in
-    rw (slot_part s.args.text.now s.args.start s.args.end s.pre.0.some s.pre.0.inside) c.slot-class.ensures
+    rw (slot_part s.args.text.now s.args.start s.args.end s.requires.0.some s.requires.0.inside) c.slot_class-class.ensures
 
 -- its first and its last byte are bytes
-abbrev byte_of : (c : tie.After-shared-slice-known3) → ℕ → ℕ
+abbrev byte_of : (c : tie.After-shared_slice_known-3-1) → ℕ → ℕ
 byte_of c k = get_or (start_of c).args.text.now k 0
 
-two_bytes : (c : tie.After-shared-slice-known3)
+two_bytes : (c : tie.After-shared_slice_known-3-1)
     → (byte_of c (start_of c).args.start < 256) × (byte_of c ((start_of c).args.end - 1) < 256)
 two_bytes c =
     let a = (start_of c).args in
-    let first = c.before.shared-slice-known2.given a.start in
-    let last = c.shared-slice-known3.given (a.end - 1) in
+    let first = c.shared_slice_known-2-1.given a.start in
+    let last = c.shared_slice_known-3-1.given (a.end - 1) in
     (omega (arith, first), omega (arith, last))
 
-shared-slice-read-first : tie.Need-shared-slice-read-first
+shared-slice-read-first : tie.Need-bounds-text-start
 shared-slice-read-first c = search rules
 
-cast-first : tie.Need-overflow-cast-first
+cast-first : tie.Need-overflow_cast-first
 cast-first c =
-    omega (arith, c.shared-slice-known2.given c.before.before.args.start)
+    omega (arith, c.shared_slice_known-2-1.given c.args.start)
 
-sub-last : tie.Need-overflow-sub-last
+sub-last : tie.Need-overflow_sub-last
 sub-last c = search rules
 
-shared-slice-read-last : tie.Need-shared-slice-read-last
+shared-slice-read-last : tie.Need-bounds-text-end
 shared-slice-read-last c = search rules
 
-cast-last : tie.Need-overflow-cast-last
+cast-last : tie.Need-overflow_cast-last
 cast-last c =
-    omega (arith, c.shared-slice-known3.given (c.before.before.before.args.end - 1))
+    omega (arith, c.shared_slice_known-3-1.given (c.args.end - 1))
 
-mul-slot-class : tie.Need-overflow-mul-slot-class
+mul-slot-class : tie.Need-overflow_mul-first
 mul-slot-class c = omega (arith, two_bytes c)
 
-mul-slot-class-2 : tie.Need-overflow-mul-slot-class-2
+mul-slot-class-2 : tie.Need-overflow_mul-last
 mul-slot-class-2 c = omega (arith, two_bytes c)
 
-add-slot-class : tie.Need-overflow-add-slot-class
+add-slot-class : tie.Need-overflow_add-first
 add-slot-class c = omega (arith, two_bytes c)
 
-sub-slot-class : tie.Need-overflow-sub-slot-class
+sub-slot-class : tie.Need-overflow_sub-end
 sub-slot-class c = search rules
 
-mul-slot-class-3 : tie.Need-overflow-mul-slot-class-3
+mul-slot-class-3 : tie.Need-overflow_mul-end
 mul-slot-class-3 c = search rules
 
-add-slot-class-2 : tie.Need-overflow-add-slot-class-2
+add-slot-class-2 : tie.Need-overflow_add-first-2
 add-slot-class-2 c = omega (arith, two_bytes c)
 
-slot-class-requires : tie.Need-slot-class-requires
+slot-class-requires : tie.Need-slot_class-class-requires
 slot-class-requires c κs = search rules
 
-returns : tie.Need-returns
+returns : tie.Need-returns-then-class-lt-FIRST_WORD
 returns c =
     let read = c.before in
-    not_found (name_of read) _ (held read) (λ k e. absurd (omega (arith, c.if1.true)))
+    not_found (name_of read) _ (held read) (λ k e. absurd (omega (arith, c.if-class-lt-FIRST_WORD.true)))
 
-is-word-requires : tie.Need-is-word-requires
+is-word-requires : tie.Need-is_word-requires
 is-word-requires c κs = search rules
 
-returns-2 : tie.Need-returns-2
+returns-2 : tie.Need-returns-then-is_word
 returns-2 c =
     let read = c.before.before.before in
-    let few = read.slot-class.ensures.few in
-    found (name_of read) _ (held read) _ (omega arith) (omega (arith, few)) (sym c.before.is_IsWord.ensures ∙ c.if2.true)
+    let few = read.slot_class-class.ensures.few in
+    found (name_of read) _ (held read) _ (omega arith) (omega (arith, few)) (sym c.is_word.ensures ∙ c.if-is_word.true)
 
-returns-3 : tie.Need-returns-3
+returns-3 : tie.Need-returns
 returns-3 c =
     let read = c.before.before.before in
-    let other = sym c.before.is_IsWord.ensures ∙ c.if2.false in
+    let other = sym c.is_word.ensures ∙ c.if-is_word.false in
     not_found (name_of read) _ (held read)
-    (λ k e. let is : k ≡ read.slot-class.result - first_word = omega arith in rw is other)
+    (λ k e. let is : k ≡ read.slot_class-class.result - first_word = omega arith in rw is other)
 
 pub word_of_spec : {M : Type 1} → statement M
 word_of_spec =
