@@ -42,10 +42,10 @@ abbrev said_by : First → List Meaning
 said_by j = meanings_in (start_of j).args.text.now
 
 -- each step leaves as many values as there were
-long₂ : (j : Second) → length j.judge_offers-offers.new.1.1.1.1.0 ≡ length (start_of (first_of j)).args.values.now
+long₂ : (j : Second) → length j.judge_offers-offers.new.values ≡ length (start_of (first_of j)).args.values.now
 long₂ j = j.judge_offers-offers.ensures.0 ∙ (first_of j).judge_introduced-introduced.ensures.0
 
-long₃ : (j : Third) → length j.judge_uses-uses.new.1.1.1.1.0 ≡ length (start_of (first_of (second_of j))).args.values.now
+long₃ : (j : Third) → length j.judge_uses-uses.new.values ≡ length (start_of (first_of (second_of j))).args.values.now
 long₃ j = j.judge_uses-uses.ensures.0 ∙ long₂ (second_of j)
 
 -- each step that finds its rule kept leaves the rules after it to judge
@@ -97,10 +97,10 @@ judge-uses-requires c κs =
     let s = start_of (first_of j.before.before.before.before) in
     let all = long₂ j.before.before.before.before ∙ s.requires.1.0 in
     let cs = classes_are _ _ _ _ s.requires.0 in
-    let filled = subst (λ (x : Judgement). ImportsFilled (meanings_in s.args.text.now) x j.judge_offers-offers.new.1.1.1.1.0) c.in-Kept-offers.is j.judge_offers-offers.ensures.1.1 in
+    let filled = subst (λ (x : Judgement). ImportsFilled (meanings_in s.args.text.now) x j.judge_offers-offers.new.values) c.in-Kept-offers.is j.judge_offers-offers.ensures.1.1 in
     let offers = all_offered _ (sym c.in-Kept-offers.is ∙ j.judge_offers-offers.ensures.1.0) in
     let imports = imports_held _ _ _ (held_said _ _ _ _ s.requires.0) offers _ (all ∙ ap length cs) filled in
-    (s.requires.0, (all, (subst (λ (l : List ℕ). ImportsHeld (meanings_in s.args.text.now) (take (imports_end l) j.judge_offers-offers.new.1.1.1.1.0)) (sym cs) imports, (s.requires.1.1.0, (s.requires.1.1.1, names_distinct _ (sym j.in-Kept.is ∙ (first_of j.before.before.before.before).judge_introduced-introduced.ensures.1))))))
+    (s.requires.0, (all, (subst (λ (l : List ℕ). ImportsHeld (meanings_in s.args.text.now) (take (imports_end l) j.judge_offers-offers.new.values)) (sym cs) imports, (s.requires.1.1.0, (s.requires.1.1.1, names_distinct _ (sym j.in-Kept.is ∙ (first_of j.before.before.before.before).judge_introduced-introduced.ensures.1))))))
 
 enum-told-5 : tie.Need-enum_told-in-Kept-uses
 enum-told-5 c = search rules
@@ -141,8 +141,8 @@ returns-4 c =
     let counted = s.requires.1.0 ∙ sym (said_counted _ _ _ _ s.requires.0) in
     let values = all_values _ _ _ (held_said _ _ _ _ s.requires.0) _ _ _ (sym kept₁ ∙ j₁.judge_introduced-introduced.ensures.1)
     (all_offered _ (sym kept₂ ∙ j₂.judge_offers-offers.ensures.1.0))
-    (subst (λ (x : Judgement). ImportsFilled (meanings_in s.args.text.now) x j₂.judge_offers-offers.last.1.1.1.1.0) kept₂ j₂.judge_offers-offers.ensures.1.1)
-    (subst (λ (x : Judgement). UsesFilled (meanings_in s.args.text.now) x j₂.judge_offers-offers.last.1.1.1.1.0 j₃.judge_uses-uses.new.1.1.1.1.0) kept₃ j₃.judge_uses-uses.ensures.1.1)
+    (subst (λ (x : Judgement). ImportsFilled (meanings_in s.args.text.now) x j₂.judge_offers-offers.new.values) kept₂ j₂.judge_offers-offers.ensures.1.1)
+    (subst (λ (x : Judgement). UsesFilled (meanings_in s.args.text.now) x j₂.judge_offers-offers.new.values j₃.judge_uses-uses.new.values) kept₃ j₃.judge_uses-uses.ensures.1.1)
     f.fill_numbers.ensures.1 (long₃ j₃.before.before.before.before.before.before.before ∙ counted) (long ∙ counted) in
     (long, (sym kept₃ ∙ j₃.judge_uses-uses.ensures.1.0 ∙ sym (after₂ j₃.before.before.before.before.before.before.before), values))
 

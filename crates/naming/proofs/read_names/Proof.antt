@@ -35,10 +35,10 @@ Known = tie.In-All-2
 abbrev collected_by : Known → Outlined
 collected_by k = k.before.before.before
 
-all : (k : Known) → (let o = collected_by k in Outlines (start_of o).args.classes.now o.collect_outline-collected.last.1.0 (All k.in-All.count))
-all k = let o = collected_by k in subst (Outlines (start_of o).args.classes.now o.collect_outline-collected.last.1.0) k.in-All.is o.collect_outline-collected.ensures.1
+all : (k : Known) → (let o = collected_by k in Outlines (start_of o).args.classes.now o.collect_outline-collected.new.definitions (All k.in-All.count))
+all k = let o = collected_by k in subst (Outlines (start_of o).args.classes.now o.collect_outline-collected.new.definitions) k.in-All.is o.collect_outline-collected.ensures.1
 
-room : (k : Known) → k.in-All.count * width ≤ length (collected_by k).collect_outline-collected.new.1.0
+room : (k : Known) → k.in-All.count * width ≤ length (collected_by k).collect_outline-collected.new.definitions
 room k = let o = collected_by k in omega (arith, (all k).1, o.collect_outline-collected.ensures.0, (start_of o).requires.1.1)
 
 collect-outline-requires : tie.Need-collect_outline-collected-requires
@@ -82,7 +82,7 @@ returns c =
     let o = c in
     let s = start_of o.before.before.before.before in
     let cs = classes_are _ _ _ _ s.requires.0 in
-    let many = subst (Outlines s.args.classes.now o.collect_outline-collected.new.1.0) c.in-TooMany.is o.collect_outline-collected.ensures.1 in
+    let many = subst (Outlines s.args.classes.now o.collect_outline-collected.new.definitions) c.in-TooMany.is o.collect_outline-collected.ensures.1 in
     let more = rw cs at many.0 in
     let is = rw cs at many.1 in
     (refl, (o.collect_outline-collected.ensures.0, (ap Broken c.plain_finding.ensures ∙ many_judged _ more _ is, tt)))
@@ -104,8 +104,8 @@ returns-2 c =
     let is = c.answer.ensures in
     let few = subst (λ (l : List ℕ). length (definitions l) ≤ most_definitions) cs (omega (arith, (all k.before.before.before.before.before.before).0, (all k.before.before.before.before.before.before).1, outline_counted s.args.classes.now)) in
     let counted = subst (λ (l : List ℕ). k.collected2.given.0.0 ≡ length (outline l)) cs (all k.before.before.before.before.before.before).0 in
-    let held = subst (λ (l : List ℕ). definitions_in (take (k.collected2.given.0.0 * width) o.collect_outline-collected.last.1.0) ≡ outline l) cs (all k.before.before.before.before.before.before).2 in
-    (n.judge_names.ensures.0, (o.collect_outline-collected.ensures.0, (ap judgement is ∙ answer_judged _ _ _ n.judge_names.ensures.1.0 few, subst (λ (r : Names). Holds (meanings_in s.args.text.now) r n.judge_names.new.1.1.1.1.0 o.collect_outline-collected.last.1.0) (sym is) (answer_holds (meanings_in s.args.text.now) k.collected2.given.0.0 n.judge_names.result n.judge_names.new.1.1.1.1.0 o.collect_outline-collected.last.1.0 n.judge_names.ensures.1.1 counted held))))
+    let held = subst (λ (l : List ℕ). definitions_in (take (k.collected2.given.0.0 * width) o.collect_outline-collected.new.definitions) ≡ outline l) cs (all k.before.before.before.before.before.before).2 in
+    (n.judge_names.ensures.0, (o.collect_outline-collected.ensures.0, (ap judgement is ∙ answer_judged _ _ _ n.judge_names.ensures.1.0 few, subst (λ (r : Names). Holds (meanings_in s.args.text.now) r n.judge_names.new.values o.collect_outline-collected.new.definitions) (sym is) (answer_holds (meanings_in s.args.text.now) k.collected2.given.0.0 n.judge_names.result n.judge_names.new.values o.collect_outline-collected.new.definitions n.judge_names.ensures.1.1 counted held))))
 
 pub read_names_spec : {M : Type 1} → statement M
 read_names_spec =

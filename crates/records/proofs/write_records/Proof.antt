@@ -61,7 +61,7 @@ own_is c =
 -- both lie in the buffer when the rest has come back
 next : (c : tie.After-slice_known-in-loop-k-1 invariant-loop decreases-loop)
     → Written (before (turn c) ++ own (turn c)) ((turn c).loop-k.at + c.write_record-written.result)
-    (start (turn c)).args.records.now (returned (turn c).loop-k.records (turn c).loop-k.at c.write_record-written.new.0)
+    (start (turn c)).args.records.now (returned (turn c).loop-k.records (turn c).loop-k.at c.write_record-written.new.records)
 next c =
     let t = turn c in
     written_both (before t) (own t) _ _ _ (room t) t.loop-k.invariant.1 _ _ (rw (own_is c.before.before.before.before) at c.write_record-written.ensures)

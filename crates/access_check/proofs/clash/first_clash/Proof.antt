@@ -102,12 +102,12 @@ records-again c =
     ⊎_elim
     (λ w.
     let listed : creates ds s.args.values.now h.written_type-number.result ≡ false =
-    sym (list_is (record { before = record { before = h; if1 = w.0 }; columns_of = w.1 })) ∙ sym (asking_end _ _ _ _ w.2.inv w.3.left) in
-    (asking_miss _ _ _ _ l.records.invariant.0 t.records-test.true (sym (clash_is h.before) ∙ listed), rw w.4 (clear_more _ _ _ l.records.invariant.1 h.written_type-number.result listed)))
+    sym (list_is (record { before = record { before = h.before; if-clear-number-eq0 = w.if-clear-number-eq0 }; columns_of-list = w.columns_of-list })) ∙ sym (asking_end _ _ _ _ w.loop-i.invariant w.loop-i-test.false) in
+    (asking_miss _ _ _ _ l.records.invariant.0 t.records-test.true (sym (clash_is h.before) ∙ listed), rw w.clear-is (clear_more _ _ _ l.records.invariant.1 h.written_type-number.result listed)))
     (λ w.
-    let none = l.records.invariant.1.cleared h.written_type-number.result (number_few h.before) w.0.left in
-    (asking_miss _ _ _ _ l.records.invariant.0 t.records-test.true (sym (clash_is h.before) ∙ none), rw w.1 l.records.invariant.1))
-    c.if-clear-number-eq0.branch
+    let none = l.records.invariant.1.cleared h.written_type-number.result (number_few h.before) w.if-clear-number-eq0.false in
+    (asking_miss _ _ _ _ l.records.invariant.0 t.records-test.true (sym (clash_is h.before) ∙ none), rw w.clear-is l.records.invariant.1))
+    c.if-clear-number-eq0.branch-raw
 
 returns : tie.Need-returns-after-records invariant-loop decreases-loop invariant-records decreases-records
 returns c =

@@ -7,7 +7,7 @@ use Rattle.module_table.specs.declared.Definition.{Definition}
 use Rattle.object_tree.specs.Words.{is_row, numbered}
 use mathlib.Core.Path.{◌≡◌, ap, ◌∙◌}
 use mathlib.Core.Bool.{Bool, not, ◌&&◌}
-use borrow.Author.Tests.{not-true, not-false}
+use borrow.Author.Tests.{lt-ltb, le-ltb}
 use Rattle.clause_table.specs.Clause.{unfounded_augments}
 use borrow.Author.Rules.{rules}
 use Rattle.clause_table.proofs.name_clause.is_unfounded.Statement.{statement}
@@ -17,7 +17,7 @@ returns : tie.Need-returns-then-not-from-list
 unfolding unfounded_augments
 returns c =
     let s = c in
-    let no : ltb s.args.d.augments.from s.args.d.augments.to ≡ false = c.if-not-from-list.true in
+    let no : ltb s.args.d.augments.from s.args.d.augments.to ≡ false = le-ltb _ _ c.if-not-from-list.true in
     rw no
 
 number-at-requires : tie.Need-number_at-requires
@@ -36,7 +36,7 @@ returns-2 c =
     let n = r in
     let e = n in
     let s = e in
-    let given : ltb s.args.d.augments.from s.args.d.augments.to ≡ true = e.if-not-from-list.false in
+    let given : ltb s.args.d.augments.from s.args.d.augments.to ≡ true = lt-ltb _ _ e.if-not-from-list.false in
     rw given (ap (λ (b : Bool). not (b && ltb n.numbered-named.result.index.from n.numbered-named.result.index.to)) r.is_row.ensures
     ∙ ap (λ (d : Definition). not (is_row d && ltb d.index.from d.index.to)) (n.numbered-named.ensures ∙ ap (numbered (definitions_in s.args.definitions.now)) n.number_at.ensures))
 

@@ -103,9 +103,9 @@ loop-again c =
     let j = t.loop-j.j in
     let miss : sought t.before.before j ≡ false =
     ⊎_elim
-    (λ w. sym (named_told (record { before = record { before = a; if1 = w.0 }; is_named = w.1 })) ∙ w.2.left)
-    (λ w. not_first _ _ (told a.before w.left))
-    c.if-introduces.branch in
+    (λ w. sym (named_told (record { before = record { before = c.before; if-introduces = w.if-introduces }; is_named = w.is_named })) ∙ w.if-is_named.false)
+    (λ w. not_first _ _ (told c.before w.if-introduces.false))
+    c.if-introduces.branch-raw in
     searched_miss (sought t.before.before) 0 _ _ t.loop-j.invariant (here t.before.before) miss
 
 returns-2 : tie.Need-returns invariant-loop decreases-loop

@@ -190,7 +190,7 @@ slice-aggregate-leads-to c = sym (length-take-le _ _ (end_in c.before.before.bef
 
 array-share-prefix-names : tie.Need-slice_bounds-names-end-then-is_name_need invariant-loop decreases-loop
 array-share-prefix-names c =
-    let a = c in simp length-append (omega (arith, a.collect-names.ensures.counted, count_is a.before.before.before.before.before.before.before.before.before.before.before))
+    let a = c in simp length-append (omega (arith, a.collect_names.ensures.counted, count_is a.before.before.before.before.before.before.before.before.before.before.before))
 
 slice-aggregate-leads-to-2 : tie.Need-slice_bounds-leads_to-end-then-is_name_need-2 invariant-loop decreases-loop
 slice-aggregate-leads-to-2 c = sym (length-take-le _ _ (array-share-prefix-names c.before))

@@ -26,17 +26,17 @@ returns c = search rules
 returns-2 : tie.Need-returns-in-Integer
 returns-2 c =
     let number = c in
-    rw (c.in-Integer.is, passed_on number.number_at-value.type-inv, ← number.number_at-value.ensures)
+    rw (c.in-Integer.is, passed_on number.number_at-value.type_inv, ← number.number_at-value.ensures)
 
 returns-3 : tie.Need-returns-in-Unsigned
 returns-3 c =
     let number = c in
-    rw (c.in-Unsigned.is, passed_on number.number_at-value.type-inv, ← number.number_at-value.ensures)
+    rw (c.in-Unsigned.is, passed_on number.number_at-value.type_inv, ← number.number_at-value.ensures)
 
 returns-4 : tie.Need-returns-in-Sizes
 returns-4 c =
     let number = c in
-    rw (c.in-Sizes.is, passed_on number.number_at-value.type-inv, ← number.number_at-value.ensures)
+    rw (c.in-Sizes.is, passed_on number.number_at-value.type_inv, ← number.number_at-value.ensures)
 
 pub is_outside_spec : {M : Type 1} → statement M
 is_outside_spec =

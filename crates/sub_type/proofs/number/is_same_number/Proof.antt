@@ -13,7 +13,7 @@ number-at-requires-2 c κs = search rules
 
 returns : tie.Need-returns
 returns c =
-    rw (passed_on c.number_at-a.type-inv, passed_on c.number_at-b.type-inv, ← c.number_at-a.ensures, ← c.number_at-b.ensures)
+    rw (passed_on c.number_at-a.type_inv, passed_on c.number_at-b.type_inv, ← c.number_at-a.ensures, ← c.number_at-b.ensures)
     (same_neither c.number_at-a.result c.number_at-b.result)
 
 pub is_same_number_spec : {M : Type 1} → statement M

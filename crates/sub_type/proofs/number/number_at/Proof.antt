@@ -15,7 +15,7 @@ use Rattle.sub_type.proofs.number.number_at.Tie as tie
 
 -- the magnitude has 32 bits
 small : (c : tie.After-word_at-magnitude) → c.word_at-magnitude.result < 4294967296
-small c = omega (arith, c.word_at-magnitude.type-inv)
+small c = omega (arith, c.word_at-magnitude.type_inv)
 
 word-at-requires : tie.Need-word_at-magnitude-requires
 word-at-requires c κs = search rules
@@ -35,7 +35,7 @@ returns : tie.Need-returns-then-class_at-eq-NEGATIVE
 returns c =
     let word = c in
     rw (← c.class_at.ensures, ← word.word_at-magnitude.ensures)
-    (simp (eq-eqb _ _ c.if-class_at-eq-NEGATIVE.true) (to_z-of_z (sub-result c) ∙ negated word.word_at-magnitude.result (small word.before.before)))
+    (simp (eq-eqb _ _ c.if-class_at-eq-NEGATIVE.true) (to_z-of_z {w = w64} (sub-result c) ∙ negated word.word_at-magnitude.result (small word.before.before)))
 
 returns-2 : tie.Need-returns
 returns-2 c =
