@@ -30,7 +30,7 @@ start_of o = o.before.before.before.before.before.before.before.before
 
 -- where all definitions are known to be collected
 abbrev Known : Type 0
-Known = tie.In-All-2
+Known = tie.In-All
 
 abbrev collected_by : Known → Outlined
 collected_by k = k.before.before.before
@@ -56,20 +56,20 @@ enum-known-collected-2 : tie.Need-enum_known-collected-in-All-1
 enum-known-collected-2 c = search rules
 
 mul-judge-names : tie.Need-overflow_mul-count
-mul-judge-names c = omega (arith, (all c.before.before).1)
+mul-judge-names c = omega (arith, (all c.before).1)
 
 slice-reshare-prefix-judge-names : tie.Need-slice_bounds-judge_names-end
-slice-reshare-prefix-judge-names c = room c.before.before
+slice-reshare-prefix-judge-names c = room c.before
 
 slice-aggregate-judge-names : tie.Need-slice_bounds-judge_names-end-in-All
-slice-aggregate-judge-names c = sym (length-take-le _ _ (room c.before.before))
+slice-aggregate-judge-names c = sym (length-take-le _ _ (room c.before))
 
 judge-names-requires : tie.Need-judge_names-requires
 judge-names-requires c κs =
     let k = c in
-    let s = start_of (collected_by k.before.before) in
+    let s = start_of (collected_by k.before) in
     let cs = classes_are _ _ _ _ s.requires.0 in
-    (s.requires.0, (s.requires.1.0, (rw (← cs) (all k.before.before).2, rw (all k.before.before).2 (omega (arith, (all k.before.before).0, (all k.before.before).1)))))
+    (s.requires.0, (s.requires.1.0, (rw (← cs) (all k.before).2, rw (all k.before).2 (omega (arith, (all k.before).0, (all k.before).1)))))
 
 answer-requires : tie.Need-answer-requires
 answer-requires c κs = search rules
@@ -97,15 +97,15 @@ returns-2 : tie.Need-returns-in-All
 returns-2 c =
     let n = c in
     let k = n in
-    let o = collected_by k.before.before.before.before.before.before in
+    let o = collected_by k.before.before.before.before.before in
     let s = start_of o in
     let ms = meanings_in s.args.text.now in
     let cs = classes_are _ _ _ _ s.requires.0 in
     let is = c.answer.ensures in
-    let few = subst (λ (l : List ℕ). length (definitions l) ≤ most_definitions) cs (omega (arith, (all k.before.before.before.before.before.before).0, (all k.before.before.before.before.before.before).1, outline_counted s.args.classes.now)) in
-    let counted = subst (λ (l : List ℕ). k.collected2.given.0.0 ≡ length (outline l)) cs (all k.before.before.before.before.before.before).0 in
-    let held = subst (λ (l : List ℕ). definitions_in (take (k.collected2.given.0.0 * width) o.collect_outline-collected.new.definitions) ≡ outline l) cs (all k.before.before.before.before.before.before).2 in
-    (n.judge_names.ensures.0, (o.collect_outline-collected.ensures.0, (ap judgement is ∙ answer_judged _ _ _ n.judge_names.ensures.1.0 few, subst (λ (r : Names). Holds (meanings_in s.args.text.now) r n.judge_names.new.values o.collect_outline-collected.new.definitions) (sym is) (answer_holds (meanings_in s.args.text.now) k.collected2.given.0.0 n.judge_names.result n.judge_names.new.values o.collect_outline-collected.new.definitions n.judge_names.ensures.1.1 counted held))))
+    let few = subst (λ (l : List ℕ). length (definitions l) ≤ most_definitions) cs (omega (arith, (all k.before.before.before.before.before).0, (all k.before.before.before.before.before).1, outline_counted s.args.classes.now)) in
+    let counted = subst (λ (l : List ℕ). k.in-All.count ≡ length (outline l)) cs (all k.before.before.before.before.before).0 in
+    let held = subst (λ (l : List ℕ). definitions_in (take (k.in-All.count * width) o.collect_outline-collected.new.definitions) ≡ outline l) cs (all k.before.before.before.before.before).2 in
+    (n.judge_names.ensures.0, (o.collect_outline-collected.ensures.0, (ap judgement is ∙ answer_judged _ _ _ n.judge_names.ensures.1.0 few, subst (λ (r : Names). Holds (meanings_in s.args.text.now) r n.judge_names.new.values o.collect_outline-collected.new.definitions) (sym is) (answer_holds (meanings_in s.args.text.now) k.in-All.count n.judge_names.result n.judge_names.new.values o.collect_outline-collected.new.definitions n.judge_names.ensures.1.1 counted held))))
 
 pub read_names_spec : {M : Type 1} → statement M
 read_names_spec =

@@ -16,7 +16,7 @@ abbrev decreases-loop : tie.decreases-loop-j
 decreases-loop records₀ words j₀ records j = record_width - j
 
 -- there is room for all words
-room : (s : tie.Start invariant-loop decreases-loop) → length s.args.t2 ≤ length s.args.records.now
+room : (s : tie.Start invariant-loop decreases-loop) → length s.args.words ≤ length s.args.records.now
 room s = omega (arith, s.requires.0, s.requires.1)
 
 -- a store leaves the buffer as long as it was

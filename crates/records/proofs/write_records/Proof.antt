@@ -83,12 +83,16 @@ record-of-requires c κs =
     subst Fits (sym c.definition_at.ensures) ((start t.before).requires.1 t.loop-k.k (omega (arith, t.loop-k-test.true, t.count-count.ensures)))
 
 mul-rest : tie.Need-offset_bounds-records-at invariant-loop decreases-loop
-mul-rest c = omega (arith, at_most c.before.before, (start c.before.before).good.1.1.1.0)
+mul-rest c = omega (arith, at_most c.before.before, (start c.before.before).well_formed.1.1.1.0)
 
 sub-rest : tie.Need-slice_bounds-rest-count invariant-loop decreases-loop
 sub-rest c = inside c.before.before
 
+part-rest-start : tie.Need-slice_bounds-rest-start invariant-loop decreases-loop
+part-rest-start c = inside c.before.before
 
+part-rest-end : tie.Need-slice_bounds-rest-end invariant-loop decreases-loop
+part-rest-end c = search rules
 
 write-record-requires : tie.Need-write_record-written-requires invariant-loop decreases-loop
 write-record-requires c κs =
@@ -101,7 +105,7 @@ write-record-requires c κs =
 add_at : tie.Need-overflow_add-at invariant-loop decreases-loop
 add_at c =
     let t = turn c in
-    omega (arith, (next c).counted, room t, (start t).good.1.1.1.0)
+    omega (arith, (next c).counted, room t, (start t).well_formed.1.1.1.0)
 
 add-k : tie.Need-overflow_add-k invariant-loop decreases-loop
 add-k c = omega (arith, (turn c).loop-k-test.true)
@@ -143,6 +147,8 @@ write_records_spec =
     record-of-requires
     mul-rest
     sub-rest
+    part-rest-start
+    part-rest-end
     write-record-requires
     add_at
     add-k
