@@ -36,7 +36,7 @@ rises : (c : tie.Else-next-eq0 invariant-loop decreases-loop)
 rises c =
     let b = c in
     let t = b in
-    placing_rises _ _ _ _ _ (start_of t.before.before.before.before.before.before).requires.0 _ (alike (start_of t.before.before.before.before.before.before)) _ _ _ t.loop-at.invariant t.loop-at-test.true b.bit.result _ c.child-next.ensures c.if-next-eq0.false
+    placing_rises _ _ _ _ _ (start_of t.before.before.before.before.before.before).requires.0 _ (alike (start_of t.before.before.before.before.before.before)) _ _ _ t.loop-at.invariant t.loop-at-test.true b.bit-side.result _ c.child-next.ensures c.if-next-eq0.false
 
 add-word-at : tie.Need-overflow_add-token invariant-loop decreases-loop
 add-word-at c = search rules
@@ -101,7 +101,7 @@ returns-2 c =
     let b = n in
     let t = b in
     let s = start_of t.before.before.before.before.before.before.before.before.before.before in
-    (h.hang.ensures.0 ∙ ap length t.loop-at.invariant.kept, placing_hung _ _ _ _ _ s.requires.0 _ (alike s) _ _ _ t.loop-at.invariant t.loop-at-test.true (sym b.has_number.ensures ∙ b.if-has_number.false) _ (b.bit.ensures ∙ ap (λ (m : ℕ). bit m t.loop-at.d) t.word_at-magnitude.ensures) (sym n.child-next.ensures ∙ h.if-next-eq0.true) s.requires.1.1 _ h.hang.ensures.1)
+    (h.hang.ensures.0 ∙ ap length t.loop-at.invariant.kept, placing_hung _ _ _ _ _ s.requires.0 _ (alike s) _ _ _ t.loop-at.invariant t.loop-at-test.true (sym b.has_number.ensures ∙ b.if-has_number.false) _ (b.bit-side.ensures ∙ ap (λ (m : ℕ). bit m t.loop-at.d) t.word_at-magnitude.ensures) (sym n.child-next.ensures ∙ h.if-next-eq0.true) s.requires.1.1 _ h.hang.ensures.1)
 
 add_at : tie.Need-overflow_add-at invariant-loop decreases-loop
 add_at c =
@@ -123,7 +123,7 @@ loop-again c =
     let b = c in
     let t = b in
     let s = start_of t.before.before.before.before.before.before in
-    placing_next _ _ _ _ _ s.requires.0 _ (alike s) _ _ _ t.loop-at.invariant t.loop-at-test.true (sym b.has_number.ensures ∙ b.if-has_number.false) _ (b.bit.ensures ∙ ap (λ (m : ℕ). bit m t.loop-at.d) t.word_at-magnitude.ensures) _ c.child-next.ensures c.if-next-eq0.false
+    placing_next _ _ _ _ _ s.requires.0 _ (alike s) _ _ _ t.loop-at.invariant t.loop-at-test.true (sym b.has_number.ensures ∙ b.if-has_number.false) _ (b.bit-side.ensures ∙ ap (λ (m : ℕ). bit m t.loop-at.d) t.word_at-magnitude.ensures) _ c.child-next.ensures c.if-next-eq0.false
 
 same-length-3 : tie.Need-shape_of-links invariant-loop decreases-loop
 same-length-3 c = ap length c.loop-at.invariant.kept

@@ -36,8 +36,8 @@ untaken true b e h = e
 untaken false b e h = absurd (true_false h refl)
 
 free : (e : tie.Else-not-is_free) → (let p = e in let s = start p.before.before.before.before.before.before in
-    p.place_of.result < s.args.count
-    → is_below s.args.classes.now s.args.values.now s.args.span.to (range_at s.args.order.now p.place_of.result) ≡ true)
+    p.place_of-at.result < s.args.count
+    → is_below s.args.classes.now s.args.values.now s.args.span.to (range_at s.args.order.now p.place_of-at.result) ≡ true)
 free e h = untaken _ _ (sym e.is_free.ensures ∙ e.if-not-is_free.false) (lt-ltb _ _ h)
 
 starts-range-requires : tie.Need-starts_range-requires
@@ -74,13 +74,13 @@ returns-3 c =
     let b = p in
     let s = start b.before.before.before.before.before.before in
     let t = taken _ _ (sym f.is_free.ensures ∙ c.if-not-is_free.true) in
-    (refl, gathered_shared _ _ _ _ _ _ s.requires.0 (starts_here b.before.before.before.before) (forward p.before.before) _ p.place_of.ensures (ltb-true _ _ t.0) t.1)
+    (refl, gathered_shared _ _ _ _ _ _ s.requires.0 (starts_here b.before.before.before.before) (forward p.before.before) _ p.place_of-at.ensures (ltb-true _ _ t.0) t.1)
 
 insert-requires : tie.Need-insert-requires
 insert-requires c κs =
     let p = c in
     let s = start p.before.before.before.before.before.before.before in
-    (p.place_of.ensures.inside, s.requires.1.0, s.requires.1.1)
+    (p.place_of-at.ensures.inside, s.requires.1.0, s.requires.1.1)
 
 add-t18 : tie.Need-overflow_add-result
 add-t18 c =
@@ -97,8 +97,8 @@ returns-4 c =
     let p = e in
     let b = p in
     let s = start b.before.before.before.before.before.before.before.before.before.before in
-    let kept = gathered_kept _ _ _ _ _ _ s.requires.0 (starts_here b.before.before.before.before.before.before.before.before) (forward p.before.before.before.before.before.before) _ p.place_of.ensures (free e.before.before.before.before) in
-    let more = gathered_more _ _ _ _ _ _ s.requires.0 (starts_here b.before.before.before.before.before.before.before.before) (forward p.before.before.before.before.before.before) _ p.place_of.ensures (free e.before.before.before.before) s.requires.1.1 _ i.insert.ensures.1 in
+    let kept = gathered_kept _ _ _ _ _ _ s.requires.0 (starts_here b.before.before.before.before.before.before.before.before) (forward p.before.before.before.before.before.before) _ p.place_of-at.ensures (free e.before.before.before.before) in
+    let more = gathered_more _ _ _ _ _ _ s.requires.0 (starts_here b.before.before.before.before.before.before.before.before) (forward p.before.before.before.before.before.before) _ p.place_of-at.ensures (free e.before.before.before.before) s.requires.1.1 _ i.insert.ensures.1 in
     (i.insert.ensures.0, (kept, more))
 
 pub admit_spec : {M : Type 1} → statement M

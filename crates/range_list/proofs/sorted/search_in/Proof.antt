@@ -57,7 +57,7 @@ returns c =
     sym (first_hit _ _ _ t.loop-token-test.true (rw c.in_default.is at a.admit-admission.ensures.1)) ∙ t.loop-token.invariant.2
 
 add-token : tie.Need-overflow_add-token invariant-loop decreases-loop
-add-token c = omega (arith, (inside c).loop-token-test.true, (start (inside c).before.before).requires.0)
+add-token c = omega (arith, (inside c).loop-token-test.true, (start (inside c).before).requires.0)
 
 loop-less : tie.Need-loop-token-smaller invariant-loop decreases-loop
 loop-less c = omega (arith, (inside c).loop-token-test.true)
