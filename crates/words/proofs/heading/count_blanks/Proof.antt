@@ -4,7 +4,6 @@ use Prim.Native.Nat.{◌+◌, ◌-◌, ◌≤◌}
 use mathlib.Core.Path.{◌≡◌, sym, ◌∙◌}
 use native.Mathlib.Omega.{arith}
 use borrow.Author.Rules.{rules}
-use borrow.Author.Tests.{not-true, not-false}
 use lib.ListN.{length, drop}
 use Rattle.words.specs.Octets.{blanks}
 use Rattle.words.proofs.FrontLaws.{blank_passed, blanks_ended, all_blank}
@@ -28,10 +27,9 @@ is-blank-requires c κs = search rules
 
 returns : tie.Need-returns-then-not-is_blank invariant-loop decreases-loop
 returns c =
-    let here = c in
-    let word = here.args.word.now in
+    let word = c.args.word.now in
     let is = sym c.is_blank.ensures ∙ c.if-not-is_blank.true in
-    (blanks_ended word here.loop-i.i _ (omega arith) is here.loop-i.invariant.1, search rules)
+    (blanks_ended word c.loop-i.i _ (omega arith) is c.loop-i.invariant.1, search rules)
 
 add-i : tie.Need-overflow_add-i invariant-loop decreases-loop
 add-i c = search rules
@@ -41,16 +39,14 @@ loop-less c = search rules
 
 loop-again : tie.Need-loop-i-preserved invariant-loop decreases-loop
 loop-again c =
-    let here = c in
-    let word = here.args.word.now in
+    let word = c.args.word.now in
     let is = sym c.is_blank.ensures ∙ c.if-not-is_blank.false in
-    (search rules, blank_passed word here.loop-i.i _ (omega arith) is here.loop-i.invariant.1)
+    (search rules, blank_passed word c.loop-i.i _ (omega arith) is c.loop-i.invariant.1)
 
 returns-2 : tie.Need-returns invariant-loop decreases-loop
 returns-2 c =
-    let here = c in
-    let word = here.args.word.now in
-    (all_blank word here.loop-i.i _ (omega arith) (omega arith) here.loop-i.invariant.1, search rules)
+    let word = c.args.word.now in
+    (all_blank word c.loop-i.i _ (omega arith) (omega arith) c.loop-i.invariant.1, search rules)
 
 pub count_blanks_spec : {M : Type 1} → statement M
 count_blanks_spec =

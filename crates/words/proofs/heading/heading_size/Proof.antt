@@ -8,7 +8,6 @@ use Rattle.words.proofs.FrontLaws.{starts_fits}
 use Rattle.words.proofs.heading.heading_size.Statement.{statement}
 use Rattle.words.proofs.heading.heading_size.Tie as tie
 
-
 starts-with-requires : tie.Need-starts_with-requires
 starts-with-requires c κs = search rules
 
@@ -19,18 +18,15 @@ returns c =
     let fits = starts_fits _ _ is in
     (simp is, omega arith)
 
-
 starts-with-requires-2 : tie.Need-starts_with-requires-2
 starts-with-requires-2 c κs = search rules
 
 returns-2 : tie.Need-returns-then-starts_with-2
 unfolding heading
 returns-2 c =
-    let other = c in
     let is = sym c.starts_with-2.ensures ∙ c.if-starts_with-2.true in
     let fits = starts_fits _ _ is in
-    (simp (sym other.starts_with.ensures ∙ other.if-starts_with.false, is), omega arith)
-
+    (simp (sym c.starts_with.ensures ∙ c.if-starts_with.false, is), omega arith)
 
 starts-with-requires-3 : tie.Need-starts_with-requires-3
 starts-with-requires-3 c κs = search rules
@@ -38,26 +34,22 @@ starts-with-requires-3 c κs = search rules
 returns-3 : tie.Need-returns-then-starts_with-3
 unfolding heading
 returns-3 c =
-    let other = c in
-    let first = other in
     let is = sym c.starts_with-3.ensures ∙ c.if-starts_with-3.true in
     let fits = starts_fits _ _ is in (
-      simp (sym first.starts_with.ensures ∙ first.if-starts_with.false, sym other.starts_with-2.ensures ∙ other.if-starts_with-2.false, is),
+      simp (sym c.starts_with.ensures ∙ c.if-starts_with.false, sym c.starts_with-2.ensures ∙ c.if-starts_with-2.false, is),
       omega arith,
     )
 
 returns-4 : tie.Need-returns
 unfolding heading
-returns-4 c =
-    let other = c in
-    let first = other in (
-      simp (
-        sym first.starts_with.ensures ∙ first.if-starts_with.false,
-        sym other.starts_with-2.ensures ∙ other.if-starts_with-2.false,
-        sym c.starts_with-3.ensures ∙ c.if-starts_with-3.false,
-      ),
-      omega arith,
-    )
+returns-4 c = (
+  simp (
+    sym c.starts_with.ensures ∙ c.if-starts_with.false,
+    sym c.starts_with-2.ensures ∙ c.if-starts_with-2.false,
+    sym c.starts_with-3.ensures ∙ c.if-starts_with-3.false,
+  ),
+  omega arith,
+)
 
 pub heading_size_spec : {M : Type 1} → statement M
 heading_size_spec =

@@ -22,9 +22,8 @@ loop-holds c = search rules
 
 returns : tie.Need-returns-then-word-i invariant-loop decreases-loop
 returns c =
-    let here = c in
-    let word = here.args.word.now in
-    sym (starts_short word here.args.bytes.now here.loop-i.i (omega arith) (omega arith)) ∙ here.loop-i.invariant.1
+    let word = c.args.word.now in
+    sym (starts_short word c.args.bytes.now c.loop-i.i (omega arith) (omega arith)) ∙ c.loop-i.invariant.1
 
 shared-slice-read-if2 : tie.Need-bounds-word-i invariant-loop decreases-loop
 shared-slice-read-if2 c = search rules
@@ -34,12 +33,11 @@ shared-slice-read-if2-2 c = search rules
 
 returns-2 : tie.Need-returns-then-word-i-2 invariant-loop decreases-loop
 returns-2 c =
-    let here = c in
-    let word = here.args.word.now in
-    let bytes = here.args.bytes.now in
-    let step = starts_here word bytes here.loop-i.i (omega arith) (omega arith) in
-    let other = ne_eqb (get_or bytes here.loop-i.i 0) (get_or word here.loop-i.i 0) (λ e. c.if-word-i-2.true (sym e)) in
-    sym (simp other at step) ∙ here.loop-i.invariant.1
+    let word = c.args.word.now in
+    let bytes = c.args.bytes.now in
+    let step = starts_here word bytes c.loop-i.i (omega arith) (omega arith) in
+    let other = ne_eqb (get_or bytes c.loop-i.i 0) (get_or word c.loop-i.i 0) (λ e. c.if-word-i-2.true (sym e)) in
+    sym (simp other at step) ∙ c.loop-i.invariant.1
 
 add-i : tie.Need-overflow_add-i invariant-loop decreases-loop
 add-i c = search rules
@@ -49,18 +47,16 @@ loop-less c = search rules
 
 loop-again : tie.Need-loop-i-preserved invariant-loop decreases-loop
 loop-again c =
-    let here = c in
-    let word = here.args.word.now in
-    let bytes = here.args.bytes.now in
-    let step = starts_here word bytes here.loop-i.i (omega arith) (omega arith) in
-    let same = eq-eqb (get_or bytes here.loop-i.i 0) (get_or word here.loop-i.i 0) (sym c.if-word-i-2.false) in
-    (search rules, sym (simp same at step) ∙ here.loop-i.invariant.1)
+    let word = c.args.word.now in
+    let bytes = c.args.bytes.now in
+    let step = starts_here word bytes c.loop-i.i (omega arith) (omega arith) in
+    let same = eq-eqb (get_or bytes c.loop-i.i 0) (get_or word c.loop-i.i 0) (sym c.if-word-i-2.false) in
+    (search rules, sym (simp same at step) ∙ c.loop-i.invariant.1)
 
 returns-3 : tie.Need-returns invariant-loop decreases-loop
 returns-3 c =
-    let here = c in
-    let word = here.args.word.now in
-    sym (starts_whole word here.args.bytes.now here.loop-i.i (omega arith) (omega arith)) ∙ here.loop-i.invariant.1
+    let word = c.args.word.now in
+    sym (starts_whole word c.args.bytes.now c.loop-i.i (omega arith) (omega arith)) ∙ c.loop-i.invariant.1
 
 pub starts_with_spec : {M : Type 1} → statement M
 starts_with_spec =

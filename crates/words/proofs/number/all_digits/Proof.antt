@@ -23,16 +23,14 @@ shared-slice-read-if1 c = search rules
 
 returns : tie.Need-returns-then-word-i-lt48 invariant-loop decreases-loop
 returns c =
-    let at = c in
-    sym (at.loop-i.invariant.1 ∙ below_digits at.args.word.now at.loop-i.i (omega arith) c.if-word-i-lt48.true)
+    sym (c.loop-i.invariant.1 ∙ below_digits c.args.word.now c.loop-i.i (omega arith) c.if-word-i-lt48.true)
 
 shared-slice-read-if2 : tie.Need-bounds-word-i-in-loop-i invariant-loop decreases-loop
 shared-slice-read-if2 c = search rules
 
 returns-2 : tie.Need-returns-then-word-i-gt57 invariant-loop decreases-loop
 returns-2 c =
-    let at = c in
-    sym (at.loop-i.invariant.1 ∙ above_digits at.args.word.now at.loop-i.i (omega arith) c.if-word-i-gt57.true)
+    sym (c.loop-i.invariant.1 ∙ above_digits c.args.word.now c.loop-i.i (omega arith) c.if-word-i-gt57.true)
 
 add-i : tie.Need-overflow_add-i invariant-loop decreases-loop
 add-i c = search rules
@@ -42,14 +40,12 @@ loop-less c = search rules
 
 loop-again : tie.Need-loop-i-preserved invariant-loop decreases-loop
 loop-again c =
-    let at = c in
-    let word = at.args.word.now in
-    (omega arith, at.loop-i.invariant.1 ∙ past_digit word at.loop-i.i (omega arith) (omega arith) (omega arith))
+    let word = c.args.word.now in
+    (omega arith, c.loop-i.invariant.1 ∙ past_digit word c.loop-i.i (omega arith) (omega arith) (omega arith))
 
 returns-3 : tie.Need-returns invariant-loop decreases-loop
 returns-3 c =
-    let at = c in
-    sym (at.loop-i.invariant.1 ∙ digits_ended at.args.word.now at.loop-i.i (omega arith) (omega arith))
+    sym (c.loop-i.invariant.1 ∙ digits_ended c.args.word.now c.loop-i.i (omega arith) (omega arith))
 
 pub all_digits_spec : {M : Type 1} → statement M
 all_digits_spec =

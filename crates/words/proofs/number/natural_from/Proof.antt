@@ -2,7 +2,6 @@
 use Rattle.words.proofs.Digits.{empty_is_not, others_are_not, small_digits, large_digits}
 use mathlib.Core.Path.{sym, ◌∙◌}
 use native.Mathlib.Omega.{arith}
-use borrow.Author.Tests.{not-true, not-false}
 use lib.ListN.{length-drop}
 use borrow.Author.Rules.{rules}
 use Rattle.words.proofs.number.natural_from.Statement.{statement}
@@ -22,8 +21,7 @@ value-requires c κs = (c.requires, sym c.all_digits.ensures ∙ c.if-not-all_di
 
 returns-3 : tie.Need-returns-then-n-lt-LIMIT
 returns-3 c =
-    let tested = c in
-    let digits = sym tested.all_digits.ensures ∙ tested.if-not-all_digits.false in
+    let digits = sym c.all_digits.ensures ∙ c.if-not-all_digits.false in
     sym
     (small_digits _ _ (simp length-drop (omega arith)) digits
     c.value-n.ensures
@@ -31,8 +29,7 @@ returns-3 c =
 
 returns-4 : tie.Need-returns-else-n-lt-LIMIT
 returns-4 c =
-    let tested = c in
-    let digits = sym tested.all_digits.ensures ∙ tested.if-not-all_digits.false in
+    let digits = sym c.all_digits.ensures ∙ c.if-not-all_digits.false in
     sym
     (large_digits _ _ (simp length-drop (omega arith)) digits
     c.value-n.ensures

@@ -28,8 +28,7 @@ shared-slice-read-more c = search rules
 
 more-requires : tie.Need-more-n-requires invariant-loop decreases-loop
 more-requires c κs =
-    let at = c in
-    (omega arith, first_digit at.args.word.now at.loop-i.i (omega arith) at.loop-i.invariant.2)
+    (omega arith, first_digit c.args.word.now c.loop-i.i (omega arith) c.loop-i.invariant.2)
 
 add-i : tie.Need-overflow_add-i invariant-loop decreases-loop
 add-i c = search rules
@@ -39,19 +38,17 @@ loop-less c = search rules
 
 loop-again : tie.Need-loop-i-preserved invariant-loop decreases-loop
 loop-again c =
-    let at = c in
-    let word = at.args.word.now in (
+    let word = c.args.word.now in (
       omega (arith, c.more-n.ensures),
       omega arith,
-      rest_digits word at.loop-i.i (omega arith) at.loop-i.invariant.2,
-      rw c.more-n.ensures (one_more at.loop-i.n word at.loop-i.i (omega arith) ∙ at.loop-i.invariant.3),
+      rest_digits word c.loop-i.i (omega arith) c.loop-i.invariant.2,
+      rw c.more-n.ensures (one_more c.loop-i.n word c.loop-i.i (omega arith) ∙ c.loop-i.invariant.3),
     )
 
 returns : tie.Need-returns invariant-loop decreases-loop
 returns c =
-    let at = c in
-    let word = at.args.word.now in
-    omega (arith, at.loop-i.invariant.3, value_ended at.loop-i.n word at.loop-i.i (omega arith) (omega arith))
+    let word = c.args.word.now in
+    omega (arith, c.loop-i.invariant.3, value_ended c.loop-i.n word c.loop-i.i (omega arith) (omega arith))
 
 pub value_spec : {M : Type 1} → statement M
 value_spec =

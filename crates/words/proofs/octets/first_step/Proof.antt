@@ -24,9 +24,7 @@ mark-step-requires c κs = search rules
 returns-2 : tie.Need-returns-then-is_mark
 unfolding first_step
 returns-2 c =
-    let marked = c in
-    let other = marked in
-    simp (sym other.is_blank.ensures ∙ other.if-is_blank.false, sym marked.is_mark.ensures ∙ marked.if-is_mark.true, c.mark_step.ensures)
+    simp (sym c.is_blank.ensures ∙ c.if-is_blank.false, sym c.is_mark.ensures ∙ c.if-is_mark.true, c.mark_step.ensures)
 
 hex-digit-requires : tie.Need-hex_digit-value-requires
 hex-digit-requires c κs = search rules
@@ -37,26 +35,20 @@ digit-step-requires c κs = search rules
 returns-3 : tie.Need-returns-then-value-lt16
 unfolding first_step is_hex
 returns-3 c =
-    let read = c in
-    let no_mark = read in
-    let no-blank = no_mark in
-    let value = read.hex_digit-value.ensures in
+    let value = c.hex_digit-value.ensures in
     simp (
-      sym no-blank.is_blank.ensures ∙ no-blank.if-is_blank.false,
-      sym no_mark.is_mark.ensures ∙ no_mark.if-is_mark.false,
+      sym c.is_blank.ensures ∙ c.if-is_blank.false,
+      sym c.is_mark.ensures ∙ c.if-is_mark.false,
       rw value at (lt-ltb _ _ c.if-value-lt16.true),
     ) (rw value at c.digit_step.ensures)
 
 returns-4 : tie.Need-returns
 unfolding first_step is_hex
 returns-4 c =
-    let read = c in
-    let no_mark = read in
-    let no-blank = no_mark in
     simp (
-      sym no-blank.is_blank.ensures ∙ no-blank.if-is_blank.false,
-      sym no_mark.is_mark.ensures ∙ no_mark.if-is_mark.false,
-      rw read.hex_digit-value.ensures at (le-ltb _ _ c.if-value-lt16.false),
+      sym c.is_blank.ensures ∙ c.if-is_blank.false,
+      sym c.is_mark.ensures ∙ c.if-is_mark.false,
+      rw c.hex_digit-value.ensures at (le-ltb _ _ c.if-value-lt16.false),
     )
 
 pub first_step_spec : {M : Type 1} → statement M

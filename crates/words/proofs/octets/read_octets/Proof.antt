@@ -52,14 +52,12 @@ loop-less c = search rules
 
 loop-again : tie.Need-loop-i-preserved-in-Pass invariant-loop decreases-loop
 loop-again c =
-    let here = c in
-    let word = here.args.word.now in
-    let stepped = c in
-    let does = rw stepped.byte_at.ensures at (sym stepped.byte_step.ensures ∙ c.in-Pass.is) in (
+    let word = c.args.word.now in
+    let does = rw c.byte_at.ensures at (sym c.byte_step.ensures ∙ c.in-Pass.is) in (
       search rules,
       search rules,
       search rules,
-      passed word (take here.loop-i.n here.loop-i.out) _ here.loop-i.i here.loop-i.before (omega arith) here.loop-i.invariant.3 _ does,
+      passed word (take c.loop-i.n c.loop-i.out) _ c.loop-i.i c.loop-i.before (omega arith) c.loop-i.invariant.3 _ does,
     )
 
 enum-known-octet : tie.Need-enum_known-octet invariant-loop decreases-loop
@@ -79,15 +77,13 @@ loop-less-2 c = search rules
 
 loop-again-2 : tie.Need-loop-i-preserved invariant-loop decreases-loop
 loop-again-2 c =
-    let here = c in
-    let word = here.args.word.now in
-    let stepped = c in
-    let does = rw stepped.byte_at.ensures at (sym stepped.byte_step.ensures ∙ c.in-Put.is) in (
-      simp length-set here.loop-i.invariant.0,
+    let word = c.args.word.now in
+    let does = rw c.byte_at.ensures at (sym c.byte_step.ensures ∙ c.in-Put.is) in (
+      simp length-set c.loop-i.invariant.0,
       search rules,
       search rules,
-      rw (stored here.loop-i.out here.loop-i.n _ (omega arith))
-          (octet_put word (take here.loop-i.n here.loop-i.out) _ here.loop-i.i here.loop-i.before (omega arith) here.loop-i.invariant.3 _ _ does),
+      rw (stored c.loop-i.out c.loop-i.n _ (omega arith))
+          (octet_put word (take c.loop-i.n c.loop-i.out) _ c.loop-i.i c.loop-i.before (omega arith) c.loop-i.invariant.3 _ _ does),
     )
 
 enum_told : tie.Need-enum_told-1 invariant-loop decreases-loop
@@ -99,12 +95,10 @@ same_length c = search rules
 returns-2 : tie.Need-returns-in-Wrong invariant-loop decreases-loop
 unfolding to_say
 returns-2 c =
-    let here = c in
-    let word = here.args.word.now in
-    let fits = le-leb _ _ here.if-out-word.false in
-    let stepped = c in
-    let does = rw stepped.byte_at.ensures at (sym stepped.byte_step.ensures ∙ c.in-Wrong.is) in
-    (search rules, simp fits (no_octets word (take here.loop-i.n here.loop-i.out) _ here.loop-i.i here.loop-i.before (omega arith) here.loop-i.invariant.3 does))
+    let word = c.args.word.now in
+    let fits = le-leb _ _ c.if-out-word.false in
+    let does = rw c.byte_at.ensures at (sym c.byte_step.ensures ∙ c.in-Wrong.is) in
+    (search rules, simp fits (no_octets word (take c.loop-i.n c.loop-i.out) _ c.loop-i.i c.loop-i.before (omega arith) c.loop-i.invariant.3 does))
 
 same-length-2 : tie.Need-shape_of-out invariant-loop decreases-loop
 same-length-2 c = search rules
@@ -112,10 +106,9 @@ same-length-2 c = search rules
 returns-3 : tie.Need-returns invariant-loop decreases-loop
 unfolding to_say
 returns-3 c =
-    let here = c in
-    let word = here.args.word.now in
-    let fits = le-leb _ _ here.if-out-word.false in
-    (omega (arith, here.if-out-word.false), simp fits (all_read word _ _ here.loop-i.i here.loop-i.before (omega arith) (omega arith) here.loop-i.invariant.3))
+    let word = c.args.word.now in
+    let fits = le-leb _ _ c.if-out-word.false in
+    (omega (arith, c.if-out-word.false), simp fits (all_read word _ _ c.loop-i.i c.loop-i.before (omega arith) (omega arith) c.loop-i.invariant.3))
 
 pub read_octets_spec : {M : Type 1} → statement M
 read_octets_spec =

@@ -1,7 +1,7 @@
 -- `word_end` is right: what `position` finds in what is left of the line is the definition's place.
 -- Assumes nothing.
-use Rattle.std.proofs.Common.{◌≡◌, ℕ, ◌+◌, Bool, true, false, cond, List, eqb, length, refl, sym, ◌∙◌, tests, rules, arith}
-use Rattle.std.specs.Prelude.{Option, Some, None, nat_lt, slice_range}
+use Rattle.std.proofs.Common.{◌≡◌, ℕ, Bool, true, false, cond, List, eqb, length, refl, sym, ◌∙◌, tests, rules, arith}
+use Rattle.std.specs.Prelude.{Some, None, nat_lt, slice_range}
 use Rattle.std.specs.List.{position, position_or_len}
 use Rattle.std.proofs.Math.Seq.{length-slice}
 use Rattle.std.proofs.lemmas.Bool.Decides.{nat_tests}
