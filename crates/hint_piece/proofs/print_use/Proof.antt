@@ -58,7 +58,7 @@ same_length : tie.Need-shape_of-out-then-not-passes_on
 same_length c = search rules
 
 returns : tie.Need-returns-then-not-passes_on
-unfolding Rattle.hint_piece.specs.Use.use-text
+unfolding Rattle.hint_piece.specs.Use.use_text
 returns c =
     let d = c in
     simp (sym d.passes_on.ensures ∙ d.if-not-passes_on.true)
@@ -80,7 +80,7 @@ add-t15 c =
     omega (arith, longest_small a.format, start.requires)
 
 returns-2 : tie.Need-returns-in-At
-unfolding Rattle.hint_piece.specs.Use.use-text
+unfolding Rattle.hint_piece.specs.Use.use_text
 returns-2 c =
     let a = c.args in
     let search = c.first_fault.ensures in
@@ -98,7 +98,7 @@ same-length-2 : tie.Need-shape_of-out
 same-length-2 c = search rules
 
 returns-3 : tie.Need-returns
-unfolding Rattle.hint_piece.specs.Use.use-text
+unfolding Rattle.hint_piece.specs.Use.use_text
 returns-3 c =
     let d = c in
     let a = d.args in
