@@ -23,19 +23,11 @@ abbrev module_of : tie.Start → Module
 module_of s = named_in s.args.classes.now s.args.values.now s.args.definitions.now
 
 -- what was said of refusal 12, and of 13 and 14
-<<<<<<< HEAD
-rule_12 : (r : tie.After-judge-reached) → r.judge-reached.result ≡ judge_one (unreached (module_of (entered r)))
-rule_12 r = reached_said _ _ _ r.judge-reached.ensures
-
-rules_13_14 : (l : tie.After-judge-lengths) → l.judge-lengths.result ≡ judge (length_rules (module_of (entered (measured l).before.before.before.before)))
-rules_13_14 l = lengths_said _ _ _ _ (measured l).measure.ensures l.judge-lengths.ensures
-=======
 rule_12 : (r : tie.After-judge_reached-reached) → r.judge_reached-reached.result ≡ judge_one (unreached (module_of (entered r)))
 rule_12 r = reached_said _ _ _ r.judge_reached-reached.ensures
 
 rules_13_14 : (l : tie.After-judge_lengths-lengths) → l.judge_lengths-lengths.result ≡ judge (length_rules (module_of (entered (measured l).before.before.before)))
 rules_13_14 l = lengths_said _ _ _ _ (measured l).measure.ensures l.judge_lengths-lengths.ensures
->>>>>>> 792e8803d853bbcbbea56b0b6399ff99a2f2ead4
 
 judge-reached-requires : tie.Need-judge_reached-reached-requires
 judge-reached-requires c κs = search rules

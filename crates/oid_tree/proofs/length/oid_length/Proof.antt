@@ -30,13 +30,8 @@ definition-length-requires c κs =
     let s = r in
     let value = sym (v.has_value.ensures ∙ ap has_value r.definition_at.ensures) ∙ c.if-has_value.true in (
       s.requires.0,
-<<<<<<< HEAD
-      ap (λ (n : ℕ). reached_in (module_of s) n (name_of s.args.k.0)) c.count.ensures
-          ∙ s.requires.1 s.args.k.0 (value_inside (module_of s) s.args.k.0 value) value,
-=======
       ap (λ (n : ℕ). reached_in (module_of s.before.before.before.before.before.before.before) n (name_of s.args.k.0)) c.count.ensures
           ∙ s.requires.1 s.args.k.0 (value_inside (module_of s.before.before.before.before.before.before.before) s.args.k.0 value) value,
->>>>>>> 792e8803d853bbcbbea56b0b6399ff99a2f2ead4
     )
 
 returns : tie.Need-returns-then-has_value
@@ -44,17 +39,10 @@ returns c = c.definition_length.ensures
 
 returns-2 : tie.Need-returns
 returns-2 c =
-<<<<<<< HEAD
-    let v = c.before in
-    let r = v.before in
-    let s = r.before.before.before.before in
-    sym (ap length (oid_none (module_of s) s.args.k.0 (sym (v.has_value.ensures ∙ ap has_value r.definition-at.ensures) ∙ c.if1.false)))
-=======
     let v = c in
     let r = v in
     let s = r in
     sym (ap length (oid_none (module_of s.before.before.before.before.before.before) s.args.k.0 (sym (v.has_value.ensures ∙ ap has_value r.definition_at.ensures) ∙ c.if-has_value.false)))
->>>>>>> 792e8803d853bbcbbea56b0b6399ff99a2f2ead4
 
 pub oid_length_spec : {M : Type 1} → statement M
 oid_length_spec =

@@ -27,27 +27,6 @@ value : (h : tie.After-head_of-head) → has_value h.definition_at-own.result �
 value h = sym h.has_value.ensures ∙ h.if-not-has_value.false
 
 -- its heads can be followed
-<<<<<<< HEAD
-followed : (h : tie.After-head-of)
-    → (reaches (module_of (start h.before.before.before)) (start h.before.before.before).args.k.0 ≡ true)
-    × (h.before.before.before.definition-at.result.start.0 + length (resolved_oid (module_of (start h.before.before.before)) (start h.before.before.before).args.k.0) ≤ length (start h.before.before.before).args.numbers.now)
-followed h =
-    let r = h.before.before.before in
-    let s = start r in
-    let m = module_of s in (
-      own_reached m s.pre.0 s.pre.1.0 s.args.k _ r.definition-at.ensures (value h),
-      own_room m s.pre.0 s.pre.1.0 s.args.k _ r.definition-at.ensures (value h) _ s.pre.1.1.0,
-    )
-
--- and what is laid at its start is laid behind the numbers before it
-laid : (h : tie.After-head-of) (after : List ℕ)
-    → after ≡ laid_at h.before.before.before.definition-at.result.start.0 (resolved_oid (module_of (start h.before.before.before)) (start h.before.before.before).args.k.0) (start h.before.before.before).args.numbers.now
-    → after ≡ laid_at (first_number (module_of (start h.before.before.before)) (start h.before.before.before).args.k.0) (resolved_oid (module_of (start h.before.before.before)) (start h.before.before.before).args.k.0) (start h.before.before.before).args.numbers.now
-laid h after is =
-    let r = h.before.before.before in
-    let s = start r in
-    let m = module_of s in
-=======
 followed : (h : tie.After-head_of-head)
     → (reaches (module_of (start h.before.before.before)) (start h.before.before.before).args.k.0 ≡ true)
     × (h.definition_at-own.result.start.0 + length (resolved_oid (module_of (start h.before.before.before)) (start h.before.before.before).args.k.0) ≤ length (start h.before.before.before).args.numbers.now)
@@ -67,7 +46,6 @@ laid h after is =
     let r = h in
     let s = start r.before.before.before in
     let m = module_of s in
->>>>>>> 792e8803d853bbcbbea56b0b6399ff99a2f2ead4
     is
     ∙ ap (λ (n : ℕ). laid_at n (resolved_oid m s.args.k.0) s.args.numbers.now)
     (own_start m s.requires.0 s.requires.1.0 s.args.k _ r.definition_at-own.ensures (value h))
@@ -80,17 +58,10 @@ has-value-requires c κs = search rules
 
 returns : tie.Need-returns-then-not-has_value
 returns c =
-<<<<<<< HEAD
-    let v = c.before in
-    let r = v.before in
-    let s = start r in
-    laid_none (first_number (module_of s) s.args.k.0) (resolved_oid (module_of s) s.args.k.0) _ (oid_none (module_of s) s.args.k.0 (sym (v.has_value.ensures ∙ ap has_value r.definition-at.ensures) ∙ not-true _ c.if1.true))
-=======
     let v = c in
     let r = v in
     let s = start r.before.before in
     laid_none (first_number (module_of s) s.args.k.0) (resolved_oid (module_of s) s.args.k.0) _ (oid_none (module_of s) s.args.k.0 (sym (v.has_value.ensures ∙ ap has_value r.definition_at-own.ensures) ∙ c.if-not-has_value.true))
->>>>>>> 792e8803d853bbcbbea56b0b6399ff99a2f2ead4
 
 head-of-requires : tie.Need-head_of-head-requires
 head-of-requires c κs = search rules
@@ -114,16 +85,6 @@ definition-at-requires-2 c κs = search rules
 
 write-behind-requires : tie.Need-write_behind-requires
 write-behind-requires c κs =
-<<<<<<< HEAD
-    let t = c.before.before in
-    let e = t.before.before.before.before in
-    let h = e.before.before in
-    let r = h.before.before.before in
-    let s = start r in
-    let m = module_of s in (
-      head_apart m s.pre.0 s.pre.1.0 s.args.k _ r.definition-at.ensures (value h) _ h.head_of.ensures _ e.head.given.1 t.if2.true _ c.definition-at2.ensures,
-      parts_room m s.pre.0 s.pre.1.0 s.args.k _ r.definition-at.ensures (value h) _ h.head_of.ensures _ e.head.given.1 t.if2.true _ c.definition-at2.ensures _ s.pre.1.1.0,
-=======
     let t = c in
     let e = t in
     let h = e in
@@ -132,7 +93,6 @@ write-behind-requires c κs =
     let m = module_of s in (
       head_apart m s.requires.0 s.requires.1.0 s.args.k _ r.definition_at-own.ensures (value h.before.before.before.before.before.before) _ h.head_of-head.ensures _ e.in-Definition.is t.if-d-k.true _ c.definition_at.ensures,
       parts_room m s.requires.0 s.requires.1.0 s.args.k _ r.definition_at-own.ensures (value h.before.before.before.before.before.before) _ h.head_of-head.ensures _ e.in-Definition.is t.if-d-k.true _ c.definition_at.ensures _ s.requires.1.1.0,
->>>>>>> 792e8803d853bbcbbea56b0b6399ff99a2f2ead4
     )
 
 same-length-2 : tie.Need-shape_of-numbers-then-d-k
@@ -140,17 +100,6 @@ same-length-2 c = search rules
 
 returns-3 : tie.Need-returns-then-d-k
 returns-3 c =
-<<<<<<< HEAD
-    let w = c.before.before in
-    let d = w.before in
-    let t = d.before.before in
-    let e = t.before.before.before.before in
-    let h = e.before.before in
-    let r = h.before.before.before in
-    let s = start r in
-    w.write-behind.ensures
-    ∙ behind_laid (module_of s) s.pre.0 s.pre.1.0 s.args.k _ r.definition-at.ensures (value h) _ h.head_of.ensures _ e.head.given.1 t.if2.true _ d.definition-at2.ensures _ s.pre.1.1.1
-=======
     let w = c in
     let d = w in
     let t = d in
@@ -160,7 +109,6 @@ returns-3 c =
     let s = start r.before.before.before.before.before.before.before.before.before.before.before.before in
     w.write_behind.ensures
     ∙ behind_laid (module_of s) s.requires.0 s.requires.1.0 s.args.k _ r.definition_at-own.ensures (value h.before.before.before.before.before.before.before.before.before) _ h.head_of-head.ensures _ e.in-Definition.is t.if-d-k.true _ d.definition_at.ensures _ s.requires.1.1.1
->>>>>>> 792e8803d853bbcbbea56b0b6399ff99a2f2ead4
 
 write-followed-requires-2 : tie.Need-write_followed-requires-2
 write-followed-requires-2 c κs = followed c.before.before.before.before.before.before

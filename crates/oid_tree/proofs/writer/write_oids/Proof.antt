@@ -32,15 +32,9 @@ module_of s = named_in s.args.classes.now s.args.values.now s.args.definitions.n
 as_long : (l : tie.At-loop-k invariant-loop decreases-loop) → length l.loop-k.numbers ≡ length (start l).args.numbers.now
 as_long l =
     let s = start l in
-<<<<<<< HEAD
-    ap length l.loop.invariant.0
-    ∙ overlaid_length (numbers_before (module_of s) l.loop.k) s.args.numbers.now
-    (omega (arith, s.pre.1.1, before_grows (module_of s) l.loop.k (count_of (module_of s)) (omega (arith, l.loop.invariant.1, l.before.count.ensures))))
-=======
     ap length l.loop-k.invariant.0
     ∙ overlaid_length (numbers_before (module_of s) l.loop-k.k) s.args.numbers.now
     (omega (arith, s.requires.1.1, before_grows (module_of s) l.loop-k.k (count_of (module_of s)) (omega (arith, l.loop-k.invariant.1, l.count-c.ensures))))
->>>>>>> 792e8803d853bbcbbea56b0b6399ff99a2f2ead4
 
 count-requires : tie.Need-count-c-requires invariant-loop decreases-loop
 count-requires c κs = tt
@@ -57,13 +51,8 @@ write-oid-requires c κs =
       (
         s.requires.1.0,
         (
-<<<<<<< HEAD
-          omega (arith, as_long t.before, s.pre.1.1, before_grows (module_of s) (t.before.loop.k + 1) (count_of (module_of s)) (omega (arith, t.loop-test.true, t.before.before.count.ensures))),
-          overlaid_first (numbers_before (module_of s) t.before.loop.k) s.args.numbers.now _ t.before.loop.invariant.0,
-=======
           omega (arith, as_long t.before.before, s.requires.1.1, before_grows (module_of s) (t.loop-k.k + 1) (count_of (module_of s)) (omega (arith, t.loop-k-test.true, t.count-c.ensures))),
           overlaid_first (numbers_before (module_of s) t.loop-k.k) s.args.numbers.now _ t.loop-k.invariant.0,
->>>>>>> 792e8803d853bbcbbea56b0b6399ff99a2f2ead4
         ),
       ),
     )
@@ -76,21 +65,12 @@ loop-less c = omega (arith, c.loop-k-test.true)
 
 loop-again : tie.Need-loop-k-preserved invariant-loop decreases-loop
 loop-again c =
-<<<<<<< HEAD
-    let w = c.before.before in
-    let t = w.before.before in
-    let s = start t.before in (
-      w.write-oid.ensures ∙ overlaid_more (numbers_before (module_of s) t.before.loop.k) (resolved_oid (module_of s) t.before.loop.k) s.args.numbers.now _ _ t.before.loop.invariant.0 refl
-          ∙ ap (λ (l : List ℕ). overlaid l s.args.numbers.now) (sym (before_more (module_of s) t.before.loop.k)),
-      omega (arith, t.loop-test.true),
-=======
     let w = c in
     let t = w in
     let s = start t.before.before.before.before.before in (
       w.write_oid.ensures ∙ overlaid_more (numbers_before (module_of s) t.loop-k.k) (resolved_oid (module_of s) t.loop-k.k) s.args.numbers.now _ _ t.loop-k.invariant.0 refl
           ∙ ap (λ (l : List ℕ). overlaid l s.args.numbers.now) (sym (before_more (module_of s) t.loop-k.k)),
       omega (arith, t.loop-k-test.true),
->>>>>>> 792e8803d853bbcbbea56b0b6399ff99a2f2ead4
     )
 
 same_length : tie.Need-shape_of-numbers invariant-loop decreases-loop
@@ -98,17 +78,10 @@ same_length c = as_long c.before
 
 returns : tie.Need-returns invariant-loop decreases-loop
 returns c =
-<<<<<<< HEAD
-    let l = c.before in
-    let s = start l in
-    let all : l.loop.k ≡ count_of (module_of s) = omega (arith, c.loop-test.false, l.loop.invariant.1, l.before.count.ensures) in
-    l.loop.invariant.0 ∙ ap (λ (n : ℕ). overlaid (numbers_before (module_of s) n) s.args.numbers.now) all
-=======
     let l = c in
     let s = start l.before in
     let all : l.loop-k.k ≡ count_of (module_of s) = omega (arith, c.loop-k-test.false, l.loop-k.invariant.1, l.count-c.ensures) in
     l.loop-k.invariant.0 ∙ ap (λ (n : ℕ). overlaid (numbers_before (module_of s) n) s.args.numbers.now) all
->>>>>>> 792e8803d853bbcbbea56b0b6399ff99a2f2ead4
 
 pub write_oids_spec : {M : Type 1} → statement M
 write_oids_spec =
