@@ -10,9 +10,9 @@ pub definition_reaches-returns-then-left-eq0 : goal.definition_reaches-returns-t
 definition_reaches-returns-then-left-eq0 t c =
     none_left (named_in [] c.args.values.now c.args.definitions.now) c.args.d _ refl _ c.if-left-eq0.true
 
-pub definition_reaches_returns_then_not_has_value :
-    goal.definition_reaches_returns_then_not_has_value
-definition_reaches_returns_then_not_has_value t c =
+pub definition_reaches-returns-then-not-has_value :
+    goal.definition_reaches-returns-then-not-has_value
+definition_reaches-returns-then-not-has_value t c =
     no_head (named_in [] c.args.values.now c.args.definitions.now) c.args.d _ c.definition_at-own.ensures _
     (sym c.has_value.ensures ∙ c.if-not-has_value.true)
 

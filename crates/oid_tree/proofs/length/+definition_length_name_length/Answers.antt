@@ -27,9 +27,9 @@ definition_length-returns-then-left-eq0 t c =
     let m = named_in c.args.classes.now c.args.values.now c.args.definitions.now in
     absurd (reached_some m c.args.left c.args.d c.requires.reached _ c.definition_at-own.ensures c.if-left-eq0.true)
 
-pub definition_length_name_length_count_requires :
-    goal.definition_length_name_length_count_requires
-definition_length_name_length_count_requires t c =
+pub definition_length-name_length-count-requires :
+    goal.definition_length-name_length-count-requires
+definition_length-name_length-count-requires t c =
     let m = named_in c.args.classes.now c.args.values.now c.args.definitions.now in
     let reached = head_reached m c.args.left c.args.d c.requires.reached _ c.definition_at-own.ensures _ c.head_of-head.ensures in
     (omega (arith, c.decreases, c.if-left-eq0.false), (c.requires.countable, reached))
