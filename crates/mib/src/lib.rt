@@ -4,7 +4,7 @@
 
 ghost use Rattle.std.specs.Prelude.{◌≡◌, ◌∷◌, []};
 ghost use Rattle.reader.specs.Buffers.{number_of, place_of, answered_count};
-ghost use Rattle.hint.specs.Answer.{number_of as printed-number, place_of as printed-place, length_of as printed-length};
+ghost use Rattle.hint.specs.Answer.{number_of as printed_number, place_of as printed_place, length_of as printed_length};
 ghost use Rattle.row_status.specs.RowStatus.{outcome};
 ghost use Rattle.mib.specs.Raw.{laid, step_words, ReadRaw, OctetsRaw, IntegerRaw, SetRaw};
 
@@ -67,7 +67,7 @@ fn lay_reading(reading: Reading, answer: &mut [usize])
 
 // Lays number, place and length of a printer's answer.
 fn lay_printing(printing: Printing, answer: &mut [usize])
-    ensures { answer.new ≡ laid (printed-number printing ∷ printed-place printing ∷ printed-length printing ∷ [])
+    ensures { answer.new ≡ laid (printed_number printing ∷ printed_place printing ∷ printed_length printing ∷ [])
         answer.old }
 {
     let number = printing.number() as usize;
