@@ -50,7 +50,7 @@ module _ {A : Type 0} (class : A → ℕ) where
   tree_yield (r or s) =
       let f = tree_yield r in
       let g = tree_yield s in
-      λ d. elim d [ inl x ↦ f x | inr y ↦ g y ]
+      elim [ inl x ↦ f x | inr y ↦ g y ]
   tree_yield (repeated r s) = classed_steps r s (tree_yield r) (tree_yield s)
 
   -- tokens whose classes are two lists, one after the other, are two lists of tokens
@@ -131,8 +131,7 @@ module _ {A : Type 0} (class : A → ℕ) where
   tree_onto (r or s) =
       let f = tree_onto r in
       let g = tree_onto s in
-      λ t.
-      elim t [
+      elim [
         | inl u ↦ λ ts e.
             let x = f u ts e in
             record { derivation = inl x.derivation; its_tree = ap inl x.its_tree; its_tokens = x.its_tokens }

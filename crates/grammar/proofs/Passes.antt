@@ -90,7 +90,7 @@ yields_below n (r ⨾ s) h =
 yields_below n (r or s) h =
     let f = yields_below n r (and_left (below n r) (below n s) h) in
     let g = yields_below n s (and_right (below n r) (below n s) h) in
-    λ t. elim t [ inl x ↦ f x | inr y ↦ g y ]
+    elim [ inl x ↦ f x | inr y ↦ g y ]
 yields_below n (repeated r s) h =
     let f = yields_below n r (and_left (below n r) (below n s) h) in
     let g = yields_below n s (and_right (below n r) (below n s) h) in

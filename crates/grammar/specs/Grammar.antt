@@ -196,7 +196,7 @@ oid_line part = braced (lower ⨾ part ⨾ zero_or_more part)
 abbrev pub part : Rule
 part = token non_negative or lower ⨾ bracketed (token non_negative)
 
--- 13. status: current, deprecated, obsolete. access: not-accessible, accessible-for-notify, read_only, read-write, read-create.
+-- 13. status: current, deprecated, obsolete. access: not-accessible, accessible-for-notify, read-only, read-write, read-create.
 abbrev pub status : Rule
 status = token current or token deprecated or token obsolete
 

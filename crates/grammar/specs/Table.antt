@@ -157,7 +157,7 @@ transitions =
     ((bar, 60) ∷ (right_paren, 61) ∷ (dots, 79) ∷ []) ∷
     -- 69, after SIZE of sizes
     ((left_paren, 80) ∷ []) ∷
-    -- 70, after not-accessible or accessible-for-notify or read_only or read-write or read-create of smi-module
+    -- 70, after not-accessible or accessible-for-notify or read-only or read-write or read-create of smi-module
     ((STATUS, 81) ∷ []) ∷
     -- 71, after text of object-type
     ((MAX-ACCESS, 57) ∷ []) ∷

@@ -26,7 +26,7 @@ use Rattle.module_table.specs.Definition.{entry}
 use Rattle.outline.specs.Outline.{outlined, outlined_at, outline}
 use Rattle.outline.proofs.Outline.{outline_counted, outline_entry}
 use Rattle.module_tree.specs.Marked.{Marked, word, ◌then◌, many, mark, plain, unmarked, marks, size, parts}
-use Rattle.module_tree.specs.Grammar.{definition, start, the_end, imports, identity, def, definitions, module-tree}
+use Rattle.module_tree.specs.Grammar.{definition, start, the_end, imports, identity, def, module-tree}
 use Rattle.module_tree.specs.Module.{fields_of_part, definition_of_part, end_of_part, numbers_of_part}
 use Rattle.module_tree.specs.OfTree.{EachNumbered}
 use Rattle.module_tree.proofs.Leading.{stands_all}
@@ -52,7 +52,7 @@ abbrev body : Marked → Marked → Marked
 body first others = first then many others then mark start the_end (word END)
 
 module _ (brought first others : Marked) (quiet : T (absent start brought)) (bare : T (without definition brought))
-    (IsFirst-passes : T (lines_pass first)) (others-pass : T (lines_pass others))
+    (first-passes : T (lines_pass first)) (others-pass : T (lines_pass others))
     (cs : List ℕ) (t : Tree (unmarked (heading_then (brought then body first others))))
     (at : At cs (heading_then (brought then body first others)) 0 t) (long : length cs ≡ size (heading_then (brought then body first others)) t) where
   -- the parts, and where they stand
@@ -125,7 +125,7 @@ module _ (brought first others : Marked) (quiet : T (absent start brought)) (bar
 
     first_row : Row cs f make agree first first_at w.0
     first_row =
-        lines_row cs f make agree first IsFirst-passes first_at w.0
+        lines_row cs f make agree first first-passes first_at w.0
         (at_left cs first (many others then mark start the_end (word END)) first_at w at_body) (omega (arith, ends_last)) rest_row.opens
 
     pub all_definitions : map f (landmark.definitions cs) ≡ parts definition make (heading_then (brought then body first others)) 0 t

@@ -64,11 +64,9 @@ same_length c = search rules
 
 returns : tie.Need-returns-in_default
 returns c =
-    let read = c.before.before in
-    let start = read.before.before.before in
-    let a = start.args in
-    let h = ensured a.classes.now a.n a.class start.requires true derived
-    (ap verdict (sym c.enum_told-1.given.1) ∙ read.recognise.ensures.0) refl in
+    let a = c.args in
+    let h = ensured a.classes.now a.n a.class c.requires true derived
+    (ap verdict (sym c.in_default.is) ∙ c.recognise.ensures.0) refl in
     (h.0, (h.1, refl))
 
 same-length-2 : tie.Need-shape_of-classes
@@ -76,12 +74,10 @@ same-length-2 c = search rules
 
 returns-2 : tie.Need-returns
 returns-2 c =
-    let read = c.before.before.before in
-    let start = read.before.before.before in
-    let a = start.args in
-    let i = c.index-1.given.0.0.0 in
-    let h = ensured a.classes.now a.n a.class start.requires (ltb a.n i) (refused i)
-    (ap verdict (sym c.index-1.given.1) ∙ read.recognise.ensures.0) (ap (λ k. leb k i) (sym (add-one a.n))) in
+    let a = c.args in
+    let i = c.in-Refused.index.0 in
+    let h = ensured a.classes.now a.n a.class c.requires (ltb a.n i) (refused i)
+    (ap verdict (sym c.in-Refused.is) ∙ c.recognise.ensures.0) (ap (λ k. leb k i) (sym (add-one a.n))) in
     (h.0, (h.1, refl))
 
 pub allows_spec : {M : Type 1} → statement M
