@@ -14,7 +14,7 @@ use Rattle.grammar.specs.Derivation.{Derivation, tokens_of, tree_of, DerivesToke
 use Rattle.grammar.specs.Rule.{Rule, never, empty, token, ◌⨾◌, ◌or◌, repeated, last, step, Tree, yield}
 use Rattle.grammar.specs.Automaton.{run}
 use Rattle.grammar.specs.Grammar.{smi_module}
-use Rattle.grammar.specs.Table.{module-automaton}
+use Rattle.grammar.specs.Table.{module_automaton}
 use Rattle.terminal.specs.Terminal.{terminals}
 use Rattle.grammar.proofs.OneVerdict.{one_verdict}
 use Rattle.grammar.proofs.Part.{same_last, same_step, last_no_step}
@@ -267,9 +267,9 @@ module _ {A : Type 0} (class : A → ℕ) where
         }
 
 -- each class that the grammar names is a terminal
-module-below : T (below terminals smi_module)
+module_below : T (below terminals smi_module)
 unfolding smi_module
-module-below = tt
+module_below = tt
 
 module _ {A : Type 0} (class : A → ℕ) where
   -- no other verdict on a token sequence is right
@@ -280,12 +280,12 @@ module _ {A : Type 0} (class : A → ℕ) where
   -- where each terminal has a token
   module _ (inhabited : EachTerminal class) where
     pub carried : (ts : List A) (v : Verdict) → Answers smi_module (map class ts) v → AnswersTokens class smi_module ts v
-    carried = answers_tokens class terminals inhabited smi_module module-below
+    carried = answers_tokens class terminals inhabited smi_module module_below
 
     -- The theorem on the grammar, over every token sequence of any length.
-    pub token_theorem : (ts : List A) → AnswersTokens class smi_module ts (run module-automaton (map class ts))
-    token_theorem ts = carried ts (run module-automaton (map class ts)) (grammar_theorem (map class ts))
+    pub token_theorem : (ts : List A) → AnswersTokens class smi_module ts (run module_automaton (map class ts))
+    token_theorem ts = carried ts (run module_automaton (map class ts)) (grammar_theorem (map class ts))
 
     -- P5: the one right verdict on the sequence without tokens is that it is refused at token 0
     pub no_tokens_refused : (v : Verdict) → AnswersTokens class smi_module [] v → v ≡ refused 0
-    no_tokens_refused v a = one_token_verdict [] v (run module-automaton []) a (token_theorem []) ∙ no_tokens
+    no_tokens_refused v a = one_token_verdict [] v (run module_automaton []) a (token_theorem []) ∙ no_tokens

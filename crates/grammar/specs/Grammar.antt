@@ -60,8 +60,8 @@ macro_word =
     or token TEXTUAL-CONVENTION
 
 -- 1. module: Upper DEFINITIONS ::= BEGIN [IMPORTS group group* ;] identity def* END, then the end of the text
-abbrev pub module-line : (group identity def : Rule) → Rule
-module-line group identity def =
+abbrev pub module_line : (group identity def : Rule) → Rule
+module_line group identity def =
     Upper
     ⨾ token DEFINITIONS
     ⨾ token assign
@@ -235,4 +235,4 @@ abbrev pub identity : Rule
 identity = identity_line oid
 
 unfoldable pub smi_module : Rule
-smi_module = module-line group identity def
+smi_module = module_line group identity def

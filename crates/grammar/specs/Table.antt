@@ -289,7 +289,7 @@ transitions =
     ((bar, 119) ∷ (right_paren, 131) ∷ []) ∷
     []
 
-unfoldable pub module-automaton : Automaton
+unfoldable pub module_automaton : Automaton
 unfolding transitions
-module-automaton =
+module_automaton =
     record { states = 135; width = terminals; table = dense terminals transitions; start = 1; accepting = 30 }

@@ -14,7 +14,7 @@ use borrow.Author.Tests.{eq-eqb, ne_eqb}
 use Rattle.std.specs.List.{position_or_len}
 use Rattle.std.proofs.lemmas.List.Recursion.{is_position_or_len}
 use Rattle.words.proofs.Left.{left, ended}
-use Rattle.words.specs.Words.{words, in-front, place, word_end, between, Stands, Found}
+use Rattle.words.specs.Words.{words, in_front, place, word_end, between, Stands, Found}
 use Rattle.words.specs.declared.word.Word.{Word}
 use Rattle.words.specs.declared.word.Word.TheVariants.{At, Missing}
 
@@ -39,10 +39,10 @@ parted s (b ∷ line) inside = go (eqb b s) (parted s line) inside
 
     go : (t : Bool) → (k < length line → words s line ≡ take k line ∷ words s (drop (suc k) line))
         → index_after t k < suc (length line)
-        → cond t ([] ∷ words s line) (in-front b (words s line))
+        → cond t ([] ∷ words s line) (in_front b (words s line))
         ≡ take (index_after t k) (b ∷ line) ∷ words s (drop (suc (index_after t k)) (b ∷ line))
     go true behind inside = refl
-    go false behind inside = ap (in-front b) (behind (omega arith))
+    go false behind inside = ap (in_front b) (behind (omega arith))
 
 -- without one the line is one word
 whole : (s : ℕ) (line : List ℕ) → length line ≤ index_of s line → words s line ≡ line ∷ []
@@ -52,9 +52,9 @@ whole s (b ∷ line) none = go (eqb b s) (whole s line) none
   where
     go : (t : Bool) → (length line ≤ index_of s line → words s line ≡ line ∷ [])
         → suc (length line) ≤ index_after t (index_of s line)
-        → cond t ([] ∷ words s line) (in-front b (words s line)) ≡ (b ∷ line) ∷ []
+        → cond t ([] ∷ words s line) (in_front b (words s line)) ≡ (b ∷ line) ∷ []
     go true behind none = absurd (omega arith)
-    go false behind none = ap (in-front b) (behind (omega arith))
+    go false behind none = ap (in_front b) (behind (omega arith))
 
 -- a search that finds none ends at the line's end
 reach : (s : ℕ) (line : List ℕ) → index_of s line ≤ length line
@@ -181,13 +181,13 @@ unfolding words
 some s [] = omega arith
 some s (b ∷ line) = go (eqb b s) (words s line)
   where
-    go : (t : Bool) (all : List (List ℕ)) → 1 ≤ length (cond t ([] ∷ all) (in-front b all))
+    go : (t : Bool) (all : List (List ℕ)) → 1 ≤ length (cond t ([] ∷ all) (in_front b all))
     go true all = omega arith
     go false [] = omega arith
     go false (word ∷ all) = omega arith
 
 -- a byte in front leaves their number
-same_number : (b : ℕ) (all : List (List ℕ)) → 1 ≤ length all → length (in-front b all) ≡ length all
+same_number : (b : ℕ) (all : List (List ℕ)) → 1 ≤ length all → length (in_front b all) ≡ length all
 same_number b [] none = absurd (omega arith)
 same_number b (word ∷ all) one = refl
 

@@ -5,14 +5,14 @@ use Rattle.words.specs.declared.word.Word.{Word}
 use Rattle.words.specs.declared.word.Word.TheVariants.{At, Missing}
 
 -- a byte in front of the first of some words
-abbrev pub in-front : ℕ → List (List ℕ) → List (List ℕ)
-in-front b [] = (b ∷ []) ∷ []
-in-front b (word ∷ rest) = (b ∷ word) ∷ rest
+abbrev pub in_front : ℕ → List (List ℕ) → List (List ℕ)
+in_front b [] = (b ∷ []) ∷ []
+in_front b (word ∷ rest) = (b ∷ word) ∷ rest
 
 -- the words of a line: a separator ends a word, any other byte belongs to its word; an empty line has one word, an empty one
 unfoldable pub words : ℕ → List ℕ → List (List ℕ)
 words separator [] = [] ∷ []
-words separator (b ∷ line) = cond (eqb b separator) ([] ∷ words separator line) (in-front b (words separator line))
+words separator (b ∷ line) = cond (eqb b separator) ([] ∷ words separator line) (in_front b (words separator line))
 
 -- where the word that starts at an index ends: before the next separator, or where the line does
 abbrev pub word_end : ℕ → List ℕ → ℕ → ℕ

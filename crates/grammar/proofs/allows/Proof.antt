@@ -17,7 +17,7 @@ use Rattle.grammar.specs.Automaton.{run}
 use Rattle.grammar.specs.Grammar.{smi_module}
 use Rattle.grammar.specs.Reading.{verdict}
 use Rattle.grammar.specs.Rule.{yield}
-use Rattle.grammar.specs.Table.{module-automaton}
+use Rattle.grammar.specs.Table.{module_automaton}
 use Rattle.grammar.proofs.Begun.{begun}
 use Rattle.grammar.proofs.Theorem.{grammar_theorem}
 use Rattle.grammar.proofs.allows.Statement.{statement}
@@ -39,10 +39,10 @@ module _ (classes : List ℕ) (n x : ℕ) (room : n < length classes) where
   Ensured r = (r ≡ allowed ts) × ((r ≡ true) ↔ Begins smi_module ts)
 
   -- an answer that is the verdict's is ensured
-  ensured : (r : Bool) (v : Verdict) → v ≡ run module-automaton (take (n + 1) (set classes n x)) → r ≡ unspoiled (n + 1) v → Ensured r
+  ensured : (r : Bool) (v : Verdict) → v ≡ run module_automaton (take (n + 1) (set classes n x)) → r ≡ unspoiled (n + 1) v → Ensured r
   ensured r v e told =
-      let same : r ≡ allowed ts = told ∙ ap (λ k. unspoiled k v) (sym sized) ∙ ap (unspoiled (length ts)) (e ∙ ap (run module-automaton) asked) in
-      (same, subst (λ b. (b ≡ true) ↔ Begins smi_module ts) (sym same) (begun (yield smi_module) ts (run module-automaton ts) (grammar_theorem ts)))
+      let same : r ≡ allowed ts = told ∙ ap (λ k. unspoiled k v) (sym sized) ∙ ap (unspoiled (length ts)) (e ∙ ap (run module_automaton) asked) in
+      (same, subst (λ b. (b ≡ true) ↔ Begins smi_module ts) (sym same) (begun (yield smi_module) ts (run module_automaton ts) (grammar_theorem ts)))
 
 slice-write-classes : tie.Need-bounds-classes-n
 slice-write-classes c = search rules

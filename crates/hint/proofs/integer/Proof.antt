@@ -10,7 +10,7 @@ use mir.Syntax.{w64}
 use mir.Val.{to_z, of_z}
 use borrow.Author.Rules.{rules}
 use Rattle.hint_integer.specs.declared.Form.{Form}
-use Rattle.hint_integer.specs.Signed.{in-range, signed}
+use Rattle.hint_integer.specs.Signed.{in_range, signed}
 use Rattle.hint_integer.specs.Form.{Usable, is_bad, read_form}
 use Rattle.hint.specs.declared.Answer.TheVariants.{BadHint, OutOfRange}
 use Rattle.hint.specs.Answer.{Verdict, integer_verdict}
@@ -44,8 +44,8 @@ bad_known d = sym (d.is_bad.ensures ∙ ap is_bad (form_known d))
 value_known : (d : tie.After-is_bad) → to_z w64 (of_z w64 (start d).args.value) ≡ (start d).args.value
 value_known d = to_z-of_z (start d).ranges.value
 
-range_known : (d : tie.After-in_range) → in-range (start d.before.before).args.value ≡ d.in_range.result
-range_known d = sym (d.in_range.ensures ∙ ap in-range (value_known d.before.before))
+range_known : (d : tie.After-in_range) → in_range (start d.before.before).args.value ≡ d.in_range.result
+range_known d = sym (d.in_range.ensures ∙ ap in_range (value_known d.before.before))
 
 returns : tie.Need-returns-then-out-lt64
 returns c =

@@ -10,11 +10,11 @@ use borrow.Author.Rules.{rules}
 use Rattle.hint_piece.specs.declared.Progress.TheVariants.{To, Fault}
 use Rattle.hint_piece.specs.declared.Progress.{Progress}
 use Rattle.hint_piece.specs.Followed.{Followed, wrote}
-use Rattle.hint_piece.specs.Use.{Outcome, use-text, optional, following, printed}
+use Rattle.hint_piece.specs.Use.{Outcome, use_text, optional, following, printed}
 use Rattle.digit.proofs.Sizes.{Octets, octets_take, octets_drop}
 use Rattle.hint_form.proofs.HintLaws.{longest_small}
 use Rattle.buffer.proofs.Writing.{wrote_as}
-use Rattle.hint_piece.proofs.Bounds.{use-size, octets_size, optional_size}
+use Rattle.hint_piece.proofs.Bounds.{use_size, octets_size, optional_size}
 use Rattle.hint_piece.proofs.Outcomes.{size_of, followed_as, followed_next, followed_joined, followed_fault}
 use Rattle.hint_piece.proofs.print_one.Statement.{statement}
 use Rattle.hint_piece.proofs.print_one.Tie as tie
@@ -33,7 +33,7 @@ octets_long d = let a = (start d).args in octets_size a.piece.size a.at a.value.
 
 -- the use's text, its bound, and that it was followed with what was answered
 abbrev text : tie.After-print_use → Outcome
-text d = let a = (start d).args in use-text a.piece.format a.at (octets d)
+text d = let a = (start d).args in use_text a.piece.format a.at (octets d)
 
 text_short : (d : tie.After-print_use) → size_of (text d) ≤ 3 * length (octets d)
 text_short d =
@@ -41,14 +41,14 @@ text_short d =
     let q = (start d).requires in
     let long = octets_long d in
     let all : Octets a.value.now = λ (k : ℕ). omega (arith, d.shared_slice_known-1.given k) in
-    use-size a.piece.format a.at (octets d) (omega (arith, q)) (omega (arith, q))
+    use_size a.piece.format a.at (octets d) (omega (arith, q)) (omega (arith, q))
     (octets_take a.piece.size (drop a.at a.value.now) (octets_drop a.at a.value.now all))
 
 followed : (d : tie.After-print_use) (r : Progress) → d.print_use.result ≡ r
     → Followed (text d) (start d).args.pos r (start d).args.out.now d.print_use.new.out
 followed d r e =
     let a = (start d).args in
-    followed_as (ap (use-text a.piece.format a.at) d.use_octets-octets.ensures) e d.print_use.ensures
+    followed_as (ap (use_text a.piece.format a.at) d.use_octets-octets.ensures) e d.print_use.ensures
 
 use-octets-requires : tie.Need-use_octets-octets-requires
 use-octets-requires c κs = search rules

@@ -55,7 +55,7 @@ same_length : tie.Need-shape_of-out-then-not-passes_on
 same_length c = search rules
 
 returns : tie.Need-returns-then-not-passes_on
-unfolding Rattle.hint_piece.specs.Use.use-text
+unfolding Rattle.hint_piece.specs.Use.use_text
 returns c =
     simp (sym c.passes_on.ensures ∙ c.if-not-passes_on.true)
     (wrote (wrote_as (digits_known c.before.before.before.before) c.print_digits.ensures))
@@ -75,7 +75,7 @@ add-t15 c =
     omega (arith, longest_small a.format, c.requires)
 
 returns-2 : tie.Need-returns-in-At
-unfolding Rattle.hint_piece.specs.Use.use-text
+unfolding Rattle.hint_piece.specs.Use.use_text
 returns-2 c =
     let a = c.args in
     let search = c.first_fault.ensures in
@@ -92,7 +92,7 @@ same-length-2 : tie.Need-shape_of-out
 same-length-2 c = search rules
 
 returns-3 : tie.Need-returns
-unfolding Rattle.hint_piece.specs.Use.use-text
+unfolding Rattle.hint_piece.specs.Use.use_text
 returns-3 c =
     let a = c.args in
     let told = c.in_default.is in

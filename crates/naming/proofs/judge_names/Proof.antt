@@ -12,7 +12,7 @@ use Rattle.token.specs.Cut.{meanings_in}
 use Rattle.scope.specs.Import.{imports_end}
 use Rattle.scope.specs.Held.{ImportsHeld}
 use Rattle.scope.proofs.Tokens.{classes_are, said_counted, held_said}
-use Rattle.naming.specs.Rules.{not_offered, use-rules, after_count}
+use Rattle.naming.specs.Rules.{not_offered, use_rules, after_count}
 use Rattle.naming.specs.Told.{ImportsFilled, UsesFilled}
 use Rattle.naming.proofs.Named.{names_distinct, all_offered, imports_held, all_values}
 use Rattle.naming.proofs.Reading.{broken_filled}
@@ -49,10 +49,10 @@ long₃ : (j : Third) → length j.judge_uses-uses.new.values ≡ length (start_
 long₃ j = j.judge_uses-uses.ensures.0 ∙ long₂ (second_of j)
 
 -- each step that finds its rule kept leaves the rules after it to judge
-after₁ : (j : Second) → judge (after_count (said_by (first_of j))) ≡ judge (not_offered (said_by (first_of j)) ∷ use-rules (said_by (first_of j)))
+after₁ : (j : Second) → judge (after_count (said_by (first_of j))) ≡ judge (not_offered (said_by (first_of j)) ∷ use_rules (said_by (first_of j)))
 after₁ j = kept_next _ _ _ (first_of j).judge_introduced-introduced.ensures.1 j.in-Kept.is
 
-after₂ : (j : Third) → judge (after_count (said_by (first_of (second_of j)))) ≡ judge (use-rules (said_by (first_of (second_of j))))
+after₂ : (j : Third) → judge (after_count (said_by (first_of (second_of j)))) ≡ judge (use_rules (said_by (first_of (second_of j))))
 after₂ j = after₁ (second_of j) ∙ kept_next _ _ _ (second_of j).judge_offers-offers.ensures.1.0 j.in-Kept-offers.is
 
 judge-introduced-requires : tie.Need-judge_introduced-introduced-requires

@@ -2,7 +2,7 @@
 -- Assumes nothing.
 use mathlib.Core.Path.{◌≡◌, sym, ap, ◌∙◌}
 use lib.ListN.{take}
-use Rattle.name_kind.specs.Clause.{type_clause, object_clause, need_clause, use-clause}
+use Rattle.name_kind.specs.Clause.{type_clause, object_clause, need_clause, use_clause}
 use Rattle.name_kind.specs.declared.need.Need.{Need}
 use borrow.Author.Rules.{rules}
 use Rattle.name_kind.proofs.clause.use_clause.Statement.{statement}
@@ -15,8 +15,8 @@ start_of n = n.before.before.before
 by_need : (n : tie.After-need_at-need) (need : Need) → n.need_at-need.result ≡ need
     → (let s = start_of n in
     let cs = take s.args.n s.args.classes.now in
-    need_clause cs s.args.i need ≡ use-clause cs s.args.i)
-unfolding use-clause
+    need_clause cs s.args.i need ≡ use_clause cs s.args.i)
+unfolding use_clause
 by_need n need is =
     let s = start_of n in
     ap (need_clause (take s.args.n s.args.classes.now) s.args.i) (sym is ∙ n.need_at-need.ensures)

@@ -6,9 +6,9 @@ use Prim.Native.Nat.{ℕ}
 use lib.Seq.{take-length}
 use Rattle.rule.specs.declared.Finding.{Finding}
 use Rattle.token.specs.Cut.{meanings_in}
-use Rattle.name_kind.specs.Clause.{use-clause}
+use Rattle.name_kind.specs.Clause.{use_clause}
 use Rattle.scope.proofs.Tokens.{classes_are}
-use Rattle.naming.specs.Rules.{use-number, unfit_use}
+use Rattle.naming.specs.Rules.{use_number, unfit_use}
 use Rattle.naming.specs.Told.{lead_number}
 use Rattle.naming.proofs.Known.{known_number}
 use borrow.Author.Rules.{rules}
@@ -34,12 +34,12 @@ returns c =
     let n = u in
     let s = n in
     let i = s.args.i in
-    let number : n.lead_number.result ≡ use-number (meanings_in s.args.text.now) i =
+    let number : n.lead_number.result ≡ use_number (meanings_in s.args.text.now) i =
     n.lead_number.ensures ∙ ap lead_number s.requires.1.1.0 ∙ known_number _ _ s.requires.1.0 in
-    let clause = u.use_clause.ensures ∙ ap (λ (cs : List ℕ). use-clause cs i) (take-length s.args.classes.now ∙ classes_are _ _ _ _ s.requires.0) in
+    let clause = u.use_clause.ensures ∙ ap (λ (cs : List ℕ). use_clause cs i) (take-length s.args.classes.now ∙ classes_are _ _ _ _ s.requires.0) in
     ap (λ (x : ℕ). said i x u.use_clause.result c.introducer.result) number
-    ∙ ap (λ (x : ℕ). said i (use-number (meanings_in s.args.text.now) i) x c.introducer.result) clause
-    ∙ ap (said i (use-number (meanings_in s.args.text.now) i) _) c.introducer.ensures
+    ∙ ap (λ (x : ℕ). said i (use_number (meanings_in s.args.text.now) i) x c.introducer.result) clause
+    ∙ ap (said i (use_number (meanings_in s.args.text.now) i) _) c.introducer.ensures
 
 pub unfit_finding_spec : {M : Type 1} → statement M
 unfit_finding_spec =

@@ -28,8 +28,8 @@ use Rattle.scope.proofs.Imports.{end_inside}
 use Rattle.scope.proofs.Leads.{defined_counted}
 use Rattle.name_kind.specs.Serve.{serves}
 use Rattle.naming.specs.Values.{is_name_need}
-use Rattle.naming.proofs.Served.{no_use_known, use-known}
-use Rattle.naming.proofs.Using.{no_need, use-value, other_value, lead_small, Using, using_start, imports_still, using_next, using_broken, using_kept, using_end}
+use Rattle.naming.proofs.Served.{no_use_known, use_known}
+use Rattle.naming.proofs.Using.{no_need, use_value, other_value, lead_small, Using, using_start, imports_still, using_next, using_broken, using_kept, using_end}
 use Rattle.naming.proofs.usage.judge_uses.Statement.{statement}
 use Rattle.naming.proofs.usage.judge_uses.Tie as tie
 
@@ -226,7 +226,7 @@ returns : tie.Need-returns-then-not-serves invariant-loop decreases-loop
 returns c =
     let a = c in
     let l = loop_of a.before.before.before in
-    let un = use-known _ _ _ (need_is a.before.before.before) _ (lead_is a.before.before.before) _ (served (start_of l) _ _ c.serves.ensures) in
+    let un = use_known _ _ _ (need_is a.before.before.before) _ (lead_is a.before.before.before) _ (served (start_of l) _ _ c.serves.ensures) in
     (l.loop-i.invariant.0.long, (ap Broken c.unfit_finding.ensures ∙ using_broken _ _ _ _ l.loop-i.invariant.0 (inside a.before.before.before) (sym un ∙ (ap not c.if-not-serves.true)), tt))
 
 mul-nearest-2 : tie.Need-offset_bounds-recent-slot-then-is_name_need invariant-loop decreases-loop
@@ -269,8 +269,8 @@ loop-again : tie.Need-loop-i-preserved-then-is_name_need invariant-loop decrease
 loop-again c =
     let a = c in
     let l = loop_of a.before.before.before.before.before in
-    let known = use-known _ _ _ (need_is a.before.before.before.before.before) _ (lead_is a.before.before.before.before.before) _ (served (start_of l) _ _ c.serves.ensures) in
-    let value = c.word_for-found.ensures ∙ ap word_of (lead_is a.before.before.before.before.before) ∙ use-value _ _ l.loop-i.invariant.0.from (used a.before.before.before.before.before) in
+    let known = use_known _ _ _ (need_is a.before.before.before.before.before) _ (lead_is a.before.before.before.before.before) _ (served (start_of l) _ _ c.serves.ensures) in
+    let value = c.word_for-found.ensures ∙ ap word_of (lead_is a.before.before.before.before.before) ∙ use_value _ _ l.loop-i.invariant.0.from (used a.before.before.before.before.before) in
     (using_next _ _ _ _ l.loop-i.invariant.0 (inside a.before.before.before.before.before) (sym known ∙ (ap not c.if-not-serves.false)) (room a.before.before.before.before.before) _ value, c.next_enclosing-word.ensures, (simp length-set) ∙ l.loop-i.invariant.2)
 
 magnitude-at-requires : tie.Need-magnitude_at-requires invariant-loop decreases-loop

@@ -9,7 +9,7 @@ use Rattle.token.specs.Cut.{meanings_in}
 use Rattle.scope.specs.Token.{classes_of}
 use Rattle.scope.specs.Import.{source}
 use Rattle.scope.proofs.Tokens.{classes_are, starts_long, ends_long, said_counted, few_classes, named_is}
-use Rattle.scope.proofs.Imports.{no_symbol_offered, module-offered, no_module_offered}
+use Rattle.scope.proofs.Imports.{no_symbol_offered, module_offered, no_module_offered}
 use Rattle.scope.proofs.import.is_offered.Statement.{statement}
 use Rattle.scope.proofs.import.is_offered.Tie as tie
 
@@ -50,7 +50,7 @@ returns-3 : tie.Need-returns
 returns-3 c =
     let s = c in
     let name = (named_is _ _ _ _ s.requires.0 _ c.if-classes-module.false _ c.name_at-name.ensures).1 in
-    module-offered (said_by s.before.before.before.before.before.before.before.before.before) s.args.i.0 _ s.requires.1.1 c.if-k-ge-SYMBOLS.false
+    module_offered (said_by s.before.before.before.before.before.before.before.before.before) s.args.i.0 _ s.requires.1.1 c.if-k-ge-SYMBOLS.false
     _ (behind s.before.before.before.before.before.before.before.before.before _ c.source-module.ensures) _ (rw name c.names_source.ensures)
 
 pub is_offered_spec : {M : Type 1} → statement M
