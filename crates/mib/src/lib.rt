@@ -86,12 +86,7 @@ fn lay_step(step: Step, state: u64, answer: &mut [usize])
 }
 
 // Reads a module, and lays number, place and count.
-pub fn mib_read_raw(
-    text: &[u8],
-    records: &mut [u32],
-    numbers: &mut [u32],
-    answer: &mut [usize],
-)
+pub fn mib_read_raw(text: &[u8], records: &mut [u32], numbers: &mut [u32], answer: &mut [usize])
     ensures { ReadRaw text.now records.old records.new numbers.old numbers.new
         answer.old answer.new }
 {
@@ -99,12 +94,7 @@ pub fn mib_read_raw(
 }
 
 // Prints octets by a hint, and lays number, place and length.
-pub fn mib_print_octets_raw(
-    hint: &[u8],
-    octets: &[u8],
-    out: &mut [u8],
-    answer: &mut [usize],
-)
+pub fn mib_print_octets_raw(hint: &[u8], octets: &[u8], out: &mut [u8], answer: &mut [usize])
     ensures { OctetsRaw hint.now octets.now out.old out.new
         answer.old answer.new }
 {
@@ -112,12 +102,7 @@ pub fn mib_print_octets_raw(
 }
 
 // Prints an integer by a hint, and lays the same.
-pub fn mib_print_integer_raw(
-    hint: &[u8],
-    value: i64,
-    out: &mut [u8],
-    answer: &mut [usize],
-)
+pub fn mib_print_integer_raw(hint: &[u8], value: i64, out: &mut [u8], answer: &mut [usize])
     ensures { IntegerRaw hint.now value out.old out.new
         answer.old answer.new }
 {
@@ -125,13 +110,7 @@ pub fn mib_print_integer_raw(
 }
 
 // Answers a set of RowStatus, and lays the number and the row's next state. A flag is yes when it isn't 0.
-pub fn mib_set_row_raw(
-    state: u64,
-    value: i64,
-    complete: u32,
-    willing: u32,
-    answer: &mut [usize],
-)
+pub fn mib_set_row_raw(state: u64, value: i64, complete: u32, willing: u32, answer: &mut [usize])
     ensures { SetRaw state value complete willing answer.old answer.new }
 {
     let step = row_status::set(state, value, complete != 0, willing != 0);

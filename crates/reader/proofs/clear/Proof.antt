@@ -10,10 +10,10 @@ use Rattle.reader.proofs.Clearing.{zero_at, all_cleared}
 use Rattle.reader.proofs.clear.Statement.{statement}
 use Rattle.reader.proofs.clear.Tie as tie
 
-abbrev invariant-loop : tie.invariant-loop
+abbrev invariant-loop : tie.invariant-loop-i
 invariant-loop words₀ i₀ words i = Writing (zeros (length words₀)) i words₀ words
 
-abbrev decreases-loop : tie.decreases-loop
+abbrev decreases-loop : tie.decreases-loop-i
 decreases-loop words₀ i₀ words i = length words₀ - i
 
 all_long : (s : tie.Start invariant-loop decreases-loop) → length (zeros (length s.args.words.now)) ≡ length s.args.words.now
@@ -22,47 +22,47 @@ all_long s = length-replicate (length s.args.words.now) 0
 room : (s : tie.Start invariant-loop decreases-loop) → length (zeros (length s.args.words.now)) ≤ length s.args.words.now
 room s = omega (arith, all_long s)
 
-still_long : (l : tie.At-loop invariant-loop decreases-loop) → length l.loop.words ≡ length l.before.args.words.now
-still_long l = writing_length _ _ _ _ (room l.before) l.loop.invariant
+still_long : (l : tie.At-loop-i invariant-loop decreases-loop) → length l.loop-i.words ≡ length l.args.words.now
+still_long l = writing_length _ _ _ _ (room l.before) l.loop-i.invariant
 
-more : (c : tie.In-loop invariant-loop decreases-loop) → c.before.loop.i < length c.before.before.args.words.now
-more c = omega (arith, c.loop-test.true, still_long c.before)
+more : (c : tie.In-loop-i invariant-loop decreases-loop) → c.loop-i.i < length c.args.words.now
+more c = omega (arith, c.loop-i-test.true, still_long c.before)
 
 -- src/lib.rt:37:5
-loop-holds : tie.Need-loop-init invariant-loop decreases-loop
+loop-holds : tie.Need-loop-i-init invariant-loop decreases-loop
 loop-holds c = writing_start _ _
 
 -- src/lib.rt:38:9
-mul_words : tie.Need-overflow-mul-words invariant-loop decreases-loop
-mul_words c = omega (arith, c.loop-test.true, more c)
+mul_words : tie.Need-offset_bounds-words-i invariant-loop decreases-loop
+mul_words c = omega (arith, c.loop-i-test.true, more c)
 
 -- src/lib.rt:38:9
-slice-write-words : tie.Need-slice-write-words invariant-loop decreases-loop
-slice-write-words c = c.loop-test.true
+slice-write-words : tie.Need-bounds-words-i invariant-loop decreases-loop
+slice-write-words c = c.loop-i-test.true
 
 -- src/lib.rt:39:9
-add-i : tie.Need-overflow-add-i invariant-loop decreases-loop
-add-i c = omega (arith, c.loop-test.true, more c)
+add-i : tie.Need-overflow_add-i invariant-loop decreases-loop
+add-i c = omega (arith, c.loop-i-test.true, more c)
 
 -- src/lib.rt:37:5
-loop-less : tie.Need-loop-smaller invariant-loop decreases-loop
-loop-less c = omega (arith, c.loop-test.true, more c)
+loop-less : tie.Need-loop-i-smaller invariant-loop decreases-loop
+loop-less c = omega (arith, c.loop-i-test.true, more c)
 
 -- src/lib.rt:37:5
-loop-again : tie.Need-loop-preserved invariant-loop decreases-loop
+loop-again : tie.Need-loop-i-preserved invariant-loop decreases-loop
 loop-again c =
-    let l = c.before in
-    writing_more _ _ _ _ (room l.before) l.loop.invariant (omega (arith, more c, all_long l.before)) 0 (zero_at _ _ (more c))
+    let l = c in
+    writing_more _ _ _ _ (room l.before.before) l.loop-i.invariant (omega (arith, more c, all_long l.before.before)) 0 (zero_at _ _ (more c))
 
 -- src/lib.rt:33:1
-same_length : tie.Need-same-length invariant-loop decreases-loop
+same_length : tie.Need-shape_of-words invariant-loop decreases-loop
 same_length c = still_long c.before
 
 -- src/lib.rt:33:1
 returns : tie.Need-returns invariant-loop decreases-loop
 returns c =
-    let l = c.before in
-    all_cleared _ _ _ (writing_end _ _ _ _ (room l.before) l.loop.invariant (omega (arith, c.loop-test.false, still_long l, all_long l.before)))
+    let l = c in
+    all_cleared _ _ _ (writing_end _ _ _ _ (room l.before.before) l.loop-i.invariant (omega (arith, c.loop-i-test.false, still_long l.before, all_long l.before.before)))
 
 pub clear_spec : {M : Type 1} → statement M
 clear_spec =

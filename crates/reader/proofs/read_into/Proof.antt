@@ -10,79 +10,79 @@ use borrow.Author.Rules.{rules}
 use Rattle.reader.proofs.read_into.Statement.{statement}
 use Rattle.reader.proofs.read_into.Tie as tie
 
-abbrev start : tie.After-parse → tie.Start
+abbrev start : tie.After-parse-parsed → tie.Start
 start q = q.before.before.before.before.before.before.before
 
 -- the arrays hold the tokens
-table : (k : tie.After-known-told) → TokenTable (start k.before.before.before).args.text.now (cut (start k.before.before.before).args.text.now).tokens
-    k.before.before.before.parse.new.1.0 k.before.before.before.parse.new.1.1.0 k.before.before.before.parse.new.1.1.1.0 k.before.parsed.given.0.0
+table : (k : tie.In-Derived) → TokenTable (start k.before).args.text.now (cut (start k.before).args.text.now).tokens
+    k.parse-parsed.new.classes k.parse-parsed.new.starts k.parse-parsed.new.ends k.in-Derived.n
 table k =
-    let q = k.before.before.before in
-    derived_tokens (start q).args.text.now q.parse.result _ k.before.parsed.given.1 _ _ _ q.parse.ensures.1
+    let q = k in
+    derived_tokens (start q.before).args.text.now q.parse-parsed.result _ k.in-Derived.is _ _ _ q.parse-parsed.ensures.1
 
-parse-requires : tie.Need-parse-requires
+parse-requires : tie.Need-parse-parsed-requires
 parse-requires c κs = search rules
 
-enum-known-parsed : tie.Need-enum-known-parsed
+enum-known-parsed : tie.Need-enum_known-parsed
 enum-known-parsed c = search rules
 
 unparsed-requires : tie.Need-unparsed-requires
 unparsed-requires c κs = search rules
 
-returns : tie.Need-returns
+returns : tie.Need-returns-in_default
 returns c =
-    let q = c.before.before in
-    let text = (start q).args.text.now in
-    let keys = c.before.match.keys2 in
+    let q = c in
+    let text = (start q.before.before).args.text.now in
+    let keys = c.in_default.in_default-own.keys2 in
     record {
-      parsing = q.parse.result;
-      right = q.parse.ensures.0;
-      answered = c.unparsed.ensures ∙ unparsed_answer text q.parse.result _ (λ n e. rw e) keys;
-      laid = unparsed_laid text q.parse.result _ (λ n e. rw e) keys _ _;
+      parsing = q.parse-parsed.result;
+      right = q.parse-parsed.ensures.0;
+      answered = c.unparsed.ensures ∙ unparsed_answer text q.parse-parsed.result _ (λ n e. rw e) keys;
+      laid = unparsed_laid text q.parse-parsed.result _ (λ n e. rw e) keys _ _;
     }
 
-array-share-prefix-classes : tie.Need-array-share-prefix-classes
+array-share-prefix-classes : tie.Need-slice_bounds-classes-end
 array-share-prefix-classes c = omega (arith, (table c).few, (table c).classes_long)
 
-slice-aggregate-read-derived : tie.Need-slice-aggregate-read-derived
+slice-aggregate-read-derived : tie.Need-slice_bounds-read_derived-end
 slice-aggregate-read-derived c = sym (length-take-le _ _ (omega (arith, (table c.before).few, (table c.before).classes_long)))
 
-array-share-prefix-starts : tie.Need-array-share-prefix-starts
+array-share-prefix-starts : tie.Need-slice_bounds-starts-end
 array-share-prefix-starts c = omega (arith, (table c.before).few, (table c.before).starts_long)
 
-slice-aggregate-read-derived-2 : tie.Need-slice-aggregate-read-derived-2
+slice-aggregate-read-derived-2 : tie.Need-slice_bounds-read_derived-end-2
 slice-aggregate-read-derived-2 c = sym (length-take-le _ _ (omega (arith, (table c.before.before).few, (table c.before.before).starts_long)))
 
-array-share-prefix-ends : tie.Need-array-share-prefix-ends
+array-share-prefix-ends : tie.Need-slice_bounds-ends-end
 array-share-prefix-ends c = omega (arith, (table c.before.before).few, (table c.before.before).ends_long)
 
-slice-aggregate-read-derived-3 : tie.Need-slice-aggregate-read-derived-3
+slice-aggregate-read-derived-3 : tie.Need-slice_bounds-read_derived-end-3
 slice-aggregate-read-derived-3 c = sym (length-take-le _ _ (omega (arith, (table c.before.before.before).few, (table c.before.before.before).ends_long)))
 
-read-derived-requires : tie.Need-read-derived-requires
+read-derived-requires : tie.Need-read_derived-requires
 read-derived-requires c κs =
-    let k = c.before.before.before.before.before in
-    let s = start k.before.before.before in
-    let q = k.before.before.before in
-    (slices_held _ _ _ _ _ (table k), (s.pre.1.0, (s.pre.1.1, derived_derives s.args.text.now q.parse.result _ k.before.parsed.given.1 q.parse.ensures.0)))
+    let k = c in
+    let s = start k.before.before.before.before.before.before in
+    let q = k in
+    (slices_held _ _ _ _ _ (table k.before.before.before.before.before), (s.requires.1.0, (s.requires.1.1, derived_derives s.args.text.now q.parse-parsed.result _ k.in-Derived.is q.parse-parsed.ensures.0)))
 
-same_length : tie.Need-same-length
+same_length : tie.Need-shape_of-records
 same_length c = search rules
 
-same-length-2 : tie.Need-same-length-2
+same-length-2 : tie.Need-shape_of-numbers
 same-length-2 c = search rules
 
-returns-2 : tie.Need-returns-2
+returns-2 : tie.Need-returns
 returns-2 c =
-    let w = c.before.before.before.before in
-    let k = w.before.before.before.before.before.before in
-    let q = k.before.before.before in
-    let text = (start q).args.text.now in
+    let w = c in
+    let k = w in
+    let q = k in
+    let text = (start q.before.before.before.before.before.before.before.before.before.before.before).args.text.now in
     record {
-      parsing = q.parse.result;
-      right = q.parse.ensures.0;
-      answered = derived_answer text q.parse.result _ k.before.parsed.given.1 _ w.read-derived.ensures.0;
-      laid = derived_laid text q.parse.result _ k.before.parsed.given.1 _ _ _ _ w.read-derived.ensures.1;
+      parsing = q.parse-parsed.result;
+      right = q.parse-parsed.ensures.0;
+      answered = derived_answer text q.parse-parsed.result _ k.in-Derived.is _ w.read_derived.ensures.0;
+      laid = derived_laid text q.parse-parsed.result _ k.in-Derived.is _ _ _ _ w.read_derived.ensures.1;
     }
 
 pub read_into_spec : {M : Type 1} → statement M

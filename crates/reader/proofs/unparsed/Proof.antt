@@ -6,29 +6,29 @@ use borrow.Author.Rules.{rules}
 use Rattle.reader.proofs.unparsed.Statement.{statement}
 use Rattle.reader.proofs.unparsed.Tie as tie
 
-enum_told : tie.Need-enum-told
+enum_told : tie.Need-enum_told-1
 enum_told c = search rules
 
-enum-known-parsed : tie.Need-enum-known-parsed
+enum-known-parsed : tie.Need-enum_known-parsed
 enum-known-parsed c = search rules
 
 refuse-requires : tie.Need-refuse-requires
 refuse-requires c κs = search rules
 
-enum-known-parsed-2 : tie.Need-enum-known-parsed-2
+enum-known-parsed-2 : tie.Need-enum_known-parsed-in-Uncut-1
 enum-known-parsed-2 c = search rules
 
-refuse-requires-2 : tie.Need-refuse-requires-2
+refuse-requires-2 : tie.Need-refuse-requires-in-Uncut
 refuse-requires-2 c κs = search rules
 
-returns : tie.Need-returns
+returns : tie.Need-returns-in-Derived
 returns c = search rules
 
-returns-2 : tie.Need-returns-2
-returns-2 c = c.refuse.ensures ∙ sym (ap unparsed c.before.before.parsed.given.1)
+returns-2 : tie.Need-returns-in-Underived
+returns-2 c = c.refuse.ensures ∙ sym (ap unparsed c.in-Underived.is)
 
-returns-3 : tie.Need-returns-3
-returns-3 c = c.refuse2.ensures ∙ sym (ap unparsed c.before.before.parsed2.given.1)
+returns-3 : tie.Need-returns-in-Uncut
+returns-3 c = c.refuse-in-Uncut.ensures ∙ sym (ap unparsed c.in-Uncut.is)
 
 pub unparsed_spec : {M : Type 1} → statement M
 unparsed_spec =

@@ -7,35 +7,40 @@ use borrow.Author.Rules.{rules}
 use Rattle.reader.proofs.module.refused.Statement.{statement}
 use Rattle.reader.proofs.module.refused.Tie as tie
 
-enum_told : tie.Need-enum-told
+enum_told : tie.Need-enum_told-1
 enum_told c = search rules
 
-enum-known-verdict : tie.Need-enum-known-verdict
+enum-known-verdict : tie.Need-enum_known-verdict
 enum-known-verdict c = search rules
 
-start-of-requires : tie.Need-start-of-requires
+start-of-requires : tie.Need-start_of-requires
 start-of-requires c κs = search rules
 
-start-of-requires-2 : tie.Need-start-of-requires-2
+start-of-requires-2 : tie.Need-start_of-requires-in-Broken
 start-of-requires-2 c κs = search rules
 
-returns : tie.Need-returns
+returns : tie.Need-returns-in-Kept
 returns c = search rules
 
-returns-2 : tie.Need-returns-2
+returns-2 : tie.Need-returns-in-Broken
 returns-2 c =
-    let own = c.before.before.before.before.before.verdict.given in
-    let place = c.before.start_of.ensures in
-    let other = c.start-of2.ensures in
+    let place = c.start_of.ensures in
+    let other = c.start_of-in-Broken.ensures in
     (λ i. Refused (record {
-      number = own.0.0.number;
-      clause = own.0.0.clause;
+      number = c.in-Broken.finding.number;
+      clause = c.in-Broken.finding.clause;
       place = record { 0 = place i };
       other = record { 0 = other i };
     }))
-    ∙ sym (ap (refusal_of c.before.before.before.before.before.before.before.before.args.starts.now) own.1)
+    ∙ sym (ap (refusal_of c.args.starts.now) c.in-Broken.is)
 
 pub refused_spec : {M : Type 1} → statement M
 refused_spec =
     tie.close
-    (tie.spec enum_told enum-known-verdict start-of-requires start-of-requires-2 returns returns-2)
+    (tie.spec
+    enum_told
+    enum-known-verdict
+    start-of-requires
+    start-of-requires-2
+    returns
+    returns-2)

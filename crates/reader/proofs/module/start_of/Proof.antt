@@ -7,22 +7,27 @@ use borrow.Author.Rules.{rules}
 use Rattle.reader.proofs.module.start_of.Statement.{statement}
 use Rattle.reader.proofs.module.start_of.Tie as tie
 
-mul-place-of : tie.Need-overflow-mul-place-of
+mul-place-of : tie.Need-offset_bounds-starts-at
 mul-place-of c = search rules
 
-shared-slice-read-place-of : tie.Need-shared-slice-read-place-of
+shared-slice-read-place-of : tie.Need-bounds-starts-at
 shared-slice-read-place-of c = search rules
 
-place-of-requires : tie.Need-place-of-requires
+place-of-requires : tie.Need-place_of-requires
 place-of-requires c κs = search rules
 
-returns : tie.Need-returns
+returns : tie.Need-returns-then-at-starts
 returns c = search rules
 
-returns-2 : tie.Need-returns-2
-returns-2 c = sym (get_or-eq_default {A = ℕ} c.before.before.args.starts.now 0 c.if1.false)
+returns-2 : tie.Need-returns
+returns-2 c = sym (get_or-eq_default {A = ℕ} c.args.starts.now 0 c.if-at-starts.false)
 
 pub start_of_spec : {M : Type 1} → statement M
 start_of_spec =
     tie.close
-    (tie.spec mul-place-of shared-slice-read-place-of place-of-requires returns returns-2)
+    (tie.spec
+    mul-place-of
+    shared-slice-read-place-of
+    place-of-requires
+    returns
+    returns-2)

@@ -6,17 +6,21 @@ use borrow.Author.Rules.{rules}
 use Rattle.reader.proofs.module.verdict_of.Statement.{statement}
 use Rattle.reader.proofs.module.verdict_of.Tie as tie
 
-enum_told : tie.Need-enum-told
+enum_told : tie.Need-enum_told-1
 enum_told c = search rules
 
-enum-known-names : tie.Need-enum-known-names
+enum-known-names : tie.Need-enum_known-names
 enum-known-names c = search rules
 
-returns : tie.Need-returns
+returns : tie.Need-returns-in-Named
 returns c = search rules
 
-returns-2 : tie.Need-returns-2
-returns-2 c = sym (ap judgement c.before.names.given.1)
+returns-2 : tie.Need-returns-in-Broken
+returns-2 c = sym (ap judgement c.in-Broken.is)
 
 pub verdict_of_spec : {M : Type 1} → statement M
-verdict_of_spec = tie.close (tie.spec enum_told enum-known-names returns returns-2)
+verdict_of_spec = tie.close (tie.spec
+    enum_told
+    enum-known-names
+    returns
+    returns-2)

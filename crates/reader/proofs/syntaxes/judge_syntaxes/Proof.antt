@@ -10,26 +10,30 @@ use borrow.Author.Rules.{rules}
 use Rattle.reader.proofs.syntaxes.judge_syntaxes.Statement.{statement}
 use Rattle.reader.proofs.syntaxes.judge_syntaxes.Tie as tie
 
-collect-classes-requires : tie.Need-collect-classes-requires
-collect-classes-requires c κs = c.before.before.before.before.before.before.before.requires
+collect-classes-requires : tie.Need-collect_classes-requires
+collect-classes-requires c κs = c.requires
 
-judge-syntax-requires : tie.Need-judge-syntax-requires
+judge-syntax-requires : tie.Need-judge_syntax-requires
 judge-syntax-requires c κs = search rules
 
-same_length : tie.Need-same-length
+same_length : tie.Need-shape_of-definitions
 same_length c = search rules
 
 returns : tie.Need-returns
 returns c =
-    let s = c.before.before.before.before.before.before.before.before.before.before.before.before in
-    let held = c.before.before.before.before.collect-classes.ensures.0 in
+    let s = c in
+    let held = c.collect_classes.ensures.0 in
     record {
       held = held;
       judged =
-          c.judge-syntax.ensures
+          c.judge_syntax.ensures
           ∙ ap (λ (ds : List Definition). judge (rules_over (spelling_in s.args.text.now s.args.starts.now s.args.ends.now) s.args.classes.now s.args.values.now ds)) held;
     }
 
 pub judge_syntaxes_spec : {M : Type 1} → statement M
 judge_syntaxes_spec =
-    tie.close (tie.spec collect-classes-requires judge-syntax-requires same_length returns)
+    tie.close (tie.spec
+    collect-classes-requires
+    judge-syntax-requires
+    same_length
+    returns)
