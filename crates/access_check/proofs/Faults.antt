@@ -20,7 +20,7 @@ use Rattle.module_table.specs.declared.Definition.{Definition}
 use Rattle.oid_run.specs.Run.{run}
 use Rattle.oid_run.proofs.Runs.{run_length, run_number}
 use Rattle.object_tree.specs.Words.{is_object}
-use Rattle.index.specs.Choice.{if◌then◌else◌}
+use Rattle.index.specs.Choice.{when◌then◌else◌}
 use Rattle.object_tree.proofs.Parents.{both}
 use Rattle.access_check.specs.Access.{clashes, is_written_column, access_clause}
 use Rattle.access_check.specs.Notification.{is_not_zeroed}
@@ -116,7 +116,7 @@ module _ (numbers : List ℕ) (from count : ℕ) (oid : List ℕ) (h : from + co
 
 module _ (exempt a b c : Bool) (x y z : ℕ) where
   abbrev pub chain : ℕ
-  chain = if exempt then 0 else if a then x else if b then y else if c then z else 0
+  chain = when exempt then 0 else when a then x else when b then y else when c then z else 0
 
   pub chain_exempt : exempt ≡ true → 0 ≡ chain
   chain_exempt e = rw e

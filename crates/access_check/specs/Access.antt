@@ -9,7 +9,7 @@ use Rattle.module_table.specs.Definition.{entry}
 use Rattle.module_table.specs.Module.{name_at, rule_of_definitions}
 use Rattle.module_table.specs.declared.Definition.{Definition}
 use Rattle.object_tree.specs.Words.{counter32, counter64, not_accessible, accessible_for_notify, read_only, read_write, read_create, is_object, is_table, is_row, numbered}
-use Rattle.index.specs.Choice.{if◌then◌else◌}
+use Rattle.index.specs.Choice.{when◌then◌else◌}
 use Rattle.sequence_list.specs.Named.{type_of, columns_of, named_at}
 
 -- token i names an object of this access
@@ -55,11 +55,11 @@ unfit_counter d = is_counter d && (not (is_counter_access d) || eqb d.default 1)
 -- the number of the first clause that puts definition k at fault, which is an object; 0 where none does
 unfoldable pub access_clause : List Definition → List ℕ → ℕ → ℕ
 access_clause ds values k =
-    if not (is_object (entry ds k)) then 0 else
-    if clashes ds values k then 1 else
-    if open_table (entry ds k) then 2 else
-    if created_alone ds (entry ds k) then 3 else
-    if unfit_counter (entry ds k) then 4 else
+    when not (is_object (entry ds k)) then 0 else
+    when clashes ds values k then 1 else
+    when open_table (entry ds k) then 2 else
+    when created_alone ds (entry ds k) then 3 else
+    when unfit_counter (entry ds k) then 4 else
     0
 
 -- the list of the SEQUENCE type of the row of definition k
@@ -70,7 +70,7 @@ row_list ds k = columns_of ds (type_of (numbered ds (entry ds k).parent))
 -- own name
 unfoldable pub access_other : List Definition → List ℕ → ℕ → ℕ → ℕ
 access_other ds values k clause =
-    if eqb clause 1 then (numbered ds (named_at ds values (first_with ds values read_create (row_list ds k)))).name.0 else
+    when eqb clause 1 then (numbered ds (named_at ds values (first_with ds values read_create (row_list ds k)))).name.0 else
     name_at ds k
 
 -- 21: access rules

@@ -9,7 +9,7 @@ use Rattle.module_table.specs.Definition.{entry}
 use Rattle.module_table.specs.Module.{oid_in, name_at, rule_of_definitions}
 use Rattle.module_table.specs.declared.Definition.{Definition}
 use Rattle.object_tree.specs.Words.{not_accessible, is_notification}
-use Rattle.index.specs.Choice.{if◌then◌else◌}
+use Rattle.index.specs.Choice.{when◌then◌else◌}
 use Rattle.access_check.specs.Access.{has_access, first_with}
 
 -- the OID of each notification has two numbers at least
@@ -27,15 +27,15 @@ lists_hidden ds values d = any (has_access ds values not_accessible) d.objects.f
 -- the number of the first clause that puts definition k at fault, which is a notification; 0 where none does
 unfoldable pub notification_clause : List Definition → List ℕ → List ℕ → ℕ → ℕ
 notification_clause ds values numbers k =
-    if not (is_notification (entry ds k)) then 0 else
-    if is_not_zeroed (oid_in numbers (entry ds k)) then 1 else
-    if lists_hidden ds values (entry ds k) then 2 else
+    when not (is_notification (entry ds k)) then 0 else
+    when is_not_zeroed (oid_in numbers (entry ds k)) then 1 else
+    when lists_hidden ds values (entry ds k) then 2 else
     0
 
 -- the token that definition k stands against by a clause: the first name in OBJECTS of a not-accessible object; else its own name
 unfoldable pub notification_other : List Definition → List ℕ → ℕ → ℕ → ℕ
 notification_other ds values k clause =
-    if eqb clause 2 then first_with ds values not_accessible (entry ds k).objects else name_at ds k
+    when eqb clause 2 then first_with ds values not_accessible (entry ds k).objects else name_at ds k
 
 -- 22: rules on notifications
 unfoldable pub notification_broken : List Definition → List ℕ → List ℕ → Rule

@@ -12,7 +12,7 @@ use Rattle.module_table.specs.Definition.{entry}
 use Rattle.module_table.specs.Module.{most_definitions, oid_in}
 use Rattle.module_table.specs.declared.Definition.{Definition}
 use Rattle.object_tree.specs.Words.{is_table, is_row, numbered}
-use Rattle.index.specs.Choice.{if◌then◌else◌}
+use Rattle.index.specs.Choice.{when◌then◌else◌}
 use Rattle.sequence_list.specs.Named.{type_of, lists, repeats, names_stranger}
 use Rattle.sequence_list.specs.Held.{places, parent_named, verdict_of, VerdictTable, ListedTable}
 use Rattle.sequence_list.proofs.Verdicts.{strange_by_verdict, repeats_by_verdict}
@@ -63,30 +63,30 @@ numbered_own ds k =
 -- the lists by what is noted of them
 module _ (ds : List Definition) (values : List ℕ) (verdicts parents : List ℕ) (t : VerdictTable ds values verdicts parents) (k sequence : ℕ) (is : sequence ≡ type_of (entry ds k)) where
   clause_by : Bool → Bool → ℕ
-  clause_by twice strange = if twice then 5 else if strange then 6 else 0
+  clause_by twice strange = when twice then 5 else when strange then 6 else 0
 
   noted : (twice : Bool) → repeats ds values (type_of (entry ds k)) ≡ twice
       → list_clause (verdict_of ds values (type_of (entry ds k))) (parent_named ds values (type_of (entry ds k))) (k + 1)
-      ≡ (if twice then 5 else if names_stranger ds values (type_of (entry ds k)) (k + 1) then 6 else 0)
+      ≡ (when twice then 5 else when names_stranger ds values (type_of (entry ds k)) (k + 1) then 6 else 0)
   unfolding list_clause
   noted true e = rw (repeats_by_verdict ds values (type_of (entry ds k)) ∙ e)
   noted false e = rw (repeats_by_verdict ds values (type_of (entry ds k)) ∙ e, strange_by_verdict ds values (type_of (entry ds k)) e (k + 1))
 
   pub list_noted : (clause : ℕ) → clause ≡ list_clause (get_or verdicts sequence 0) (get_or parents sequence 0) (k + 1)
-      → clause ≡ (if repeats ds values (type_of (entry ds k)) then 5 else if names_stranger ds values (type_of (entry ds k)) (k + 1) then 6 else 0)
+      → clause ≡ (when repeats ds values (type_of (entry ds k)) then 5 else when names_stranger ds values (type_of (entry ds k)) (k + 1) then 6 else 0)
   list_noted clause e =
       let few : sequence < places = omega (arith, is, type_few (entry ds k)) in
       e ∙ ap (λ (v : ℕ). list_clause v (get_or parents sequence 0) (k + 1)) (t.verdict sequence few ∙ ap (verdict_of ds values) is)
       ∙ ap (λ (p : ℕ). list_clause (verdict_of ds values (type_of (entry ds k))) p (k + 1)) (t.parent sequence few ∙ ap (parent_named ds values) is)
       ∙ noted (repeats ds values (type_of (entry ds k))) refl
 
-module _ (ds : List Definition) (values : List ℕ) (k clause : ℕ) (is : clause ≡ (if repeats ds values (type_of (entry ds k)) then 5 else if names_stranger ds values (type_of (entry ds k)) (k + 1) then 6 else 0)) where
+module _ (ds : List Definition) (values : List ℕ) (k clause : ℕ) (is : clause ≡ (when repeats ds values (type_of (entry ds k)) then 5 else when names_stranger ds values (type_of (entry ds k)) (k + 1) then 6 else 0)) where
   -- the rest, where the list is kept
   abbrev Rest : ℕ
-  Rest = if unlisted_column ds values k then 7 else if unfounded_augments ds values (entry ds k) then 8 else 0
+  Rest = when unlisted_column ds values k then 7 else when unfounded_augments ds values (entry ds k) then 8 else 0
 
-  by_list : (row twice strange : Bool) (rest : ℕ) → ((row && not (eqb (if twice then 5 else if strange then 6 else 0) 0)) ≡ true → (if twice then 5 else if strange then 6 else 0) ≡ (if row && twice then 5 else if row && strange then 6 else rest))
-      × ((row && not (eqb (if twice then 5 else if strange then 6 else 0) 0)) ≡ false → rest ≡ (if row && twice then 5 else if row && strange then 6 else rest))
+  by_list : (row twice strange : Bool) (rest : ℕ) → ((row && not (eqb (when twice then 5 else when strange then 6 else 0) 0)) ≡ true → (when twice then 5 else when strange then 6 else 0) ≡ (when row && twice then 5 else when row && strange then 6 else rest))
+      × ((row && not (eqb (when twice then 5 else when strange then 6 else 0) 0)) ≡ false → rest ≡ (when row && twice then 5 else when row && strange then 6 else rest))
   by_list true true strange rest = (λ e. refl, λ e. absurd (true_false refl e))
   by_list true false true rest = (λ e. refl, λ e. absurd (true_false refl e))
   by_list true false false rest = (λ e. absurd (true_false e refl), λ e. refl)

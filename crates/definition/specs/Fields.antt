@@ -1,7 +1,7 @@
 -- The fields of a definition: the tokens from its name, d, up to its end, e.
 -- Assumes nothing.
 use Rattle.std.specs.Prelude.{Bool, cond, ◌&&◌, ◌||◌, List, ◌≡◌, ℕ, ◌+◌, ◌-◌, ◌<◌, ltb, eqb, length, get_or}
-use Rattle.index.specs.Choice.{if◌then◌else◌}
+use Rattle.index.specs.Choice.{when◌then◌else◌}
 use Rattle.index.specs.First.{first}
 use Rattle.terminal.specs.Terminal.{terminals, left_brace, right_brace, left_paren, right_paren, Upper, assign, current, not_accessible, AUGMENTS, BITS, DEFVAL, INDEX, INTEGER, MAX-ACCESS, OBJECT, OBJECTS, OCTET, SEQUENCE, SIZE, STATUS, SYNTAX, UNITS}
 use Rattle.definition.specs.Landmark.{class_at, kind_at, has_oid, sequence_type, definitions, definition_end}
@@ -88,17 +88,17 @@ fields_at cs k = fields_of cs (get_or (definitions cs) k 0) (definition_end cs (
 -- enumeration { .. }; each with what stands between its brackets
 unfoldable pub restriction_at : List ℕ → ℕ → ℕ → Restriction
 restriction_at cs r e =
-    if eqb (class_at cs r) left_brace then Enumeration (span (r + 1) (find cs right_brace (r + 1) e))
-    else if eqb (class_at cs r) left_paren && eqb (class_at cs (r + 1)) SIZE then Sizes (span (r + 3) (find cs right_paren (r + 3) e))
-    else if eqb (class_at cs r) left_paren then Ranges (span (r + 1) (find cs right_paren (r + 1) e))
+    when eqb (class_at cs r) left_brace then Enumeration (span (r + 1) (find cs right_brace (r + 1) e))
+    else when eqb (class_at cs r) left_paren && eqb (class_at cs (r + 1)) SIZE then Sizes (span (r + 3) (find cs right_paren (r + 3) e))
+    else when eqb (class_at cs r) left_paren then Ranges (span (r + 1) (find cs right_paren (r + 1) e))
     else Free
 
 -- the syntax that starts at token s, in a definition that ends at e, by its first word
 unfoldable pub syntax_at : List ℕ → ℕ → ℕ → Syntax
 syntax_at cs s e =
-    if eqb (class_at cs s) INTEGER then Integer (restriction_at cs (s + 1) e)
-    else if eqb (class_at cs s) Upper then Named (record { 0 = s }) (restriction_at cs (s + 1) e)
-    else if eqb (class_at cs s) OCTET then Octets (restriction_at cs (s + 2) e)
-    else if eqb (class_at cs s) OBJECT then ObjectIdentifier
-    else if eqb (class_at cs s) BITS then Bits (restriction_at cs (s + 1) e)
+    when eqb (class_at cs s) INTEGER then Integer (restriction_at cs (s + 1) e)
+    else when eqb (class_at cs s) Upper then Named (record { 0 = s }) (restriction_at cs (s + 1) e)
+    else when eqb (class_at cs s) OCTET then Octets (restriction_at cs (s + 2) e)
+    else when eqb (class_at cs s) OBJECT then ObjectIdentifier
+    else when eqb (class_at cs s) BITS then Bits (restriction_at cs (s + 1) e)
     else SequenceOf (record { 0 = s + 2 })

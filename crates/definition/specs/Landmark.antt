@@ -2,7 +2,7 @@
 -- classes of the tokens show what a derivation says; that they do is proved in crates/module_tree. All is said of `cs`, the classes of a module's tokens in order.
 -- Assumes nothing.
 use Rattle.std.specs.Prelude.{Bool, ◌&&◌, ◌||◌, List, ℕ, ◌+◌, ◌-◌, leb, eqb, length, get_or}
-use Rattle.index.specs.Choice.{if◌then◌else◌}
+use Rattle.index.specs.Choice.{when◌then◌else◌}
 use Rattle.index.specs.First.{first, hits}
 use Rattle.terminal.specs.Terminal.{lower, Upper, current, read_create, assign, MODULE-IDENTITY, NOTIFICATION-TYPE, OBJECT, IDENTIFIER, OBJECT-IDENTITY, OBJECT-TYPE, TEXTUAL-CONVENTION, END}
 
@@ -77,12 +77,12 @@ notification = 7
 -- the kind of the definition whose name is token d, by the words after the name
 unfoldable pub kind_at : List ℕ → ℕ → ℕ
 kind_at cs d =
-    if eqb (class_at cs (d + 1)) MODULE-IDENTITY then identity
-    else if eqb (class_at cs (d + 1)) OBJECT then plain
-    else if eqb (class_at cs (d + 1)) OBJECT-IDENTITY then object_identity
-    else if eqb (class_at cs (d + 1)) OBJECT-TYPE then object
-    else if eqb (class_at cs (d + 1)) NOTIFICATION-TYPE then notification
-    else if eqb (class_at cs (d + 2)) TEXTUAL-CONVENTION then convention
+    when eqb (class_at cs (d + 1)) MODULE-IDENTITY then identity
+    else when eqb (class_at cs (d + 1)) OBJECT then plain
+    else when eqb (class_at cs (d + 1)) OBJECT-IDENTITY then object_identity
+    else when eqb (class_at cs (d + 1)) OBJECT-TYPE then object
+    else when eqb (class_at cs (d + 1)) NOTIFICATION-TYPE then notification
+    else when eqb (class_at cs (d + 2)) TEXTUAL-CONVENTION then convention
     else sequence_type
 
 -- a definition of this kind has an OID

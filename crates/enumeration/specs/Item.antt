@@ -5,7 +5,7 @@ use Rattle.std.specs.Prelude.{Bool, ◌&&◌, ◌||◌, List, ℕ, ◌+◌, ltb,
 use Rattle.index.specs.First.{first, any}
 use Rattle.lexicon.specs.Word.{same, between}
 use Rattle.definition.specs.Members.{is_name}
-use Rattle.index.specs.Choice.{if◌then◌else◌}
+use Rattle.index.specs.Choice.{when◌then◌else◌}
 use Rattle.sub_type.specs.Number.{number_at, same_number, is_outside}
 use Rattle.sub_type.specs.declared.Limits.{Limits}
 
@@ -45,15 +45,15 @@ first_number cs vs from i = first (has_number cs vs i) from i
 -- number is outside the limits
 unfoldable pub item_clause : Spelling → List ℕ → List ℕ → Limits → ℕ → ℕ → ℕ
 item_clause x cs vs limits from i =
-    if is_name cs i then
-    (if ltb (first_label x cs from i) i then 1 else if ltb (first_number cs vs from i) i then 2
-    else if is_outside limits (item_number cs vs i) then 3 else 0)
+    when is_name cs i then
+    (when ltb (first_label x cs from i) i then 1 else when ltb (first_number cs vs from i) i then 2
+    else when is_outside limits (item_number cs vs i) then 3 else 0)
     else 0
 
 -- what it stands against: the first item that has the label, where one before it has; else the first that has the number, which is
 -- itself where none before it has
 abbrev pub item_other : Spelling → List ℕ → List ℕ → ℕ → ℕ → ℕ
-item_other x cs vs from i = if ltb (first_label x cs from i) i then first_label x cs from i else first_number cs vs from i
+item_other x cs vs from i = when ltb (first_label x cs from i) i then first_label x cs from i else first_number cs vs from i
 
 -- token i is a label that an earlier item has
 unfoldable pub label_again : Spelling → List ℕ → ℕ → ℕ → Bool

@@ -5,7 +5,7 @@ use Rattle.std.specs.Prelude.{Bool, false, ◌||◌, List, ◌≡◌, ℕ, ◌+�
 use Rattle.bit_tree.specs.Bit.{bit, name_bit}
 use Rattle.bit_tree.specs.Tree.{Tree}
 use Rattle.definition.specs.Members.{is_name}
-use Rattle.index.specs.Choice.{if◌then◌else◌}
+use Rattle.index.specs.Choice.{when◌then◌else◌}
 use Rattle.enumeration.specs.Item.{Spelling, spelled}
 
 -- entry j of the tree
@@ -14,7 +14,7 @@ is_entry cs base j = eqb j 0 || is_name cs (base + j)
 
 -- the root of a tree of the first k entries, counted from 1; 0 where there are none
 abbrev pub root_of : ℕ → ℕ
-root_of k = if ltb k 1 then k else 1
+root_of k = when ltb k 1 then k else 1
 
 -- the turns of token i: the bits of its label, or those of its number's magnitude
 abbrev pub label_turns : Spelling → ℕ → ℕ → Bool

@@ -1,7 +1,7 @@
 // The items of an enumeration: refusal 18 on them. Labels and numbers are in trees by their bits, so that an item is compared with no
 // more of those before it than a label or a number has bits.
 ghost use Rattle.std.specs.Prelude.{◌≡◌, true, ◌-◌, ◌<◌, ◌≤◌, ltb, length};
-ghost use Rattle.index.specs.Choice.{if◌then◌else◌};
+ghost use Rattle.index.specs.Choice.{when◌then◌else◌};
 ghost use Rattle.index.specs.First.{first, any};
 ghost use Rattle.rule.specs.Rule.{judge_one};
 ghost use Rattle.definition.specs.Members.{is_name};
@@ -259,7 +259,7 @@ fn first_same_number(classes: &[u8], values: &[u32], span: Span) -> usize
 // The clause of refusal 18 that the item of a token breaks, by the first items that have its label and its number: one of them is
 // earlier, or else the number is outside.
 fn item_clause(label: usize, number: usize, token: usize) -> u8
-    ensures { result ≡ (if ltb label token then 1 else if ltb number token then 2 else 3) }
+    ensures { result ≡ (when ltb label token then 1 else when ltb number token then 2 else 3) }
 {
     if label < token {
         return 1;
@@ -272,7 +272,7 @@ fn item_clause(label: usize, number: usize, token: usize) -> u8
 
 // What it stands against, by the same two.
 fn item_other(label: usize, number: usize, token: usize) -> usize
-    ensures { result ≡ (if ltb label token then label else number) }
+    ensures { result ≡ (when ltb label token then label else number) }
 {
     if label < token {
         return label;

@@ -1,7 +1,7 @@
 // The spellings of labels: where they stand, and when two are the same.
 ghost use Rattle.std.specs.Prelude.{◌≡◌, ltb};
 ghost use Rattle.lexicon.specs.Word.{between, same, Within};
-ghost use Rattle.index.specs.Choice.{if◌then◌else◌};
+ghost use Rattle.index.specs.Choice.{when◌then◌else◌};
 ghost use Rattle.enumeration.specs.Item.{spelling_in, spelled, has_label};
 
 use definition::is_lower;
@@ -18,7 +18,7 @@ pub struct Part {
 
 // The smaller of two numbers.
 pub fn lesser(a: usize, b: usize) -> usize
-    ensures { result ≡ (if ltb a b then a else b) }
+    ensures { result ≡ (when ltb a b then a else b) }
 {
     if a < b {
         return a;

@@ -2,7 +2,7 @@
 -- every byte.
 -- Assumes nothing.
 use Rattle.std.specs.Prelude.{ℕ, ◌-◌, ◌≡◌, cond, List, ◌++◌, ltb, eqb, length, drop, replicate, ℤ}
-use Rattle.index.specs.Choice.{if◌then◌else◌}
+use Rattle.index.specs.Choice.{when◌then◌else◌}
 use Rattle.hint_form.specs.Hint.{Reading, pieces, none, read_hint}
 use Rattle.hint_integer.specs.Form.{read_form}
 use Rattle.hint_piece.specs.Use.{Outcome, printed, fault}
@@ -39,8 +39,8 @@ by_pieces none value = refusal 32 0
 -- octets, with an output buffer of so many bytes: refusals in the order 30, 31, 32, 33
 unfoldable pub octets_verdict : ℕ → List ℕ → List ℕ → Verdict
 octets_verdict room hint value =
-    if ltb room octets_part then refusal 30 0
-    else if ltb 1024 (length value) then refusal 31 0
+    when ltb room octets_part then refusal 30 0
+    else when ltb 1024 (length value) then refusal 31 0
     else by_pieces (read_hint hint) value
 
 -- refusal 32, then 34, or the text

@@ -3,7 +3,7 @@
 -- Assumes nothing.
 use Rattle.std.specs.Prelude.{ℕ, ◌+◌, Bool, true, false, not, ◌||◌, List, leb, ltb, eqb, length, take}
 use Prim.Native.Char.{code}
-use Rattle.index.specs.Choice.{if◌then◌else◌}
+use Rattle.index.specs.Choice.{when◌then◌else◌}
 use Rattle.buffer.specs.Buffer.{byte_at}
 use Rattle.character.specs.Cut.{cut, stuck_at}
 use Rattle.character.specs.declared.Search.{Search}
@@ -16,18 +16,18 @@ use Rattle.hint_form.specs.declared.fault.Fault.TheVariants.{Sound, Early, NoLen
 -- whose length is over 8
 unfoldable pub format_fault : List ℕ → ℕ → Fault
 format_fault hint place =
-    if leb (length hint) place then Early (length hint)
-    else if eqb (longest (byte_at hint place)) 0 then NoFormat place
+    when leb (length hint) place then Early (length hint)
+    else when eqb (longest (byte_at hint place)) 0 then NoFormat place
     else Wide place
 
 -- where a length should start, of a piece that is none: the hint ends there, a zero or no digit stands there, the third digit makes it
 -- larger than 255, or the fault is behind it
 unfoldable pub length_fault : List ℕ → ℕ → Fault
 length_fault hint start =
-    if leb (length hint) start then Early (length hint)
-    else if eqb (byte_at hint start) (code "0") then Zero start
-    else if not (digit (byte_at hint start)) then NoLength start
-    else if ltb 255 (number_at hint start).value then Large (start + 2)
+    when leb (length hint) start then Early (length hint)
+    else when eqb (byte_at hint start) (code "0") then Zero start
+    else when not (digit (byte_at hint start)) then NoLength start
+    else when ltb 255 (number_at hint start).value then Large (start + 2)
     else format_fault hint (number_at hint start).next
 
 -- where no piece starts, and everywhere else
@@ -54,8 +54,8 @@ longer (NoForm place) = NoForm place
 -- of a hint for octets
 unfoldable pub octets_fault : List ℕ → Fault
 octets_fault hint =
-    if eqb (length hint) 0 then Early 0
-    else if leb (length hint) 255 then pieces_fault hint
+    when eqb (length hint) 0 then Early 0
+    else when leb (length hint) 255 then pieces_fault hint
     else longer (pieces_fault (take 255 hint))
 
 -- nothing is wrong
@@ -73,20 +73,20 @@ is_sound (NoForm place) = false
 -- of a hint that starts with d-: a digit from 1 to 9, or 10, and the end
 unfoldable pub places_fault : List ℕ → Fault
 places_fault hint =
-    if eqb (byte_at hint 2) (code "0") then NoForm 2
-    else if not (digit (byte_at hint 2)) then NoForm 2
-    else if eqb (length hint) 3 then Sound
-    else if not (eqb (byte_at hint 2) (code "1")) then NoForm 3
-    else if not (eqb (byte_at hint 3) (code "0")) then NoForm 3
-    else if eqb (length hint) 4 then Sound
+    when eqb (byte_at hint 2) (code "0") then NoForm 2
+    else when not (digit (byte_at hint 2)) then NoForm 2
+    else when eqb (length hint) 3 then Sound
+    else when not (eqb (byte_at hint 2) (code "1")) then NoForm 3
+    else when not (eqb (byte_at hint 3) (code "0")) then NoForm 3
+    else when eqb (length hint) 4 then Sound
     else NoForm 4
 
 -- of a hint of two bytes or more, the first of which is a format: d- and the places
 unfoldable pub point_fault : List ℕ → Fault
 point_fault hint =
-    if not (eqb (byte_at hint 0) (code "d")) then NoForm 1
-    else if not (eqb (byte_at hint 1) (code "-")) then NoForm 1
-    else if eqb (length hint) 2 then Early 2
+    when not (eqb (byte_at hint 0) (code "d")) then NoForm 1
+    else when not (eqb (byte_at hint 1) (code "-")) then NoForm 1
+    else when eqb (length hint) 2 then Early 2
     else places_fault hint
 
 -- a format of integers
@@ -96,7 +96,7 @@ integer_letter b = eqb b (code "x") || (eqb b (code "o") || (eqb b (code "b") ||
 -- of a hint for integers: x, o, b, d, or d-1 to d-10
 unfoldable pub integer_fault : List ℕ → Fault
 integer_fault hint =
-    if eqb (length hint) 0 then Early 0
-    else if not (integer_letter (byte_at hint 0)) then NoForm 0
-    else if eqb (length hint) 1 then Sound
+    when eqb (length hint) 0 then Early 0
+    else when not (integer_letter (byte_at hint 0)) then NoForm 0
+    else when eqb (length hint) 1 then Sound
     else point_fault hint

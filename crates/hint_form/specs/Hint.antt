@@ -4,7 +4,7 @@
 -- Assumes nothing.
 use Rattle.std.specs.Prelude.{ℕ, zero, suc, ◌+◌, ◌-◌, ◌*◌, Bool, true, false, cond, not, ◌&&◌, ◌||◌, List, [], map, leb, ltb, eqb, length}
 use Prim.Native.Char.{code}
-use Rattle.index.specs.Choice.{if◌then◌else◌}
+use Rattle.index.specs.Choice.{when◌then◌else◌}
 use Rattle.buffer.specs.Buffer.{byte_at}
 use Rattle.character.specs.Cut.{Cut, whole, stuck, cut}
 use Rattle.hint_form.specs.declared.Piece.{Piece}
@@ -58,11 +58,11 @@ passes format = eqb format (code "a") || eqb format (code "t")
 
 -- the base that a format letter means: x 16, o 8, b 2, and d 10
 unfoldable pub base_of : ℕ → ℕ
-base_of format = if eqb format (code "x") then 16 else if eqb format (code "o") then 8 else if eqb format (code "b") then 2 else 10
+base_of format = when eqb format (code "x") then 16 else when eqb format (code "o") then 8 else when eqb format (code "b") then 2 else 10
 
 -- the greatest length that a format allows: 8 for x d o, 255 for a t; no other byte is a format
 unfoldable pub longest : ℕ → ℕ
-longest format = if numeric format then 8 else if passes format then 255 else 0
+longest format = when numeric format then 8 else when passes format then 255 else 0
 
 -- the repeat indicator `*` at a place
 unfoldable pub starred : List ℕ → ℕ → Bool

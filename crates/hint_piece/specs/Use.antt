@@ -1,7 +1,7 @@
 -- Printing octets by one piece (document 01, "Printing by hint"): its uses, the octets of a use.
 -- Assumes nothing.
 use Rattle.std.specs.Prelude.{ℕ, zero, suc, ◌+◌, ◌*◌, true, false, cond, not, ◌&&◌, List, [], ◌∷◌, ◌++◌, leb, eqb, length, take, drop}
-use Rattle.index.specs.Choice.{if◌then◌else◌}
+use Rattle.index.specs.Choice.{when◌then◌else◌}
 use Rattle.buffer.specs.Buffer.{byte_at}
 use Rattle.hint_form.specs.Hint.{base_of, passes}
 use Rattle.digit.specs.Digits.{digits, big_endian}
@@ -39,8 +39,8 @@ optional b = cond (eqb b 0) [] (b ∷ [])
 -- remains; the terminator, if any, after the last; else the separator, if any
 unfoldable pub following : Piece → ℕ → List ℕ → ℕ → ℕ
 following p left value next =
-    if leb (length value) next then 0
-    else if eqb left 0 && not (eqb p.terminator 0) then p.terminator
+    when leb (length value) next then 0
+    else when eqb left 0 && not (eqb p.terminator 0) then p.terminator
     else p.separator
 
 -- one use at a place, with so many left after it: its octets' text and what follows

@@ -3,7 +3,7 @@
 use Rattle.std.specs.Prelude.{Bool, true, false, cond, ◌&&◌, ◌≡◌, List, [], ◌∷◌, ◌++◌, map, ℕ, suc, ◌+◌, ◌-◌, ◌*◌, ◌%◌, ◌≤◌, ◌<◌, eqb, leb, ltb, length, get_or, take, drop}
 use Prim.Native.Char.{code}
 use Prim.Native.String.{String, [] as none, ◌∷◌ as char-and}
-use Rattle.index.specs.Choice.{if◌then◌else◌}
+use Rattle.index.specs.Choice.{when◌then◌else◌}
 use Rattle.terminal.specs.Terminal.{AUGMENTS, BEGIN, BITS, CONTACT-INFO, DEFINITIONS, DEFVAL, DESCRIPTION, DISPLAY-HINT, END, FROM, IDENTIFIER, IMPLIED, IMPORTS, INDEX, INTEGER, LAST-UPDATED, MAX-ACCESS, MODULE-IDENTITY, NOTIFICATION-TYPE, OBJECT, OBJECT-IDENTITY, OBJECT-TYPE, OBJECTS, OCTET, OF, ORGANIZATION, REFERENCE, REVISION, SEQUENCE, SIZE, STATUS, STRING, SYNTAX, TEXTUAL-CONVENTION, UNITS, current, deprecated, obsolete, not_accessible, accessible_for_notify, read_only, read_write, read_create, lower, Upper, terminals, first_word, word_count}
 use Rattle.lexicon.specs.Byte.{class_of, capital_hex}
 
@@ -135,8 +135,8 @@ is_name class = leb lower class
 -- the class of a name: a word's own; else Upper where the first letter is upper-case, and lower where it is lower-case
 unfoldable pub name_class : List ℕ → ℕ
 name_class s =
-    if ltb (place_in s words) word_count then get_or word_classes (place_in s words) 0
-    else if leb capital_hex (class_of (get_or s 0 0)) then Upper
+    when ltb (place_in s words) word_count then get_or word_classes (place_in s words) 0
+    else when leb capital_hex (class_of (get_or s 0 0)) then Upper
     else lower
 
 -- a slot of the code holds this class: that of every word of the slot (there is one at most), or else no more than a class

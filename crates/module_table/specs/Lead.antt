@@ -1,16 +1,16 @@
 -- What names lead to, as words: the value of a token that is used as a name.
 -- Assumes nothing.
 use Rattle.std.specs.Prelude.{List, ℕ, ◌+◌, ◌-◌, ◌<◌, eqb, ltb, get_or}
-use Rattle.index.specs.Choice.{if◌then◌else◌}
+use Rattle.index.specs.Choice.{when◌then◌else◌}
 use Rattle.module_table.specs.declared.Lead.{Lead}
 use Rattle.module_table.specs.declared.Lead.TheVariants.{Iso, Import, Definition, Nothing}
 
 -- what a word says: 0 nothing, 1 `iso`, then a number for each of 512 definitions, then one for each symbol
 unfoldable pub lead_in : ℕ → Lead
 lead_in word =
-    if eqb word 0 then Nothing
-    else if eqb word 1 then Iso
-    else if ltb word 514 then Definition (record { 0 = word - 2 })
+    when eqb word 0 then Nothing
+    else when eqb word 1 then Iso
+    else when ltb word 514 then Definition (record { 0 = word - 2 })
     else Import (word - 514)
 
 -- the word that says where a name leads

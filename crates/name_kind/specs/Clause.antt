@@ -3,7 +3,7 @@
 -- 8 in OBJECTS, 9 in a SEQUENCE; 10 a SEQUENCE type after OF.
 -- Assumes nothing.
 use Rattle.std.specs.Prelude.{List, ℕ, ◌-◌, eqb}
-use Rattle.index.specs.Choice.{if◌then◌else◌}
+use Rattle.index.specs.Choice.{when◌then◌else◌}
 use Rattle.terminal.specs.Terminal.{AUGMENTS, INDEX, OBJECTS, SYNTAX}
 use Rattle.definition.specs.Landmark.{class_at}
 use Rattle.name_kind.specs.Need.{enclosing, need_at}
@@ -12,11 +12,11 @@ use Rattle.name_kind.specs.declared.need.Need.TheVariants.{NoName, Macro, TypeNa
 
 -- of a type that is no object's, by the class before it: after SYNTAX a convention's, after a lower a column's
 unfoldable pub type_clause : ℕ → ℕ
-type_clause before = if eqb before SYNTAX then 2 else 4
+type_clause before = when eqb before SYNTAX then 2 else 4
 
 -- of an object in the braces after this word
 unfoldable pub object_clause : ℕ → ℕ
-object_clause word = if eqb word INDEX then 6 else if eqb word AUGMENTS then 7 else if eqb word OBJECTS then 8 else 9
+object_clause word = when eqb word INDEX then 6 else when eqb word AUGMENTS then 7 else when eqb word OBJECTS then 8 else 9
 
 -- of token i, by what it is needed as; 0 where it is no use
 abbrev pub need_clause : List ℕ → ℕ → Need → ℕ

@@ -2,7 +2,7 @@
 -- indices.
 -- Assumes nothing.
 use Rattle.std.specs.Prelude.{Bool, not, ◌&&◌, ◌||◌, List, ◌∷◌, ℕ, suc, eqb, length, get_or}
-use Rattle.index.specs.Choice.{if◌then◌else◌}
+use Rattle.index.specs.Choice.{when◌then◌else◌}
 use Rattle.index.specs.First.{first, any}
 use Rattle.rule.specs.Rule.{Rule, plain_rule, each}
 use Rattle.lexicon.specs.Word.{same}
@@ -50,7 +50,7 @@ introduced_again ms = record {
 
 -- how the module named at token i doesn't offer a symbol: 1 where it is built in, 2 where it isn't, and offers none
 abbrev pub offer_clause : List Meaning → ℕ → ℕ
-offer_clause ms i = if is_module (spelled ms i) then 1 else 2
+offer_clause ms i = when is_module (spelled ms i) then 1 else 2
 
 -- 10: a symbol that the module named doesn't offer; against the name of that module
 unfoldable pub not_offered : List Meaning → Rule
@@ -71,7 +71,7 @@ is_known ms s = same s iso_name || any (introduces_name ms s) 0 (length ms)
 -- the first token that introduces the name of token i; i itself where none does
 abbrev pub introducer : List Meaning → ℕ → ℕ
 introducer ms i =
-    if any (introduces_name ms (spelled ms i)) 0 (length ms) then first (introduces_name ms (spelled ms i)) 0 (length ms) else i
+    when any (introduces_name ms (spelled ms i)) 0 (length ms) then first (introduces_name ms (spelled ms i)) 0 (length ms) else i
 
 -- token i is used as a name, and its name isn't known in the kind needed
 unfoldable pub is_unfit : List Meaning → ℕ → Bool
@@ -79,7 +79,7 @@ is_unfit ms i = not (serves (outline (classes_of ms)) (leads_to ms (spelled ms i
 
 -- 41 where the name of token i isn't known, 42 where it is, and so of another kind
 abbrev pub use_number : List Meaning → ℕ → ℕ
-use_number ms i = if is_known ms (spelled ms i) then 42 else 41
+use_number ms i = when is_known ms (spelled ms i) then 42 else 41
 
 -- 41 or 42: a name that isn't known in the kind needed, at token i alone; against where it is introduced
 unfoldable pub unfit_use : List Meaning → ℕ → Rule

@@ -2,7 +2,7 @@
 -- not built in, and a word of SMI that stands in valid modules where the grammar of document 01 has none.
 -- Assumes nothing.
 use Rattle.std.specs.Prelude.{ℕ, ◌+◌, Bool, true, false, ◌||◌, List, [], ◌∷◌, eqb, leb, length, drop}
-use Rattle.index.specs.Choice.{if◌then◌else◌}
+use Rattle.index.specs.Choice.{when◌then◌else◌}
 use Rattle.lexicon.specs.Word.{bytes, same, between}
 use Rattle.piece.specs.Piece.{piece, size}
 use Rattle.outside.specs.declared.Left.{Left}
@@ -36,11 +36,11 @@ among word (w ∷ ws) = same word w || among word ws
 -- what a word is of
 unfoldable pub kind_of : List ℕ → Left
 kind_of word =
-    if among word conformance_words then Conformance
-    else if same word macro_word then Macros
-    else if among word first_words then FirstVersion
-    else if same word exports_word then Exports
-    else if same word choice_word then Choices
+    when among word conformance_words then Conformance
+    else when same word macro_word then Macros
+    else when among word first_words then FirstVersion
+    else when same word exports_word then Exports
+    else when same word choice_word then Choices
     else Nothing
 
 -- where the token or gap that stands at a place ends; the place itself, where none does
@@ -54,8 +54,8 @@ standing text at = between text at (behind text at)
 -- what a text has at a place that is left out: a macro, by the word behind its name and a gap, or else by the word that stands there
 unfoldable pub left_out : List ℕ → ℕ → Left
 left_out text place =
-    if leb (length text) place then Nothing
-    else if same (standing text (behind text (behind text place))) macro_word then Macros
+    when leb (length text) place then Nothing
+    else when same (standing text (behind text (behind text place))) macro_word then Macros
     else kind_of (standing text place)
 
 -- something is left out
@@ -70,7 +70,7 @@ is_left Choices = true
 -- the refusal of this number and clause, at this place of the text, is of what the reader leaves out
 unfoldable pub is_outside : ℕ → ℕ → List ℕ → ℕ → Bool
 is_outside number clause text place =
-    if eqb number 2 then true
-    else if eqb number 10 then eqb clause 2
-    else if eqb number 7 then is_left (left_out text place)
+    when eqb number 2 then true
+    else when eqb number 10 then eqb clause 2
+    else when eqb number 7 then is_left (left_out text place)
     else false

@@ -2,7 +2,7 @@
 -- A text is the list of its bytes. `cond t a b` is a where the test t holds, and b where it doesn't.
 -- Assumes nothing.
 use Rattle.std.specs.Prelude.{Bool, cond, ◌&&◌, ◌||◌, List, [], ◌∷◌, ℕ, suc, ◌+◌, leb, ltb, eqb, length, get_or, take, drop}
-use Rattle.index.specs.Choice.{if◌then◌else◌}
+use Rattle.index.specs.Choice.{when◌then◌else◌}
 use Rattle.terminal.specs.Terminal.{number, negative, text, hex, assign, dots, left_brace, bar}
 use Rattle.lexicon.specs.Byte.{class_of, quote, hyphen, apostrophe, colon, dot, digit, blank_byte, digit_byte, hex_byte, text_byte, name_byte, alphanumeric, comment_byte, two_hyphens}
 use Rattle.lexicon.specs.Word.{longest_name, name_class}
@@ -63,15 +63,15 @@ misfit s =
 -- where s starts with a digit: a number that is not negative. What is no token comes before what is out of range
 unfoldable pub non_negative : List ℕ → Piece
 non_negative s =
-    if misfit s then refusal no_token 0
-    else if leb (decimal (take (span digit_byte s) s)) largest_number then token number (span digit_byte s)
+    when misfit s then refusal no_token 0
+    else when leb (decimal (take (span digit_byte s) s)) largest_number then token number (span digit_byte s)
     else refusal out_of_range 0
 
 -- where a hyphen is followed by s, which starts with a digit: a negative number. A hyphen before 0 makes none
 unfoldable pub below_zero : List ℕ → Piece
 below_zero s =
-    if eqb (get_or s 0 0) 48 || misfit s then refusal no_token 0
-    else if leb (decimal (take (span digit_byte s) s)) largest_negative then token negative (suc (span digit_byte s))
+    when eqb (get_or s 0 0) 48 || misfit s then refusal no_token 0
+    else when leb (decimal (take (span digit_byte s) s)) largest_negative then token negative (suc (span digit_byte s))
     else refusal out_of_range 0
 
 -- what a comment that is followed by s takes of it: two hyphens
@@ -85,16 +85,16 @@ comment s = gap (2 + span comment_byte s + closing (drop (span comment_byte s) s
 -- where a hyphen is followed by s: a comment, a negative number, or no token
 unfoldable pub after_hyphen : List ℕ → Piece
 after_hyphen s =
-    if eqb (class_of (get_or s 0 0)) hyphen then comment (drop 1 s)
-    else if eqb (class_of (get_or s 0 0)) digit then below_zero s
+    when eqb (class_of (get_or s 0 0)) hyphen then comment (drop 1 s)
+    else when eqb (class_of (get_or s 0 0)) digit then below_zero s
     else refusal no_token 0
 
 -- where a quote is followed by s, of which the first n bytes may stand in a text, and the next not: that one is missing, the end
 -- quote, or a forbidden byte
 abbrev pub text_end : List ℕ → ℕ → Piece
 text_end s n =
-    if leb (length s) n then refusal no_token 0
-    else if eqb (class_of (get_or s n 0)) quote then token text (n + 2)
+    when leb (length s) n then refusal no_token 0
+    else when eqb (class_of (get_or s n 0)) quote then token text (n + 2)
     else refusal forbidden (n + 1)
 
 -- where a quote is followed by s: a text
@@ -119,19 +119,19 @@ after_dot s = cond (eqb (get_or s 0 0) 46) (token dots 2) (refusal no_token 0)
 -- where a byte of the class c, which is no letter, no digit and no blank, is followed by s
 unfoldable pub punctuation : ℕ → List ℕ → Piece
 punctuation c s =
-    if leb left_brace c && leb c bar then token c 1
-    else if eqb c hyphen then after_hyphen s
-    else if eqb c quote then quoted s
-    else if eqb c colon then after_colon s
-    else if eqb c dot then after_dot s
-    else if eqb c apostrophe then hex_string s
+    when leb left_brace c && leb c bar then token c 1
+    else when eqb c hyphen then after_hyphen s
+    else when eqb c quote then quoted s
+    else when eqb c colon then after_colon s
+    else when eqb c dot then after_dot s
+    else when eqb c apostrophe then hex_string s
     else refusal no_token 0
 
 -- what a text holds at the start of s, which is what is left of it and not empty, by the class of the first byte
 unfoldable pub piece : List ℕ → Piece
 piece s =
-    if alphanumeric (get_or s 0 0) then (if eqb (class_of (get_or s 0 0)) digit then non_negative s else name s)
-    else if blank_byte (get_or s 0 0) 0 then gap (span blank_byte s)
+    when alphanumeric (get_or s 0 0) then (when eqb (class_of (get_or s 0 0)) digit then non_negative s else name s)
+    else when blank_byte (get_or s 0 0) 0 then gap (span blank_byte s)
     else punctuation (class_of (get_or s 0 0)) (drop 1 s)
 
 -- how many bytes a piece has

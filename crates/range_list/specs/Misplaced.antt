@@ -3,7 +3,7 @@
 -- Assumes nothing.
 use Rattle.std.specs.Prelude.{Bool, not, ◌&&◌, ◌||◌, List, ℕ}
 use Rattle.std.specs.Int.Signed.{lt_z}
-use Rattle.index.specs.Choice.{if◌then◌else◌}
+use Rattle.index.specs.Choice.{when◌then◌else◌}
 use Rattle.index.specs.First.{first, any}
 use Rattle.sub_type.specs.Range.{starts_range, is_pair, low, high}
 
@@ -33,8 +33,8 @@ first_sharing cs vs from i = first (is_sharing cs vs i) from i
 
 -- how a range is misplaced: 1 where its pair is wrong, else 2
 abbrev pub misplaced_clause : List ℕ → List ℕ → ℕ → ℕ
-misplaced_clause cs vs i = if is_backward cs vs i then 1 else 2
+misplaced_clause cs vs i = when is_backward cs vs i then 1 else 2
 
 -- what it stands against: nothing else where its pair is wrong, else the first range that shares a number with it
 abbrev pub misplaced_other : List ℕ → List ℕ → ℕ → ℕ → ℕ
-misplaced_other cs vs from i = if is_backward cs vs i then i else first_sharing cs vs from i
+misplaced_other cs vs from i = when is_backward cs vs i then i else first_sharing cs vs from i

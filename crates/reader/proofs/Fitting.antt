@@ -32,7 +32,7 @@ use Rattle.naming.specs.Values.{named, values_of}
 use Rattle.oid_head.specs.Oid.{has_value, first_number}
 use Rattle.oid_tree.specs.Stage.{with_oid, with_oids}
 use Rattle.oid_tree.proofs.Lengths.{first_more}
-use Rattle.index.specs.Choice.{if◌then◌else◌}
+use Rattle.index.specs.Choice.{when◌then◌else◌}
 use Rattle.type_class.specs.Class.{row, syntax_in, lead_of, names_another, integer_class, syntax_class, built_in_class, convention_class, lead_class, object_class}
 use Rattle.type_class.specs.Stage.{with_class, convention_classed, conventions_classed, object_classed}
 use Rattle.object_tree.specs.Tree.{parent_of, with_parent, parents_added}
@@ -109,7 +109,7 @@ convention_few : (vs : List ℕ) (x : Syntax) → convention_class vs x ≤ 15
 unfolding convention_class
 convention_few vs x = go (names_another vs x)
   where
-    go : (b : Bool) → (if b then 15 else syntax_class x (built_in_class (lead_of vs x))) ≤ 15
+    go : (b : Bool) → (when b then 15 else syntax_class x (built_in_class (lead_of vs x))) ≤ 15
     go true = omega arith
     go false = syntax_few x (built_in_class (lead_of vs x)) (built_in_few (lead_of vs x))
 
@@ -119,7 +119,7 @@ module _ (ds : List Definition) (few : (k : ℕ) → (entry ds k).class ≤ 15) 
   lead_few (Import k) = type_few k
   lead_few (Defined r) = go (eqb (entry ds r.0).kind convention) (eqb (entry ds r.0).kind sequence_type)
     where
-      go : (a b : Bool) → (if a then (entry ds r.0).class else if b then row else 0) ≤ 15
+      go : (a b : Bool) → (when a then (entry ds r.0).class else when b then row else 0) ≤ 15
       go true b = few r.0
       go false true = omega arith
       go false false = omega arith
@@ -207,8 +207,8 @@ module _ (ms : List Meaning) (bytes : (i : ℕ) → class_at (classes_of ms) i <
       class = convention_class vs (syntax_in cs d.syntax)
 
       go : (b : Bool)
-          → Settled (if b then with_class d (convention_class vs (syntax_in cs d.syntax)) d.sequence else d)
-          × ((if b then with_class d (convention_class vs (syntax_in cs d.syntax)) d.sequence else d).class ≤ 15)
+          → Settled (when b then with_class d (convention_class vs (syntax_in cs d.syntax)) d.sequence else d)
+          × ((when b then with_class d (convention_class vs (syntax_in cs d.syntax)) d.sequence else d).class ≤ 15)
       go true = (
         record { kind_few = s.kind_few; start_few = s.start_few; count_few = s.count_few; access_few = s.access_few; status_few = s.status_few },
         convention_few vs (syntax_in cs d.syntax),
@@ -240,8 +240,8 @@ module _ (ms : List Meaning) (bytes : (i : ℕ) → class_at (classes_of ms) i <
   object_settled d s c = go (eqb d.kind object) _
     where
       go : (b : Bool) (sequence : ℕ)
-          → Settled (if b then with_class d (object_class vs ds (syntax_in cs d.syntax)) sequence else d)
-          × ((if b then with_class d (object_class vs ds (syntax_in cs d.syntax)) sequence else d).class ≤ 15)
+          → Settled (when b then with_class d (object_class vs ds (syntax_in cs d.syntax)) sequence else d)
+          × ((when b then with_class d (object_class vs ds (syntax_in cs d.syntax)) sequence else d).class ≤ 15)
       go true sequence = (
         record { kind_few = s.kind_few; start_few = s.start_few; count_few = s.count_few; access_few = s.access_few; status_few = s.status_few },
         object_few ds convention_classes vs (syntax_in cs d.syntax),

@@ -60,42 +60,42 @@ abbrev pub outcome : ℕ → Answer → Outcome
 outcome state answer = record { number = number_of answer; next = next_of state answer }
 
 -- the outcome a where the test holds, and b where it does not
-infixr 1 if◌then◌else◌
-abbrev pub if◌then◌else◌ : Bool → Outcome → Outcome → Outcome
-if true then a else b = a
-if false then a else b = b
+infixr 1 when◌then◌else◌
+abbrev pub when◌then◌else◌ : Bool → Outcome → Outcome → Outcome
+when true then a else b = a
+when false then a else b = b
 
 -- "complete" before a state: the row moves to the next state if it is complete; else 12
 abbrev pub if_complete : ℕ → Bool → ℕ → Outcome
-if_complete state complete next = if complete then noError next else inconsistentValue state
+if_complete state complete next = when complete then noError next else inconsistentValue state
 
 -- Value 1 (active): from 1, 2 or complete 3 to 1. Else 12
 abbrev pub set_active : ℕ → Bool → Outcome
 set_active state complete =
-    if eqb state active then noError active else
-    if eqb state notInService then noError active else
-    if eqb state notReady then if_complete state complete active else
+    when eqb state active then noError active else
+    when eqb state notInService then noError active else
+    when eqb state notReady then if_complete state complete active else
     inconsistentValue state
 
 -- Value 2 (notInService): 2 stays; from 1, if willing, to 2, unwilling 10; from complete 3 to 2. Else 12
 abbrev pub set_not_in_service : ℕ → Bool → Bool → Outcome
 set_not_in_service state complete willing =
-    if eqb state notInService then noError notInService else
-    if eqb state active then (if willing then noError notInService else wrongValue state) else
-    if eqb state notReady then if_complete state complete notInService else
+    when eqb state notInService then noError notInService else
+    when eqb state active then (when willing then noError notInService else wrongValue state) else
+    when eqb state notReady then if_complete state complete notInService else
     inconsistentValue state
 
 -- Value 4 (createAndGo): from complete 0 to 1. Else 12
 abbrev pub createAndGo : ℕ → Bool → Outcome
 createAndGo state complete =
-    if eqb state none then if_complete state complete active else
+    when eqb state none then if_complete state complete active else
     inconsistentValue state
 
 -- Value 5 (createAndWait): from 0, if willing, to 2 if complete and 3 if not, unwilling 10. Else 12
 abbrev pub createAndWait : ℕ → Bool → Bool → Outcome
 createAndWait state complete willing =
-    if eqb state none then
-    (if willing then (if complete then noError notInService else noError notReady) else wrongValue state)
+    when eqb state none then
+    (when willing then (when complete then noError notInService else noError notReady) else wrongValue state)
     else inconsistentValue state
 
 -- the set value is the number
@@ -106,12 +106,12 @@ is_value (negsuc below) number = false
 -- the answer to a set: a state over 3 answers 40 before all else; value 6 (destroy): to 0; any other value: 10
 abbrev pub row_status : ℕ → ℤ → Bool → Bool → Outcome
 row_status state value complete willing =
-    if ltb 3 state then no_such_state state else
-    if is_value value 1 then set_active state complete else
-    if is_value value 2 then set_not_in_service state complete willing else
-    if is_value value 4 then createAndGo state complete else
-    if is_value value 5 then createAndWait state complete willing else
-    if is_value value 6 then noError none else
+    when ltb 3 state then no_such_state state else
+    when is_value value 1 then set_active state complete else
+    when is_value value 2 then set_not_in_service state complete willing else
+    when is_value value 4 then createAndGo state complete else
+    when is_value value 5 then createAndWait state complete willing else
+    when is_value value 6 then noError none else
     wrongValue state
 
 -- the contract of row_status::set

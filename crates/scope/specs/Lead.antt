@@ -1,7 +1,7 @@
 -- Where names are introduced, and what a name leads to.
 -- Assumes nothing.
 use Rattle.std.specs.Prelude.{Bool, ◌&&◌, ◌||◌, List, ℕ, ltb, length, get_or}
-use Rattle.index.specs.Choice.{if◌then◌else◌}
+use Rattle.index.specs.Choice.{when◌then◌else◌}
 use Rattle.index.specs.First.{first, any}
 use Rattle.lexicon.specs.Word.{same}
 use Rattle.token.specs.Token.{Meaning}
@@ -40,7 +40,7 @@ defined_as ms s = first (defines_name ms s) 0 (length (definitions (classes_of m
 -- definition of that name; or to nothing
 unfoldable pub leads_to : List Meaning → List ℕ → Lead
 leads_to ms s =
-    if same s iso_name then Iso
-    else if is_imported ms s then (if is_offered ms s then Import (symbol_of s) else Nothing)
-    else if ltb (defined_as ms s) (length (definitions (classes_of ms))) then Definition (record { 0 = defined_as ms s })
+    when same s iso_name then Iso
+    else when is_imported ms s then (when is_offered ms s then Import (symbol_of s) else Nothing)
+    else when ltb (defined_as ms s) (length (definitions (classes_of ms))) then Definition (record { 0 = defined_as ms s })
     else Nothing

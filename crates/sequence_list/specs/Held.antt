@@ -1,7 +1,7 @@
 -- What is noted of each SEQUENCE list when it is walked, once for each type, so that the rules on rows compare numbers.
 -- Assumes nothing.
 use Rattle.std.specs.Prelude.{◌≡◌, Bool, not, ◌&&◌, ◌||◌, List, ℕ, suc, ◌<◌, eqb, length, get_or, set}
-use Rattle.index.specs.Choice.{if◌then◌else◌}
+use Rattle.index.specs.Choice.{when◌then◌else◌}
 use Rattle.index.specs.First.{first, any}
 use Rattle.module_table.specs.Module.{most_definitions}
 use Rattle.module_table.specs.declared.Definition.{Definition}
@@ -27,9 +27,9 @@ parent_named ds values type = (numbered ds (named_at ds values (first_named ds v
 -- what is noted of a list: 3 it names an object twice; else 0 it names none, 1 all that it names have one parent, 2 they have several
 unfoldable pub verdict_of : List Definition → List ℕ → ℕ → ℕ
 verdict_of ds values type =
-    if repeats ds values type then 3
-    else if not (names_some ds values type) then 0
-    else if names_stranger ds values type (parent_named ds values type) then 2
+    when repeats ds values type then 3
+    else when not (names_some ds values type) then 0
+    else when names_stranger ds values type (parent_named ds values type) then 2
     else 1
 
 -- the verdicts and those parents, by types

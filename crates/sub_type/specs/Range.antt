@@ -4,7 +4,7 @@
 use Rattle.std.specs.Prelude.{Bool, not, ◌&&◌, ◌||◌, List, ℕ, ◌+◌, ◌-◌, eqb, ℤ}
 use Rattle.terminal.specs.Terminal.{number, negative, dots}
 use Rattle.definition.specs.Landmark.{class_at}
-use Rattle.index.specs.Choice.{if◌then◌else◌}
+use Rattle.index.specs.Choice.{when◌then◌else◌}
 use Rattle.sub_type.specs.Number.{number_at, is_outside}
 use Rattle.sub_type.specs.declared.Limits.{Limits}
 use Rattle.sub_type.specs.declared.Limits.TheVariants.{Nothing, Integer, Unsigned, Sizes}
@@ -23,7 +23,7 @@ is_pair cs i = eqb (class_at cs (i + 1)) dots
 
 -- the token of its high: the number behind `..`, or its only number
 abbrev pub high_token : List ℕ → ℕ → ℕ
-high_token cs i = if is_pair cs i then i + 2 else i
+high_token cs i = when is_pair cs i then i + 2 else i
 
 -- its low, and its high
 abbrev pub low : List ℕ → List ℕ → ℕ → ℤ
@@ -45,4 +45,4 @@ limit_kind Sizes = 2
 
 -- 17: that number, where the range that starts at token i exceeds the limits
 unfoldable pub limit_clause : List ℕ → List ℕ → Limits → ℕ → ℕ
-limit_clause cs vs limits i = if starts_range cs i && exceeds cs vs limits i then limit_kind limits else 0
+limit_clause cs vs limits i = when starts_range cs i && exceeds cs vs limits i then limit_kind limits else 0

@@ -14,7 +14,7 @@ use Rattle.module_table.specs.Module.{Module}
 use Rattle.module_table.specs.declared.Definition.{Definition}
 use Rattle.module_table.specs.declared.Lead.{Lead}
 use Rattle.module_table.specs.declared.Lead.TheVariants.{Iso, Import, Definition as Defined, Nothing}
-use Rattle.index.specs.Choice.{if◌then◌else◌}
+use Rattle.index.specs.Choice.{when◌then◌else◌}
 use Rattle.type_class.specs.Class.{has_syntax, syntax_in, lead_of, is_indirect}
 use Rattle.sub_type.specs.Number.{range_limits, size_limits}
 use Rattle.enumeration.specs.Item.{Spelling}
@@ -82,13 +82,13 @@ is_untested cs vs ds d =
 
 -- how the ranges of a definition are tested
 unfoldable pub range_test : List ℕ → List ℕ → List Definition → Demand → Definition → RangeTest
-range_test cs vs ds Places d = if has_syntax d then place_test (restriction_of (syntax_in cs d.syntax)) else Untested
+range_test cs vs ds Places d = when has_syntax d then place_test (restriction_of (syntax_in cs d.syntax)) else Untested
 range_test cs vs ds Limits d =
-    if has_syntax d && not (is_untested cs vs ds d) then limit_test d.class (restriction_of (syntax_in cs d.syntax)) else Untested
+    when has_syntax d && not (is_untested cs vs ds d) then limit_test d.class (restriction_of (syntax_in cs d.syntax)) else Untested
 
 -- how its items are
 unfoldable pub items_of : List ℕ → Definition → ItemTest
-items_of cs d = if has_syntax d then item_test (syntax_in cs d.syntax) else Itemless
+items_of cs d = when has_syntax d then item_test (syntax_in cs d.syntax) else Itemless
 
 -- a rule that is tested nowhere
 abbrev pub nothing_tested : ℕ → Rule

@@ -10,7 +10,7 @@ use borrow.Author.Tests.{lt-ltb, le-ltb}
 use Rattle.module_table.specs.Definition.{entry}
 use Rattle.module_table.specs.declared.Definition.{Definition}
 use Rattle.object_tree.specs.Words.{is_object}
-use Rattle.index.specs.Choice.{if◌then◌else◌}
+use Rattle.index.specs.Choice.{when◌then◌else◌}
 use Rattle.clause_table.specs.Clause.{rowless_table, stray_row, unindexed_row, indexed_object, repeating_row, misnaming_row, unlisted_column, unfounded_augments}
 use Rattle.clause_table.specs.Held.{row_clause, name_clause}
 use Rattle.table_check.specs.Found.{picked}
@@ -22,10 +22,10 @@ clause_picked ds values numbers k =
     go (not (is_object (entry ds k))) (rowless_table ds numbers k) (stray_row ds numbers k) (unindexed_row (entry ds k)) (indexed_object (entry ds k))
   where
     rest : ℕ
-    rest = if repeating_row ds values k then 5 else if misnaming_row ds values k then 6 else if unlisted_column ds values k then 7 else if unfounded_augments ds values (entry ds k) then 8 else 0
+    rest = when repeating_row ds values k then 5 else when misnaming_row ds values k then 6 else when unlisted_column ds values k then 7 else when unfounded_augments ds values (entry ds k) then 8 else 0
 
-    go : (o a b c d : Bool) → (if o then 0 else if eqb (if a then 1 else if b then 2 else if c then 3 else if d then 4 else 0) 0 then rest else if a then 1 else if b then 2 else if c then 3 else if d then 4 else 0)
-        ≡ (if o then 0 else if a then 1 else if b then 2 else if c then 3 else if d then 4 else rest)
+    go : (o a b c d : Bool) → (when o then 0 else when eqb (when a then 1 else when b then 2 else when c then 3 else when d then 4 else 0) 0 then rest else when a then 1 else when b then 2 else when c then 3 else when d then 4 else 0)
+        ≡ (when o then 0 else when a then 1 else when b then 2 else when c then 3 else when d then 4 else rest)
     go true a b c d = refl
     go false true b c d = refl
     go false false true c d = refl

@@ -1,7 +1,7 @@
 -- A token: what it says, and where it stands.
 -- Assumes nothing.
 use Rattle.std.specs.Prelude.{cond, List, [], map, ℕ, eqb, ℤ, pos, neg_ℤ, drop}
-use Rattle.index.specs.Choice.{if◌then◌else◌}
+use Rattle.index.specs.Choice.{when◌then◌else◌}
 use Rattle.terminal.specs.Terminal.{number, negative}
 use Rattle.lexicon.specs.Word.{is_name}
 use Rattle.piece.specs.Decimal.{decimal}
@@ -29,8 +29,8 @@ spelling_of class bytes = cond (is_name class) bytes []
 -- the value of a token of this class that has these bytes: a negative number's first byte is the hyphen
 unfoldable pub value_of : ℕ → List ℕ → ℤ
 value_of class bytes =
-    if eqb class number then pos (decimal bytes)
-    else if eqb class negative then neg_ℤ (pos (decimal (drop 1 bytes)))
+    when eqb class number then pos (decimal bytes)
+    else when eqb class negative then neg_ℤ (pos (decimal (drop 1 bytes)))
     else pos 0
 
 -- what a token of this class that has these bytes says

@@ -15,7 +15,7 @@ use Rattle.module_table.specs.Lead.{lead_at, definition_number}
 use Rattle.module_table.specs.declared.Definition.{Definition}
 use Rattle.module_table.specs.declared.Lead.{Lead}
 use Rattle.module_table.specs.declared.Lead.TheVariants.{Iso, Import, Definition as Defined, Nothing}
-use Rattle.index.specs.Choice.{if◌then◌else◌}
+use Rattle.index.specs.Choice.{when◌then◌else◌}
 
 -- The classes that no built-in type has.
 
@@ -36,7 +36,7 @@ has_syntax d = eqb d.kind object || eqb d.kind convention
 
 -- the syntax that stands in a span of tokens; a span that starts behind the last token says no more than OBJECT IDENTIFIER does
 unfoldable pub syntax_in : List ℕ → Span → Syntax
-syntax_in cs s = if ltb s.from (length cs) then syntax_at cs s.from s.to else ObjectIdentifier
+syntax_in cs s = when ltb s.from (length cs) then syntax_at cs s.from s.to else ObjectIdentifier
 
 -- a syntax is a type's name
 abbrev pub is_named : Syntax → Bool
@@ -96,11 +96,11 @@ built_in_class Nothing = 0
 
 -- the class of a convention with this syntax
 unfoldable pub convention_class : List ℕ → Syntax → ℕ
-convention_class vs x = if names_another vs x then unsettled else syntax_class x (built_in_class (lead_of vs x))
+convention_class vs x = when names_another vs x then unsettled else syntax_class x (built_in_class (lead_of vs x))
 
 -- the class that a definition gives an object that names it: a convention's own, row for a SEQUENCE type; 0 for what is no type
 abbrev pub class_given : Definition → ℕ
-class_given d = if eqb d.kind convention then d.class else if eqb d.kind sequence_type then row else 0
+class_given d = when eqb d.kind convention then d.class else when eqb d.kind sequence_type then row else 0
 
 -- the class of an object whose name leads there; `ds` are the definitions, the conventions with their classes
 abbrev pub lead_class : List Definition → Lead → ℕ
@@ -116,4 +116,4 @@ object_class vs ds x = syntax_class x (lead_class ds (lead_of vs x))
 -- the SEQUENCE type of an object with this class and syntax, by its number among the definitions, counted from 1: that of a table
 -- stands after OF, that of a row is its syntax; 0 for what is neither
 unfoldable pub sequence_number : List ℕ → ℕ → Syntax → ℕ
-sequence_number vs class x = if eqb class table || eqb class row then definition_number (lead_of vs x) else 0
+sequence_number vs class x = when eqb class table || eqb class row then definition_number (lead_of vs x) else 0

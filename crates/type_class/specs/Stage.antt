@@ -6,7 +6,7 @@ use Rattle.definition.specs.Landmark.{object, convention}
 use Rattle.module_table.specs.Definition.{changed}
 use Rattle.module_table.specs.Module.{Module}
 use Rattle.module_table.specs.declared.Definition.{Definition}
-use Rattle.index.specs.Choice.{if◌then◌else◌}
+use Rattle.index.specs.Choice.{when◌then◌else◌}
 use Rattle.type_class.specs.Class.{syntax_in, convention_class, object_class, sequence_number}
 
 -- a definition with another class and another SEQUENCE type
@@ -33,7 +33,7 @@ with_class d class sequence = record {
 -- a convention has its class
 unfoldable pub convention_classed : List ℕ → List ℕ → Definition → Definition
 convention_classed cs vs d =
-    if eqb d.kind convention then with_class d (convention_class vs (syntax_in cs d.syntax)) d.sequence else d
+    when eqb d.kind convention then with_class d (convention_class vs (syntax_in cs d.syntax)) d.sequence else d
 
 -- all conventions have theirs
 abbrev pub conventions_classed : List ℕ → List ℕ → List Definition → List Definition
@@ -42,7 +42,7 @@ conventions_classed cs vs ds = changed (λ k. λ d. convention_classed cs vs d) 
 -- an object has its class and its SEQUENCE type; `ds` are the definitions, the conventions with their classes
 unfoldable pub object_classed : List ℕ → List ℕ → List Definition → Definition → Definition
 object_classed cs vs ds d =
-    if eqb d.kind object
+    when eqb d.kind object
     then with_class d (object_class vs ds (syntax_in cs d.syntax))
     (sequence_number vs (object_class vs ds (syntax_in cs d.syntax)) (syntax_in cs d.syntax))
     else d

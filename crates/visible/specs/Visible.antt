@@ -3,7 +3,7 @@
 use Rattle.std.specs.Prelude.{ℕ, zero, suc, ◌+◌, ◌-◌, ◌/◌, ◌%◌, Bool, true, false, not, ◌&&◌, ◌||◌, List, [], ◌∷◌, ◌++◌, eqb, ltb, get_or}
 use Prim.Native.Char.{code}
 use Rattle.digit.specs.Digits.{glyph}
-use Rattle.index.specs.Choice.{if◌then◌else◌}
+use Rattle.index.specs.Choice.{when◌then◌else◌}
 use Rattle.position.specs.Margin.{is_inside}
 use Rattle.visible.specs.declared.Manner.{Manner}
 
@@ -13,15 +13,15 @@ is_control b = ltb b 32 || eqb b 127
 
 -- the byte before byte k, or 0 where k is the first
 unfoldable pub byte_before : List ℕ → ℕ → ℕ
-byte_before bytes k = if eqb k 0 then 0 else get_or bytes (k - 1) 0
+byte_before bytes k = when eqb k 0 then 0 else get_or bytes (k - 1) 0
 
 -- byte k is one of the control bytes 128 to 159 of an 8-bit set: one that is no part of a character of UTF-8, or the second byte of the
 -- character of that number, whose first is 194
 unfoldable pub is_late_control : List ℕ → ℕ → Bool
 is_late_control bytes k =
-    if ltb (get_or bytes k 0) 128 then false else
-    if ltb 159 (get_or bytes k 0) then false else
-    if is_inside bytes k then eqb (byte_before bytes k) 194 else
+    when ltb (get_or bytes k 0) 128 then false else
+    when ltb 159 (get_or bytes k 0) then false else
+    when is_inside bytes k then eqb (byte_before bytes k) 194 else
     true
 
 -- byte k is hidden in a line of a list: a control byte, or the backslash, which starts what is written for one
@@ -42,7 +42,7 @@ escaped b = code "\\" ∷ code "x" ∷ glyph (b / 16) ∷ glyph (b % 16) ∷ []
 
 -- what is seen of byte k
 unfoldable pub seen : Manner → List ℕ → ℕ → List ℕ
-seen manner bytes k = if is_hidden manner bytes k then escaped (get_or bytes k 0) else get_or bytes k 0 ∷ []
+seen manner bytes k = when is_hidden manner bytes k then escaped (get_or bytes k 0) else get_or bytes k 0 ∷ []
 
 -- what is seen of the n bytes from a place on
 unfoldable pub visible : Manner → List ℕ → ℕ → ℕ → List ℕ

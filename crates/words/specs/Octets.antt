@@ -3,7 +3,7 @@
 -- `Hex-STRING:`, 0x or 0X, and blanks before it. Assumes nothing.
 use Rattle.std.specs.Prelude.{ℕ, ◌+◌, ◌*◌, Bool, true, false, ◌&&◌, ◌||◌, List, [], ◌∷◌, leb, eqb, length, get_or, take, drop}
 use Prim.Native.Char.{code}
-use Rattle.index.specs.Choice.{if◌then◌else◌}
+use Rattle.index.specs.Choice.{when◌then◌else◌}
 use Rattle.words.specs.Hex.{hex_digit, is_hex}
 use Rattle.words.specs.declared.octets.Before.{Before}
 use Rattle.words.specs.declared.octets.Before.TheVariants.{Nothing, Mark, Octet, Digit}
@@ -30,8 +30,8 @@ alone Digit next = false
 -- what a digit of this value does: with the next digit it is an octet, or by itself, or it is one too many
 unfoldable pub digit_step : Before → ℕ → ℕ → Step
 digit_step before value next =
-    if is_hex next then Put (value * 16 + hex_digit next) Digit
-    else if alone before next then Put value Octet
+    when is_hex next then Put (value * 16 + hex_digit next) Digit
+    else when alone before next then Put value Octet
     else Wrong
 
 -- what a mark does: it is passed directly behind an octet
@@ -44,9 +44,9 @@ mark_step Digit = Wrong
 -- what a byte does that is no second digit
 unfoldable pub first_step : Before → ℕ → ℕ → Step
 first_step before b next =
-    if blank b then Pass Nothing
-    else if mark b then mark_step before
-    else if is_hex b then digit_step before (hex_digit b) next
+    when blank b then Pass Nothing
+    else when mark b then mark_step before
+    else when is_hex b then digit_step before (hex_digit b) next
     else Wrong
 
 -- what stands before a byte is the first digit of the same octet
@@ -58,7 +58,7 @@ is_second Digit = true
 
 -- what a byte does: the second digit of an octet was put with its first
 unfoldable pub step : Before → ℕ → ℕ → Step
-step before b next = if is_second before then Pass Octet else first_step before b next
+step before b next = when is_second before then Pass Octet else first_step before b next
 
 -- what then stands before the next byte
 unfoldable pub after : Step → Before
@@ -91,7 +91,7 @@ octets_from before (b ∷ rest) =
 -- how many blanks a word starts with
 unfoldable pub blanks : List ℕ → ℕ
 blanks [] = 0
-blanks (b ∷ rest) = if blank b then blanks rest + 1 else 0
+blanks (b ∷ rest) = when blank b then blanks rest + 1 else 0
 
 -- a word starts with these bytes
 unfoldable pub starts : List ℕ → List ℕ → Bool
@@ -112,7 +112,7 @@ large_0x = 48 ∷ 88 ∷ []
 
 -- how many bytes say that octets follow
 unfoldable pub heading : List ℕ → ℕ
-heading word = if starts hex_string word then 11 else if starts small_0x word then 2 else if starts large_0x word then 2 else 0
+heading word = when starts hex_string word then 11 else when starts small_0x word then 2 else when starts large_0x word then 2 else 0
 
 -- how many bytes stand in front of the octets: blanks, and what says that octets follow
 unfoldable pub front : List ℕ → ℕ
@@ -134,4 +134,4 @@ count AreNot = 0
 
 -- what is to be said of a word: what it writes, unless it has more bytes than the buffer
 unfoldable pub to_say : List ℕ → List ℕ → Writing
-to_say word out = if leb (length word) (length out) then octets_of word else none
+to_say word out = when leb (length word) (length out) then octets_of word else none

@@ -11,40 +11,40 @@ use Rattle.card_line.proofs.name_of.Tie as tie
 word-requires : tie.Need-word-requires
 word-requires c κs = search rules
 
-cast-part-of : tie.Need-overflow-cast-part-of
+cast-part-of : tie.Need-overflow_cast-word
 cast-part-of c = search rules
 
 word-requires-2 : tie.Need-word-requires-2
 word-requires-2 c κs = search rules
 
-cast-at-most : tie.Need-overflow-cast-at-most
+cast-at-most : tie.Need-overflow_cast-word-2
 cast-at-most c = search rules
 
-at-most-requires : tie.Need-at-most-requires
+at-most-requires : tie.Need-at_most-requires
 at-most-requires c κs = search rules
 
-part-of-requires : tie.Need-part-of-requires
+part-of-requires : tie.Need-part_of-part-requires
 part-of-requires c κs = search rules
 
-sub-result : tie.Need-overflow-sub-result
-sub-result c = c.part_of.ensures.ordered
+sub-result : tie.Need-slice_bounds-result-count
+sub-result c = c.part_of-part.ensures.ordered
 
-part-result-start : tie.Need-slice-bounds-result-start
-part-result-start c = let p = c.part_of.ensures in search rules
+part-result-start : tie.Need-slice_bounds-result-start
+part-result-start c = let p = c.part_of-part.ensures in search rules
 
-part-result-end : tie.Need-slice-bounds-result-end
-part-result-end c = let p = c.part_of.ensures in search rules
+part-result-end : tie.Need-slice_bounds-result-end
+part-result-end c = let p = c.part_of-part.ensures in search rules
 
 returns : tie.Need-returns
 returns c =
-    let most = c.before.before in
-    let count = most.before in
-    let offset = count.before in
-    let a = offset.before.before.before.args in
+    let most = c in
+    let count = most in
+    let offset = count in
+    let a = offset.args in
     let l = a.text.now in
-    c.before.part_of.ensures.entries l refl
+    c.part_of-part.ensures.entries l refl
     ∙ ap (λ (n : ℕ). take n (drop offset.word.result l))
-    (most.at_most.ensures ∙ ap (λ (n : ℕ). min n longest_name) count.word2.ensures)
+    (most.at_most.ensures ∙ ap (λ (n : ℕ). min n longest_name) count.word-2.ensures)
     ∙ ap (λ (o : ℕ). take (min (get_or a.words.now 2 0) longest_name) (drop o l)) offset.word.ensures
 
 pub name_of_spec : {M : Type 1} → statement M

@@ -5,20 +5,20 @@ use Rattle.card_line.proofs.Parts.{past, rest, some}
 use Rattle.card_line.proofs.part_of.Statement.{statement}
 use Rattle.card_line.proofs.part_of.Tie as tie
 
-returns : tie.Need-returns
-returns c = let a = c.before.args in past a.size a.offset a.count c.if1.true
+returns : tie.Need-returns-then-size-offset
+returns c = let a = c.args in past a.size a.offset a.count c.if-size-offset.true
 
-sub-if2 : tie.Need-overflow-sub-if2
+sub-if2 : tie.Need-overflow_sub-size
 sub-if2 c = search rules
 
-returns-2 : tie.Need-returns-2
-returns-2 c = let a = c.before.before.args in rest a.size a.offset a.count c.before.if1.false c.if2.true
+returns-2 : tie.Need-returns-then-size-offset-2
+returns-2 c = let a = c.args in rest a.size a.offset a.count c.if-size-offset.false c.if-size-offset-2.true
 
-add-t5 : tie.Need-overflow-add-t5
+add-t5 : tie.Need-overflow_add-result
 add-t5 c = search rules
 
-returns-3 : tie.Need-returns-3
-returns-3 c = let a = c.before.before.args in some a.size a.offset a.count c.if2.false
+returns-3 : tie.Need-returns
+returns-3 c = let a = c.args in some a.size a.offset a.count c.if-size-offset-2.false
 
 pub part_of_spec : {M : Type 1} → statement M
 part_of_spec =

@@ -6,17 +6,17 @@ use lib.ListN.{get_or-eq_default}
 use Rattle.card_line.proofs.word.Statement.{statement}
 use Rattle.card_line.proofs.word.Tie as tie
 
-mul-result : tie.Need-overflow-mul-result
+mul-result : tie.Need-offset_bounds-words-i
 mul-result c = search rules
 
-shared-slice-read-result : tie.Need-shared-slice-read-result
+shared-slice-read-result : tie.Need-bounds-words-i
 shared-slice-read-result c = search rules
 
-returns : tie.Need-returns
+returns : tie.Need-returns-then-i-words
 returns c = search rules
 
-returns-2 : tie.Need-returns-2
-returns-2 c = let a = c.before.args in sym (get_or-eq_default a.words.now 0 c.if1.false)
+returns-2 : tie.Need-returns-else-i-words
+returns-2 c = let a = c.args in sym (get_or-eq_default a.words.now 0 c.if-i-words.false)
 
 pub word_spec : {M : Type 1} → statement M
 word_spec =

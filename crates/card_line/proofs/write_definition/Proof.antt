@@ -26,46 +26,46 @@ oid_size d =
 word-requires : tie.Need-word-requires
 word-requires c κs = search rules
 
-cast-write-field : tie.Need-overflow-cast-write-field
+cast-write-field : tie.Need-overflow_cast-word
 cast-write-field c = search rules
 
-write-field-requires : tie.Need-write-field-requires
+write-field-requires : tie.Need-write_field-next-requires
 write-field-requires c κs = search rules
 
-name-of-requires : tie.Need-name-of-requires
+name-of-requires : tie.Need-name_of-requires
 name-of-requires c κs = search rules
 
-write-name-requires : tie.Need-write-name-requires
+write-name-requires : tie.Need-write_name-next-requires
 write-name-requires c κs =
-    let d = c.before.before.before.before.before.before.before.before.before.before.before in
-    let p = c.before.before.before.before.write-field in
-    omega (arith, d.requires, p.ensures.1, p.auto.1.1.0, ap length c.before.name_of.ensures, name_size d)
+    let d = c in
+    let p = c.write_field-next in
+    omega (arith, d.requires, p.ensures.1, p.auto.out, ap length c.name_of.ensures, name_size d.before.before.before.before.before.before.before.before.before.before.before)
 
-oid-of-requires : tie.Need-oid-of-requires
+oid-of-requires : tie.Need-oid_of-requires
 oid-of-requires c κs = search rules
 
-write-oid-requires : tie.Need-write-oid-requires
+write-oid-requires : tie.Need-write_oid-requires
 write-oid-requires c κs =
-    let d = c.before.before.before.before.before.before.before.before.before.before.before.before.before.before.before.before in
-    let p = c.before.before.before.before.before.before.before.before.before.write-field in
-    let q = c.before.before.before.before.write-name in
-    (omega (arith, d.requires, ap length c.before.oid_of.ensures, oid_size d), omega (arith, d.requires, p.ensures.1, p.auto.1.1.0, ap length c.before.before.before.before.before.before.name_of.ensures, name_size d, q.ensures.1, q.auto.1.0))
+    let d = c in
+    let p = c.write_field-next in
+    let q = c.write_name-next in
+    (omega (arith, d.requires, ap length c.oid_of.ensures, oid_size d.before.before.before.before.before.before.before.before.before.before.before.before.before.before.before.before), omega (arith, d.requires, p.ensures.1, p.auto.out, ap length c.name_of.ensures, name_size d.before.before.before.before.before.before.before.before.before.before.before.before.before.before.before.before, q.ensures.1, q.auto.out))
 
-same_length : tie.Need-same-length
+same_length : tie.Need-shape_of-out
 same_length c = search rules
 
 returns : tie.Need-returns
 unfolding definition_fields
 returns c =
-    let d = c.before.before.before.before.before.before.before.before.before.before.before.before.before.before.before.before.before.before.before in
-    let p = c.before.before.before.before.before.before.before.before.before.before.before.before.write-field in
-    let q = c.before.before.before.before.before.before.before.write-name in
-    let r = c.before.before.write-oid in
-    let named = ap length c.before.before.before.before.before.before.before.before.before.name_of.ensures in (
-      wrote_then (wrote_as (ap (λ (n : ℕ). field n tab) c.before.before.before.before.before.before.before.before.before.before.before.before.before.before.word.ensures) p.ensures.0) (omega (arith, d.requires, p.ensures.1))
-          (wrote_then (wrote_as (ap name_field c.before.before.before.before.before.before.before.before.before.name_of.ensures) q.ensures.0) (omega (arith, d.requires, p.ensures.1, p.auto.1.1.0, q.ensures.1, named, name_size d))
-          (wrote_as (ap oid_field c.before.before.before.before.oid_of.ensures) r.ensures.0)),
-      omega (arith, d.requires, p.ensures.1, q.ensures.1, r.ensures.1, named, name_size d),
+    let d = c in
+    let p = c.write_field-next in
+    let q = c.write_name-next in
+    let r = c.write_oid in
+    let named = ap length c.name_of.ensures in (
+      wrote_then (wrote_as (ap (λ (n : ℕ). field n tab) c.word.ensures) p.ensures.0) (omega (arith, d.requires, p.ensures.1))
+          (wrote_then (wrote_as (ap name_field c.name_of.ensures) q.ensures.0) (omega (arith, d.requires, p.ensures.1, p.auto.out, q.ensures.1, named, name_size d.before.before.before.before.before.before.before.before.before.before.before.before.before.before.before.before.before.before.before))
+          (wrote_as (ap oid_field c.oid_of.ensures) r.ensures.0)),
+      omega (arith, d.requires, p.ensures.1, q.ensures.1, r.ensures.1, named, name_size d.before.before.before.before.before.before.before.before.before.before.before.before.before.before.before.before.before.before.before),
     )
 
 pub write_definition_spec : {M : Type 1} → statement M

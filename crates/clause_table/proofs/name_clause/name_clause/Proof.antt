@@ -7,7 +7,7 @@ use lib.ListN.{get_or}
 use Rattle.module_table.specs.Definition.{definitions_in, entry}
 use Rattle.module_table.specs.declared.Definition.{Definition}
 use Rattle.object_tree.specs.Words.{is_row, numbered}
-use Rattle.index.specs.Choice.{if◌then◌else◌}
+use Rattle.index.specs.Choice.{when◌then◌else◌}
 use Rattle.sequence_list.specs.Named.{repeats, names_stranger}
 use Rattle.clause_table.specs.Clause.{unlisted_column, unfounded_augments}
 use mathlib.Core.Path.{◌≡◌, sym, ap, ◌∙◌}
@@ -28,7 +28,7 @@ start d = d.before.before.before
 
 -- the clause on the names of its list
 noted : (h : tie.After-list_clause-clause) → (let d = h in let s = start d.before.before.before.before.before.before.before in let ds = definitions_in s.args.definitions.now in
-    h.list_clause-clause.result ≡ (if repeats ds s.args.values.now (type_of (entry ds s.args.k.0)) then 5 else if names_stranger ds s.args.values.now (type_of (entry ds s.args.k.0)) (s.args.k.0 + 1) then 6 else 0))
+    h.list_clause-clause.result ≡ (when repeats ds s.args.values.now (type_of (entry ds s.args.k.0)) then 5 else when names_stranger ds s.args.values.now (type_of (entry ds s.args.k.0)) (s.args.k.0 + 1) then 6 else 0))
 noted h =
     let t = h in
     let d = t in
