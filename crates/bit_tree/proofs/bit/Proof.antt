@@ -5,17 +5,21 @@ use borrow.Author.Rules.{rules}
 use Rattle.bit_tree.proofs.bit.Statement.{statement}
 use Rattle.bit_tree.proofs.bit.Tie as tie
 
-cast-result : tie.Need-overflow-cast-result
+cast-result : tie.Need-overflow_cast-result
 cast-result c = search rules
 
-shr-result : tie.Need-overflow-shr-result
+shr-result : tie.Need-overflow_shr-result
 shr-result c = search rules
 
-returns : tie.Need-returns
-returns c = simp (lt-ltb c.before.args.d 32 c.if1.true)
+returns : tie.Need-returns-then-d-lt32
+returns c = simp (lt-ltb c.args.d 32 c.if-d-lt32.true)
 
-returns-2 : tie.Need-returns-2
-returns-2 c = simp (le-ltb c.before.args.d 32 c.if1.false)
+returns-2 : tie.Need-returns
+returns-2 c = simp (le-ltb c.args.d 32 c.if-d-lt32.false)
 
 pub bit_spec : {M : Type 1} → statement M
-bit_spec = tie.close (tie.spec cast-result shr-result returns returns-2)
+bit_spec = tie.close (tie.spec
+    cast-result
+    shr-result
+    returns
+    returns-2)

@@ -14,115 +14,115 @@ use Rattle.outline.proofs.Outline.{Collecting, collecting_start, collecting_more
 use Rattle.outline.proofs.collect_outline.Statement.{statement}
 use Rattle.outline.proofs.collect_outline.Tie as tie
 
-abbrev invariant-loop : tie.invariant-loop
+abbrev invariant-loop : tie.invariant-loop-d
 invariant-loop classes definitions₀ count₀ d₀ definitions count d =
     Collecting classes definitions count d × (d ≤ last_token classes)
 
-abbrev decreases-loop : tie.decreases-loop
+abbrev decreases-loop : tie.decreases-loop-d
 decreases-loop classes definitions₀ count₀ d₀ definitions count d = length classes - d
 
-next-beginning-requires : tie.Need-next-beginning-requires invariant-loop decreases-loop
-next-beginning-requires c κs = let s = c.before.before in (s.requires.0, omega arith)
+next-beginning-requires : tie.Need-next_beginning-d-requires invariant-loop decreases-loop
+next-beginning-requires c κs = let s = c in (s.requires.0, omega arith)
 
-loop-holds : tie.Need-loop-init invariant-loop decreases-loop
+loop-holds : tie.Need-loop-d-init invariant-loop decreases-loop
 loop-holds c =
-    let s = c.before.before.before in
-    let is = c.next-beginning.ensures in
+    let s = c in
+    let is = c.next_beginning-d.ensures in
     (collecting_start _ _ _ s.requires.1 is, omega (arith, is, first_inside (begins s.args.classes.now) 0 (last_token s.args.classes.now) (omega arith)))
 
-add-loop : tie.Need-overflow-add-loop invariant-loop decreases-loop
-add-loop c = omega (arith, c.loop.invariant.1)
+add-loop : tie.Need-overflow_add-d invariant-loop decreases-loop
+add-loop c = omega (arith, c.loop-d.invariant.1)
 
-same_length : tie.Need-same-length invariant-loop decreases-loop
+same_length : tie.Need-shape_of-definitions-then-count-eq-MOST_DEFINITIONS invariant-loop decreases-loop
 same_length c =
-    let l = c.before.before in
-    let s = l.before.before.before.before in
-    l.loop.invariant.0.long ∙ sym s.requires.1
+    let l = c in
+    let s = l in
+    l.loop-d.invariant.0.long ∙ sym s.requires.1
 
-returns : tie.Need-returns invariant-loop decreases-loop
+returns : tie.Need-returns-then-count-eq-MOST_DEFINITIONS invariant-loop decreases-loop
 returns c =
-    let l = c.before.before in
-    let s = l.before.before.before.before in
+    let l = c in
+    let s = l in
     let cs = s.args.classes.now in
-    let h : l.loop.d < last_token cs = omega (arith, c.before.loop-test.true) in
-    let most : l.loop.count ≡ most_definitions = c.if1.true in
-    let more = one_more cs l.loop.definitions l.loop.count l.loop.d l.loop.invariant.0 h in
-    let name = its_name cs l.loop.definitions l.loop.count l.loop.d l.loop.invariant.0 h in
-    (l.loop.invariant.0.long ∙ sym s.requires.1, (omega arith, sym name ∙ ap (λ (k : ℕ). get_or (definitions cs) k 0) most))
+    let h : l.loop-d.d < last_token cs = omega (arith, c.loop-d-test.true) in
+    let most : l.loop-d.count ≡ most_definitions = c.if-count-eq-MOST_DEFINITIONS.true in
+    let more = one_more cs l.loop-d.definitions l.loop-d.count l.loop-d.d l.loop-d.invariant.0 h in
+    let name = its_name cs l.loop-d.definitions l.loop-d.count l.loop-d.d l.loop-d.invariant.0 h in
+    (l.loop-d.invariant.0.long ∙ sym s.requires.1, (omega arith, sym name ∙ ap (λ (k : ℕ). get_or (definitions cs) k 0) most))
 
 -- what `definition_end` answers
 answer : (cs : List ℕ) (d e : ℕ) → e ≡ definition_end (take (length cs) cs) d → e ≡ definition_end cs d
 answer cs d e is = is ∙ ap (λ (l : List ℕ). definition_end l d) (take-length cs)
 
-definition-end-requires : tie.Need-definition-end-requires invariant-loop decreases-loop
+definition-end-requires : tie.Need-definition_end-e-requires invariant-loop decreases-loop
 definition-end-requires c κs =
-    let s = c.before.before.before.before.before.before in
-    (omega arith, (s.requires.0, omega (arith, c.before.loop-test.true)))
+    let s = c in
+    (omega arith, (s.requires.0, omega (arith, c.loop-d-test.true)))
 
-definition-between-requires : tie.Need-definition-between-requires invariant-loop decreases-loop
+definition-between-requires : tie.Need-definition_between-requires invariant-loop decreases-loop
 definition-between-requires c κs =
-    let l = c.before.before.before.before in
-    let s = l.before.before.before.before in
+    let l = c in
+    let s = l in
     let cs = s.args.classes.now in
-    let h : l.loop.d < last_token cs = omega (arith, c.before.before.before.loop-test.true) in
-    let is = answer cs l.loop.d _ c.before.definition_end.ensures in
-    (omega (arith, l.loop.invariant.1, s.requires.0), omega (arith, is, s.requires.0, (end_inside cs l.loop.d h).1))
+    let h : l.loop-d.d < last_token cs = omega (arith, c.loop-d-test.true) in
+    let is = answer cs l.loop-d.d _ c.definition_end-e.ensures in
+    (omega (arith, l.loop-d.invariant.1, s.requires.0), omega (arith, is, s.requires.0, (end_inside cs l.loop-d.d h).1))
 
 store-requires : tie.Need-store-requires invariant-loop decreases-loop
 store-requires c κs =
-    let l = c.before.before.before.before.before in
-    room_left _ _ _ _ l.loop.invariant.0 c.before.before.before.if1.false
+    let l = c in
+    room_left _ _ _ _ l.loop-d.invariant.0 c.if-count-eq-MOST_DEFINITIONS.false
 
-add-count : tie.Need-overflow-add-count invariant-loop decreases-loop
-add-count c = omega (arith, c.before.before.before.before.before.before.before.before.loop.invariant.0.few)
+add-count : tie.Need-overflow_add-count invariant-loop decreases-loop
+add-count c = omega (arith, c.loop-d.invariant.0.few)
 
-next-beginning-requires-2 : tie.Need-next-beginning-requires-2 invariant-loop decreases-loop
+next-beginning-requires-2 : tie.Need-next_beginning-d-requires-in-loop-d invariant-loop decreases-loop
 next-beginning-requires-2 c κs =
-    let e = c.before.before.before.before.before in
-    let l = e.before.before.before in
-    let s = l.before.before.before.before in
+    let e = c in
+    let l = e in
+    let s = l in
     let cs = s.args.classes.now in
-    let h : l.loop.d < last_token cs = omega (arith, e.before.before.loop-test.true) in
-    let is = answer cs l.loop.d _ e.definition_end.ensures in
-    (s.requires.0, omega (arith, is, (end_inside cs l.loop.d h).1))
+    let h : l.loop-d.d < last_token cs = omega (arith, e.loop-d-test.true) in
+    let is = answer cs l.loop-d.d _ e.definition_end-e.ensures in
+    (s.requires.0, omega (arith, is, (end_inside cs l.loop-d.d h).1))
 
-loop-less : tie.Need-loop-smaller invariant-loop decreases-loop
+loop-less : tie.Need-loop-d-smaller invariant-loop decreases-loop
 loop-less c =
-    let e = c.before.before.before.before.before.before in
-    let l = e.before.before.before in
-    let cs = l.before.before.before.before.args.classes.now in
-    let h : l.loop.d < last_token cs = omega (arith, e.before.before.loop-test.true) in
-    let is = answer cs l.loop.d _ e.definition_end.ensures in
-    omega (arith, c.next-beginning2.ensures, is, first_from (begins cs) e.definition_end.result (last_token cs), (end_inside cs l.loop.d h).0)
+    let e = c in
+    let l = e in
+    let cs = l.args.classes.now in
+    let h : l.loop-d.d < last_token cs = omega (arith, e.loop-d-test.true) in
+    let is = answer cs l.loop-d.d _ e.definition_end-e.ensures in
+    omega (arith, c.next_beginning-d-in-loop-d.ensures, is, first_from (begins cs) e.definition_end-e.result (last_token cs), (end_inside cs l.loop-d.d h).0)
 
-loop-again : tie.Need-loop-preserved invariant-loop decreases-loop
+loop-again : tie.Need-loop-d-preserved invariant-loop decreases-loop
 loop-again c =
-    let e = c.before.before.before.before.before.before in
-    let l = e.before.before.before in
-    let s = l.before.before.before.before in
+    let e = c in
+    let l = e in
+    let s = l in
     let cs = s.args.classes.now in
-    let h : l.loop.d < last_token cs = omega (arith, e.before.before.loop-test.true) in
-    let is = answer cs l.loop.d _ e.definition_end.ensures in (
-      collecting_more cs l.loop.definitions l.loop.count l.loop.d l.loop.invariant.0 h e.before.if1.false e.definition_end.result is _
-          (rw (← c.before.before.before.before.definition-between.ensures) c.before.before.before.store.ensures)
-          c.next-beginning2.result c.next-beginning2.ensures,
-      omega (arith, c.next-beginning2.ensures, first_inside (begins cs) e.definition_end.result (last_token cs) (omega (arith, is, (end_inside cs l.loop.d h).1))),
+    let h : l.loop-d.d < last_token cs = omega (arith, e.loop-d-test.true) in
+    let is = answer cs l.loop-d.d _ e.definition_end-e.ensures in (
+      collecting_more cs l.loop-d.definitions l.loop-d.count l.loop-d.d l.loop-d.invariant.0 h e.if-count-eq-MOST_DEFINITIONS.false e.definition_end-e.result is _
+          (rw (← c.definition_between.ensures) c.store.ensures)
+          c.next_beginning-d-in-loop-d.result c.next_beginning-d-in-loop-d.ensures,
+      omega (arith, c.next_beginning-d-in-loop-d.ensures, first_inside (begins cs) e.definition_end-e.result (last_token cs) (omega (arith, is, (end_inside cs l.loop-d.d h).1))),
     )
 
-same-length-2 : tie.Need-same-length-2 invariant-loop decreases-loop
+same-length-2 : tie.Need-shape_of-definitions invariant-loop decreases-loop
 same-length-2 c =
-    let l = c.before in
-    let s = l.before.before.before.before in
-    l.loop.invariant.0.long ∙ sym s.requires.1
+    let l = c in
+    let s = l in
+    l.loop-d.invariant.0.long ∙ sym s.requires.1
 
-returns-2 : tie.Need-returns-2 invariant-loop decreases-loop
+returns-2 : tie.Need-returns invariant-loop decreases-loop
 returns-2 c =
-    let l = c.before in
-    let s = l.before.before.before.before in
+    let l = c in
+    let s = l in
     let cs = s.args.classes.now in
-    let h : last_token cs ≤ l.loop.d = omega (arith, c.loop-test.false) in
-    let all = all_stored cs l.loop.definitions l.loop.count l.loop.d l.loop.invariant.0 h in
-    (l.loop.invariant.0.long ∙ sym s.requires.1, (all ∙ sym (outline_counted cs), l.loop.invariant.0.few, collecting_end _ _ _ _ l.loop.invariant.0 h))
+    let h : last_token cs ≤ l.loop-d.d = omega (arith, c.loop-d-test.false) in
+    let all = all_stored cs l.loop-d.definitions l.loop-d.count l.loop-d.d l.loop-d.invariant.0 h in
+    (l.loop-d.invariant.0.long ∙ sym s.requires.1, (all ∙ sym (outline_counted cs), l.loop-d.invariant.0.few, collecting_end _ _ _ _ l.loop-d.invariant.0 h))
 
 pub collect_outline_spec : {M : Type 1} → statement M
 collect_outline_spec =

@@ -10,7 +10,7 @@ use borrow.Author.Rules.{rules}
 use Rattle.outline.proofs.definition_between.Statement.{statement}
 use Rattle.outline.proofs.definition_between.Tie as tie
 
-fields-of-requires : tie.Need-fields-of-requires
+fields-of-requires : tie.Need-fields_of-requires
 fields-of-requires c κs = search rules
 
 outlined-requires : tie.Need-outlined-requires
@@ -18,9 +18,12 @@ outlined-requires c κs = search rules
 
 returns : tie.Need-returns
 returns c =
-    let s = c.before.before.before in
+    let s = c in
     c.outlined.ensures ∙ ap (outlined s.args.d)
-    (c.before.fields_of.ensures ∙ ap (λ (cs : List ℕ). fields_of cs s.args.d s.args.e) (take-length s.args.classes.now))
+    (c.fields_of.ensures ∙ ap (λ (cs : List ℕ). fields_of cs s.args.d s.args.e) (take-length s.args.classes.now))
 
 pub definition_between_spec : {M : Type 1} → statement M
-definition_between_spec = tie.close (tie.spec fields-of-requires outlined-requires returns)
+definition_between_spec = tie.close (tie.spec
+    fields-of-requires
+    outlined-requires
+    returns)

@@ -13,50 +13,50 @@ use borrow.Author.Rules.{rules}
 use Rattle.piece.proofs.hyphen_at.Statement.{statement}
 use Rattle.piece.proofs.hyphen_at.Tie as tie
 
-add-class-at : tie.Need-overflow-add-class-at
+add-class-at : tie.Need-overflow_add-at
 add-class-at c = search rules
 
-class-at-requires : tie.Need-class-at-requires
+class-at-requires : tie.Need-class_at-class-requires
 class-at-requires c κs = search rules
 
 -- the class of the byte after the hyphen
-abbrev start_of : tie.After-class-at → tie.Start
+abbrev start_of : tie.After-class_at-class → tie.Start
 start_of c = c.before.before
 
-after : (c : tie.After-class-at)
-    → (let a = (start_of c).args in class_of (get_or (drop (a.at + 1) a.text.now) 0 0) ≡ c.class_at.result)
+after : (c : tie.After-class_at-class)
+    → (let a = (start_of c).args in class_of (get_or (drop (a.at + 1) a.text.now) 0 0) ≡ c.class_at-class.result)
 after c =
     let a = (start_of c).args in
-    first_class a.text.now (a.at + 1) c.class_at.ensures
+    first_class a.text.now (a.at + 1) c.class_at-class.ensures
 
-comment-at-requires : tie.Need-comment-at-requires
+comment-at-requires : tie.Need-comment_at-requires
 comment-at-requires c κs =
     let s = start_of c.before in
-    let is = sym c.before.class_at.ensures ∙ c.if1.true in
-    (omega (arith, inside s.args.text.now (s.args.at + 1) hyphen is (omega arith)), s.pre.1)
+    let is = sym c.class_at-class.ensures ∙ c.if-class-eq-HYPHEN.true in
+    (omega (arith, inside s.args.text.now (s.args.at + 1) hyphen is (omega arith)), s.requires.1)
 
-returns : tie.Need-returns
+returns : tie.Need-returns-then-class-eq-HYPHEN
 unfolding after_hyphen
 returns c =
-    let two = c.before in
-    let a = (start_of two.before).args in
+    let two = c in
+    let a = (start_of two.before.before).args in
     let rest = rest_at a.text.now (a.at + 1) 1 (a.at + 2) (omega arith) in
-    simp (after two.before, two.if1.true, rest) c.comment-at.ensures
+    simp (after two.before.before, two.if-class-eq-HYPHEN.true, rest) c.comment_at.ensures
 
-negative-at-requires : tie.Need-negative-at-requires
+negative-at-requires : tie.Need-negative_at-requires
 negative-at-requires c κs = search rules
 
-returns-2 : tie.Need-returns-2
+returns-2 : tie.Need-returns-then-class-eq-DIGIT
 unfolding after_hyphen
 returns-2 c =
-    let digit = c.before in
-    simp (after digit.before.before, digit.if2.true) c.negative-at.ensures
+    let digit = c in
+    simp (after digit.before.before.before, digit.if-class-eq-DIGIT.true) c.negative_at.ensures
 
-returns-3 : tie.Need-returns-3
+returns-3 : tie.Need-returns
 unfolding after_hyphen
 returns-3 c =
-    let other = c.before in
-    simp (after other.before, ne_eqb _ _ other.if1.false, ne_eqb _ _ c.if2.false, add-zero)
+    let other = c in
+    simp (after other.before.before, ne_eqb _ _ other.if-class-eq-HYPHEN.false, ne_eqb _ _ c.if-class-eq-DIGIT.false, add-zero)
 
 pub hyphen_at_spec : {M : Type 1} → statement M
 hyphen_at_spec =

@@ -17,59 +17,65 @@ use borrow.Author.Rules.{rules}
 use Rattle.piece.proofs.name_at.Statement.{statement}
 use Rattle.piece.proofs.name_at.Tie as tie
 
-add-run-end : tie.Need-overflow-add-run-end
+add-run-end : tie.Need-overflow_add-at
 add-run-end c = search rules
 
-run-end-requires : tie.Need-run-end-requires
+run-end-requires : tie.Need-run_end-end-requires
 run-end-requires c κs = search rules
 
 -- the name's first byte is passed at once, so the run after it ends where the whole does
-abbrev start_of : tie.After-run-end → tie.Start
+abbrev start_of : tie.After-run_end-end → tie.Start
 start_of c = c.before.before
 
-abbrev size_of : tie.After-run-end → ℕ
+abbrev size_of : tie.After-run_end-end → ℕ
 size_of c = span name_byte (drop (start_of c).args.at (start_of c).args.text.now)
 
-ends : (c : tie.After-run-end) → c.run-end.result ≡ (start_of c).args.at + size_of c
+ends : (c : tie.After-run_end-end) → c.run_end-end.result ≡ (start_of c).args.at + size_of c
 ends c =
     let s = start_of c in
     let t = s.args.text.now in
     let at = s.args.at in
-    let in-name : name_byte (get_or t at 0) (get_or t (at + 1) 0) ≡ true = simp s.pre.1.0 in
-    let whole : size_of c ≡ suc (span name_byte (drop (at + 1) t)) = rw (add-one at) (span_more name_byte t at s.pre.0 in-name) in
-    omega (arith, c.run-end.ensures, whole)
+    let in-name : name_byte (get_or t at 0) (get_or t (at + 1) 0) ≡ true = simp s.requires.1.0 in
+    let whole : size_of c ≡ suc (span name_byte (drop (at + 1) t)) = rw (add-one at) (span_more name_byte t at s.requires.0 in-name) in
+    omega (arith, c.run_end-end.ensures, whole)
 
-sub-if1 : tie.Need-overflow-sub-if1
+sub-if1 : tie.Need-overflow_sub-end
 sub-if1 c = omega (arith, ends c)
 
-returns : tie.Need-returns
+returns : tie.Need-returns-then-end-at-gt-LONGEST_NAME
 unfolding name
 returns c = simp (lt-leb (size_of c.before) longest_name (omega (arith, ends c.before)), add-zero)
 
-name-class-requires : tie.Need-name-class-requires
+name-class-requires : tie.Need-name_class-requires
 name-class-requires c κs =
-    let r = c.before in
-    let s = start_of r in
+    let r = c in
+    let s = start_of r.before in
     let inside = span_end_in name_byte s.args.text.now s.args.at (omega arith) in
-    let name : NameWithin s.args.text.now s.args.at r.run-end.result = record {
-      some = omega (arith, r.run-end.ensures);
-      inside = omega (arith, ends r);
+    let name : NameWithin s.args.text.now s.args.at r.run_end-end.result = record {
+      some = omega (arith, r.run_end-end.ensures);
+      inside = omega (arith, ends r.before);
       short = omega arith;
     } in
-    (name, s.pre.1.1)
+    (name, s.requires.1.1)
 
-returns-2 : tie.Need-returns-2
+returns-2 : tie.Need-returns
 unfolding name
 returns-2 c =
-    let short = c.before in
-    let r = short.before in
-    let end = r.run-end in
-    let a = (start_of r).args in
-    let n = size_of r in
+    let short = c in
+    let r = short in
+    let end = r.run_end-end in
+    let a = (start_of r.before.before).args in
+    let n = size_of r.before.before in
     let rest = drop a.at a.text.now in
-    let all : end.result - a.at ≡ n = omega (arith, ends r) in
+    let all : end.result - a.at ≡ n = omega (arith, ends r.before.before) in
     let class : c.name_class.result ≡ name_class (take n rest) = rw (← all) c.name_class.ensures in
-    simp (le-leb n longest_name (omega (arith, ends r, short.if1.false))) (λ i. Found.Piece (class i) (ends r i))
+    simp (le-leb n longest_name (omega (arith, ends r.before.before, short.if-end-at-gt-LONGEST_NAME.false))) (λ i. Found.Piece (class i) (ends r.before.before i))
 
 pub name_at_spec : {M : Type 1} → statement M
-name_at_spec = tie.close (tie.spec add-run-end run-end-requires sub-if1 returns name-class-requires returns-2)
+name_at_spec = tie.close (tie.spec
+    add-run-end
+    run-end-requires
+    sub-if1
+    returns
+    name-class-requires
+    returns-2)

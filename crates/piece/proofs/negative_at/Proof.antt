@@ -18,68 +18,68 @@ use borrow.Author.Rules.{rules}
 use Rattle.piece.proofs.negative_at.Statement.{statement}
 use Rattle.piece.proofs.negative_at.Tie as tie
 
-add-digit-run : tie.Need-overflow-add-digit-run
+add-digit-run : tie.Need-overflow_add-at
 add-digit-run c = search rules
 
-digit-run-requires : tie.Need-digit-run-requires
+digit-run-requires : tie.Need-digit_run-run-requires
 digit-run-requires c κs = search rules
 
-add-byte-at : tie.Need-overflow-add-byte-at
+add-byte-at : tie.Need-overflow_add-at-2
 add-byte-at c = search rules
 
-byte-at-requires : tie.Need-byte-at-requires
+byte-at-requires : tie.Need-byte_at-requires
 byte-at-requires c κs = search rules
 
 -- the digits after the hyphen: the first is not 0, and they are no misfit
-abbrev start_of : tie.After-byte-at → tie.Start
+abbrev start_of : tie.After-byte_at → tie.Start
 start_of c = c.before.before.before
 
-abbrev rest_of : tie.After-byte-at → List ℕ
+abbrev rest_of : tie.After-byte_at → List ℕ
 rest_of c = let a = (start_of c).args in drop (a.at + 1) a.text.now
 
-nonzero : (c : tie.Else1) → eqb (get_or (rest_of c.before) 0 0) 48 ≡ false
+nonzero : (c : tie.Else-byte_at-eq48) → eqb (get_or (rest_of c.before) 0 0) 48 ≡ false
 nonzero c =
     let a = (start_of c.before).args in
-    first_not a.text.now (a.at + 1) c.before.byte_at.ensures c.if1.false
+    first_not a.text.now (a.at + 1) c.byte_at.ensures c.if-byte_at-eq48.false
 
-fine : (c : tie.Else2) → misfit (rest_of c.before.before.before) ≡ false
-fine c = sym c.before.is-misfit.ensures ∙ c.if2.false
+fine : (c : tie.Else-is_misfit) → misfit (rest_of c.before.before.before) ≡ false
+fine c = sym c.is_misfit.ensures ∙ c.if-is_misfit.false
 
-returns : tie.Need-returns
+returns : tie.Need-returns-then-byte_at-eq48
 unfolding below_zero
 returns c =
     let a = (start_of c.before).args in
-    simp (first_is a.text.now (a.at + 1) c.before.byte_at.ensures c.if1.true, add-zero)
+    simp (first_is a.text.now (a.at + 1) c.byte_at.ensures c.if-byte_at-eq48.true, add-zero)
 
-add-is-misfit : tie.Need-overflow-add-is-misfit
+add-is-misfit : tie.Need-overflow_add-at-3
 add-is-misfit c = search rules
 
-is-misfit-requires : tie.Need-is-misfit-requires
+is-misfit-requires : tie.Need-is_misfit-requires
 is-misfit-requires c κs = search rules
 
-returns-2 : tie.Need-returns-2
+returns-2 : tie.Need-returns-then-is_misfit
 unfolding below_zero
-returns-2 c = simp (nonzero c.before.before, sym c.before.is-misfit.ensures ∙ c.if2.true, add-zero)
+returns-2 c = simp (nonzero c.before.before, sym c.is_misfit.ensures ∙ c.if-is_misfit.true, add-zero)
 
-returns-3 : tie.Need-returns-3
+returns-3 : tie.Need-returns-then-run-gt-LARGEST_NEGATIVE
 unfolding below_zero
 returns-3 c =
-    let digits = c.before.before in
-    let first = digits.before.before in
-    let run = first.before.before.digit-run in
-    let text = (start_of first.before).args.text.now in
-    let over = over_limit text _ _ _ _ largest_negative run.ensures.0 run.ensures.1 (omega arith) c.if3.true in
-    simp (nonzero first, fine digits, over, add-zero)
+    let digits = c in
+    let first = digits in
+    let run = first.digit_run-run in
+    let text = (start_of first.before.before.before.before.before).args.text.now in
+    let over = over_limit text _ _ _ _ largest_negative run.ensures.0 run.ensures.1 (omega arith) c.if-run-gt-LARGEST_NEGATIVE.true in
+    simp (nonzero first.before.before.before.before, fine digits.before.before, over, add-zero)
 
-returns-4 : tie.Need-returns-4
+returns-4 : tie.Need-returns
 unfolding below_zero
 returns-4 c =
-    let digits = c.before.before in
-    let first = digits.before.before in
-    let run = first.before.before.digit-run in
-    let text = (start_of first.before).args.text.now in
-    let in-range = in-limit text _ _ _ _ largest_negative run.ensures.0 run.ensures.1 (omega arith) c.if3.false in
-    simp (nonzero first, fine digits, in-range) (ap (Found.Piece negative) (omega (arith, run.ensures.0)))
+    let digits = c in
+    let first = digits in
+    let run = first.digit_run-run in
+    let text = (start_of first.before.before.before.before.before).args.text.now in
+    let in-range = in-limit text _ _ _ _ largest_negative run.ensures.0 run.ensures.1 (omega arith) c.if-run-gt-LARGEST_NEGATIVE.false in
+    simp (nonzero first.before.before.before.before, fine digits.before.before, in-range) (ap (Found.Piece negative) (omega (arith, run.ensures.0)))
 
 pub negative_at_spec : {M : Type 1} → statement M
 negative_at_spec =

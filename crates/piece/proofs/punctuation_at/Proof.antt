@@ -8,67 +8,67 @@ use borrow.Author.Rules.{rules}
 use Rattle.piece.proofs.punctuation_at.Statement.{statement}
 use Rattle.piece.proofs.punctuation_at.Tie as tie
 
-is-mark-requires : tie.Need-is-mark-requires
+is-mark-requires : tie.Need-is_mark-requires
 is-mark-requires c κs = search rules
 
-add-t6 : tie.Need-overflow-add-t6
+add-t6 : tie.Need-overflow_add-result
 add-t6 c = search rules
 
-returns : tie.Need-returns
+returns : tie.Need-returns-then-is_mark
 unfolding punctuation
 returns c =
-    simp (sym c.before.is-mark.ensures ∙ c.if1.true)
+    simp (sym c.is_mark.ensures ∙ c.if-is_mark.true)
 
-hyphen-at-requires : tie.Need-hyphen-at-requires
+hyphen-at-requires : tie.Need-hyphen_at-requires
 hyphen-at-requires c κs = search rules
 
-returns-2 : tie.Need-returns-2
+returns-2 : tie.Need-returns-then-class-eq-HYPHEN
 unfolding punctuation
-returns-2 c = rw c.before.if2.true c.hyphen-at.ensures
+returns-2 c = rw c.if-class-eq-HYPHEN.true c.hyphen_at.ensures
 
-text-at-requires : tie.Need-text-at-requires
+text-at-requires : tie.Need-text_at-requires
 text-at-requires c κs = search rules
 
-returns-3 : tie.Need-returns-3
+returns-3 : tie.Need-returns-then-class-eq-QUOTE
 unfolding punctuation
-returns-3 c = rw c.before.if3.true c.text_at.ensures
+returns-3 c = rw c.if-class-eq-QUOTE.true c.text_at.ensures
 
-colon-at-requires : tie.Need-colon-at-requires
+colon-at-requires : tie.Need-colon_at-requires
 colon-at-requires c κs = search rules
 
-returns-4 : tie.Need-returns-4
+returns-4 : tie.Need-returns-then-class-eq-COLON
 unfolding punctuation
-returns-4 c = rw c.before.if4.true c.colon-at.ensures
+returns-4 c = rw c.if-class-eq-COLON.true c.colon_at.ensures
 
-dot-at-requires : tie.Need-dot-at-requires
+dot-at-requires : tie.Need-dot_at-requires
 dot-at-requires c κs = search rules
 
-returns-5 : tie.Need-returns-5
+returns-5 : tie.Need-returns-then-class-eq-DOT
 unfolding punctuation
-returns-5 c = rw c.before.if5.true c.dot_at.ensures
+returns-5 c = rw c.if-class-eq-DOT.true c.dot_at.ensures
 
-hex-at-requires : tie.Need-hex-at-requires
+hex-at-requires : tie.Need-hex_at-requires
 hex-at-requires c κs = search rules
 
-returns-6 : tie.Need-returns-6
+returns-6 : tie.Need-returns-then-class-eq-APOSTROPHE
 unfolding punctuation
-returns-6 c = rw c.before.if6.true c.hex-at.ensures
+returns-6 c = rw c.if-class-eq-APOSTROPHE.true c.hex_at.ensures
 
-returns-7 : tie.Need-returns-7
+returns-7 : tie.Need-returns
 unfolding punctuation
 returns-7 c =
-    let no-dot = c.before in
-    let no-colon = no-dot.before in
-    let no-quote = no-colon.before in
-    let no-hyphen = no-quote.before in
-    let no_mark = no-hyphen.before in
+    let no-dot = c in
+    let no-colon = no-dot in
+    let no-quote = no-colon in
+    let no-hyphen = no-quote in
+    let no_mark = no-hyphen in
     simp (
-      sym no_mark.before.is-mark.ensures ∙ no_mark.if1.false,
-      ne_eqb _ _ no-hyphen.if2.false,
-      ne_eqb _ _ no-quote.if3.false,
-      ne_eqb _ _ no-colon.if4.false,
-      ne_eqb _ _ no-dot.if5.false,
-      ne_eqb _ _ c.if6.false,
+      sym no_mark.is_mark.ensures ∙ no_mark.if-is_mark.false,
+      ne_eqb _ _ no-hyphen.if-class-eq-HYPHEN.false,
+      ne_eqb _ _ no-quote.if-class-eq-QUOTE.false,
+      ne_eqb _ _ no-colon.if-class-eq-COLON.false,
+      ne_eqb _ _ no-dot.if-class-eq-DOT.false,
+      ne_eqb _ _ c.if-class-eq-APOSTROPHE.false,
       add-zero,
     )
 

@@ -18,68 +18,68 @@ use borrow.Author.Rules.{rules}
 use Rattle.piece.proofs.text_at.Statement.{statement}
 use Rattle.piece.proofs.text_at.Tie as tie
 
-add-run-end : tie.Need-overflow-add-run-end
+add-run-end : tie.Need-overflow_add-at
 add-run-end c = search rules
 
-run-end-requires : tie.Need-run-end-requires
+run-end-requires : tie.Need-run_end-end-requires
 run-end-requires c κs = search rules
 
 -- what follows the quote, and how many bytes of it may stand in a text
-abbrev start_of : tie.After-run-end → tie.Start
+abbrev start_of : tie.After-run_end-end → tie.Start
 start_of c = c.before.before
 
-abbrev rest_of : tie.After-run-end → List ℕ
+abbrev rest_of : tie.After-run_end-end → List ℕ
 rest_of c = let a = (start_of c).args in drop (a.at + 1) a.text.now
 
-abbrev inner_of : tie.After-run-end → ℕ
+abbrev inner_of : tie.After-run_end-end → ℕ
 inner_of c = span text_byte (rest_of c)
 
 -- where the text goes on after them, the class of the next byte
-abbrev goes_on : tie.After-class-of → tie.Else1
+abbrev goes_on : tie.After-class_of → tie.Else-text-end
 goes_on c = c.before.before
 
-longer : (c : tie.Else1) → leb (length (rest_of c.before)) (inner_of c.before) ≡ false
+longer : (c : tie.Else-text-end) → leb (length (rest_of c.before)) (inner_of c.before) ≡ false
 longer c =
-    let r = c.before in
-    let a = (start_of r).args in
-    lt-leb (length (rest_of r)) (inner_of r) (omega (arith, length-drop (a.at + 1) a.text.now, r.run-end.ensures))
+    let r = c in
+    let a = (start_of r.before).args in
+    lt-leb (length (rest_of r.before)) (inner_of r.before) (omega (arith, length-drop (a.at + 1) a.text.now, r.run_end-end.ensures))
 
-next : (c : tie.After-class-of)
-    → (let r = (goes_on c).before in class_of (get_or (rest_of r) (inner_of r) 0) ≡ c.class_of.result)
+next : (c : tie.After-class_of)
+    → (let r = (goes_on c) in class_of (get_or (rest_of r.before) (inner_of r.before) 0) ≡ c.class_of.result)
 next c =
-    let r = (goes_on c).before in
-    let a = (start_of r).args in
-    class_there a.text.now (a.at + 1) (inner_of r) _ (sym r.run-end.ensures) c.class_of.ensures
+    let r = (goes_on c) in
+    let a = (start_of r.before).args in
+    class_there a.text.now (a.at + 1) (inner_of r.before) _ (sym r.run_end-end.ensures) c.class_of.ensures
 
-returns : tie.Need-returns
+returns : tie.Need-returns-then-text-end
 unfolding quoted
 returns c =
-    let r = c.before in
-    let a = (start_of r).args in
-    let ends : length (rest_of r) ≤ inner_of r = omega (arith, length-drop (a.at + 1) a.text.now, r.run-end.ensures) in
+    let r = c in
+    let a = (start_of r.before).args in
+    let ends : length (rest_of r.before) ≤ inner_of r.before = omega (arith, length-drop (a.at + 1) a.text.now, r.run_end-end.ensures) in
     simp (le-leb _ _ ends, add-zero)
 
-shared-slice-read-class-of : tie.Need-shared-slice-read-class-of
+shared-slice-read-class-of : tie.Need-bounds-text-end
 shared-slice-read-class-of c = search rules
 
-class-of-requires : tie.Need-class-of-requires
+class-of-requires : tie.Need-class_of-requires
 class-of-requires c κs = search rules
 
-add-t12 : tie.Need-overflow-add-t12
+add-t12 : tie.Need-overflow_add-result
 add-t12 c = search rules
 
-returns-2 : tie.Need-returns-2
+returns-2 : tie.Need-returns-then-class_of-eq-QUOTE
 unfolding quoted
 returns-2 c =
     let more = goes_on c.before in
-    simp (longer more, next c.before, c.if2.true) (ap (Found.Piece text) (omega (arith, more.before.run-end.ensures)))
+    simp (longer more, next c.before, c.if-class_of-eq-QUOTE.true) (ap (Found.Piece text) (omega (arith, more.run_end-end.ensures)))
 
-returns-3 : tie.Need-returns-3
+returns-3 : tie.Need-returns
 unfolding quoted
 returns-3 c =
     let more = goes_on c.before in
-    simp (longer more, next c.before, ne_eqb _ _ c.if2.false)
-    (ap (λ (e : ℕ). Found.Refused forbidden (record { 0 = e })) (omega (arith, more.before.run-end.ensures)))
+    simp (longer more, next c.before, ne_eqb _ _ c.if-class_of-eq-QUOTE.false)
+    (ap (λ (e : ℕ). Found.Refused forbidden (record { 0 = e })) (omega (arith, more.run_end-end.ensures)))
 
 pub text_at_spec : {M : Type 1} → statement M
 text_at_spec =

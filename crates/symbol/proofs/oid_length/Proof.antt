@@ -13,32 +13,28 @@ use Rattle.symbol.proofs.Symbols.{symbol_numbers, numbers_length}
 use Rattle.symbol.proofs.oid_length.Statement.{statement}
 use Rattle.symbol.proofs.oid_length.Tie as tie
 
-slice-aggregate-start : tie.Need-slice-aggregate-start
-slice-aggregate-start c = search rules
 
-start-requires : tie.Need-start-requires
+start-requires : tie.Need-start-from-requires
 start-requires c κs = search rules
 
-slice-aggregate-start-2 : tie.Need-slice-aggregate-start-2
-slice-aggregate-start-2 c = search rules
 
-add_start : tie.Need-overflow-add-start
+add_start : tie.Need-overflow_add-k
 add_start c = search rules
 
-start-requires-2 : tie.Need-start-requires-2
+start-requires-2 : tie.Need-start-to-requires
 start-requires-2 c κs = search rules
 
 -- where the numbers start and end
-abbrev start_of : tie.After-start2 → tie.Start
-start_of c = c.before.before.before.before
+abbrev start_of : tie.After-start-to → tie.Start
+start_of c = c.before.before.before.before.before.before
 
-ends : (c : tie.After-start2) → c.start2.result ≡ c.before.before.start.result + length (numbers_of (start_of c).args.k)
+ends : (c : tie.After-start-to) → c.start-to.result ≡ c.start-from.result + length (numbers_of (start_of c).args.k)
 unfolding symbol_numbers symbols of_smi of_tc below_internet internet numbers joined starts_there
 ends c =
     let table = joined_table symbol_numbers _ _ refl refl tt in
-    numbers_length (start_of c).args.k (start_of c).requires c.before.before.start.ensures table c.start2.ensures
+    numbers_length (start_of c).args.k (start_of c).requires c.start-from.ensures table c.start-to.ensures
 
-sub-result : tie.Need-overflow-sub-result
+sub-result : tie.Need-overflow_sub-result
 sub-result c = omega (arith, ends c)
 
 returns : tie.Need-returns
@@ -48,9 +44,7 @@ pub oid_length_spec : {M : Type 1} → statement M
 oid_length_spec =
     tie.close
     (tie.spec
-    slice-aggregate-start
     start-requires
-    slice-aggregate-start-2
     add_start
     start-requires-2
     sub-result

@@ -5,13 +5,13 @@ use Rattle.symbol.specs.Symbol.{start_in}
 use Rattle.symbol.proofs.start.Statement.{statement}
 use Rattle.symbol.proofs.start.Tie as tie
 
-mul-wide-u16 : tie.Need-overflow-mul-wide-u16
+mul-wide-u16 : tie.Need-offset_bounds-starts-k
 mul-wide-u16 c = search rules
 
-shared-slice-read-wide-u16 : tie.Need-shared-slice-read-wide-u16
+shared-slice-read-wide-u16 : tie.Need-bounds-starts-k
 shared-slice-read-wide-u16 c = search rules
 
-wide-u16-requires : tie.Need-wide-u16-requires
+wide-u16-requires : tie.Need-wide_u16-requires
 wide-u16-requires c κs = search rules
 
 returns : tie.Need-returns
@@ -19,4 +19,8 @@ unfolding start_in
 returns c = search rules
 
 pub start_spec : {M : Type 1} → statement M
-start_spec = tie.close (tie.spec mul-wide-u16 shared-slice-read-wide-u16 wide-u16-requires returns)
+start_spec = tie.close (tie.spec
+    mul-wide-u16
+    shared-slice-read-wide-u16
+    wide-u16-requires
+    returns)

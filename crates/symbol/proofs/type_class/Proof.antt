@@ -7,18 +7,22 @@ use Rattle.symbol.proofs.Symbols.{class_said, class_past}
 use Rattle.symbol.proofs.type_class.Statement.{statement}
 use Rattle.symbol.proofs.type_class.Tie as tie
 
-returns : tie.Need-returns
-returns c = class_past _ c.if1.true
+returns : tie.Need-returns-then-k-ge-SYMBOLS
+returns c = class_past _ c.if-k-ge-SYMBOLS.true
 
-sort-of-requires : tie.Need-sort-of-requires
+sort-of-requires : tie.Need-sort_of-requires
 sort-of-requires c κs = search rules
 
-class-of-requires : tie.Need-class-of-requires
+class-of-requires : tie.Need-class_of-requires
 class-of-requires c κs = search rules
 
-returns-2 : tie.Need-returns-2
-returns-2 c = c.class_of.ensures ∙ ap class_of_sort c.before.sort_of.ensures ∙ class_said _
+returns-2 : tie.Need-returns
+returns-2 c = c.class_of.ensures ∙ ap class_of_sort c.sort_of.ensures ∙ class_said _
 
 pub type_class_spec : {M : Type 1} → statement M
 type_class_spec =
-    tie.close (tie.spec returns sort-of-requires class-of-requires returns-2)
+    tie.close (tie.spec
+    returns
+    sort-of-requires
+    class-of-requires
+    returns-2)

@@ -10,4 +10,5 @@ unfolding absent
 returns c = refl
 
 pub absent_spec : {M : Type 1} → statement M
-absent_spec = tie.close (tie.spec returns)
+absent_spec = tie.close (tie.spec
+    returns)

@@ -9,4 +9,5 @@ returns : tie.Need-returns
 returns c = sym (table_counted _)
 
 pub count_spec : {M : Type 1} → statement M
-count_spec = tie.close (tie.spec returns)
+count_spec = tie.close (tie.spec
+    returns)

@@ -7,24 +7,29 @@ use borrow.Author.Rules.{rules}
 use Rattle.module_table.proofs.definition_table.definition_at.Statement.{statement}
 use Rattle.module_table.proofs.definition_table.definition_at.Tie as tie
 
-mul-definition-from : tie.Need-overflow-mul-definition-from
+mul-definition-from : tie.Need-overflow_mul-at
 mul-definition-from c = search rules
 
-definition-from-requires : tie.Need-definition-from-requires
+definition-from-requires : tie.Need-definition_from-requires
 definition-from-requires c κs = search rules
 
-returns : tie.Need-returns
-returns c = c.definition_from.ensures ∙ sym (entry_read _ c.before.before.before.args.k.0 (omega (arith, c.before.if1.true, table_counted c.before.before.before.args.definitions.now)))
+returns : tie.Need-returns-then-at-definitions
+returns c = c.definition_from.ensures ∙ sym (entry_read _ c.args.k.0 (omega (arith, c.if-at-definitions.true, table_counted c.args.definitions.now)))
 
 absent-requires : tie.Need-absent-requires
 absent-requires c κs = search rules
 
-returns-2 : tie.Need-returns-2
+returns-2 : tie.Need-returns
 returns-2 c =
-    let s = c.before.before.before in
-    c.absent.ensures ∙ sym (entry_none _ s.args.k.0 (omega (arith, c.before.if1.false, table_counted s.args.definitions.now)))
+    let s = c in
+    c.absent.ensures ∙ sym (entry_none _ s.args.k.0 (omega (arith, c.if-at-definitions.false, table_counted s.args.definitions.now)))
 
 pub definition_at_spec : {M : Type 1} → statement M
 definition_at_spec =
     tie.close
-    (tie.spec mul-definition-from definition-from-requires returns absent-requires returns-2)
+    (tie.spec
+    mul-definition-from
+    definition-from-requires
+    returns
+    absent-requires
+    returns-2)

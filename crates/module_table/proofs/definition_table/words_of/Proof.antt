@@ -10,4 +10,5 @@ unfolding words
 returns c = refl
 
 pub words_of_spec : {M : Type 1} → statement M
-words_of_spec = tie.close (tie.spec returns)
+words_of_spec = tie.close (tie.spec
+    returns)

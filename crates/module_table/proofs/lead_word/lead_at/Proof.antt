@@ -7,22 +7,27 @@ use borrow.Author.Rules.{rules}
 use Rattle.module_table.proofs.lead_word.lead_at.Statement.{statement}
 use Rattle.module_table.proofs.lead_word.lead_at.Tie as tie
 
-mul-lead-in : tie.Need-overflow-mul-lead-in
+mul-lead-in : tie.Need-offset_bounds-values-at
 mul-lead-in c = search rules
 
-shared-slice-read-lead-in : tie.Need-shared-slice-read-lead-in
+shared-slice-read-lead-in : tie.Need-bounds-values-at
 shared-slice-read-lead-in c = search rules
 
-lead-in-requires : tie.Need-lead-in-requires
+lead-in-requires : tie.Need-lead_in-requires
 lead-in-requires c κs = search rules
 
-returns : tie.Need-returns
+returns : tie.Need-returns-then-at-values
 returns c = search rules
 
-returns-2 : tie.Need-returns-2
+returns-2 : tie.Need-returns
 unfolding lead_in
-returns-2 c = rw (get_or-eq_default {A = ℕ} _ 0 c.if1.false)
+returns-2 c = rw (get_or-eq_default {A = ℕ} _ 0 c.if-at-values.false)
 
 pub lead_at_spec : {M : Type 1} → statement M
 lead_at_spec =
-    tie.close (tie.spec mul-lead-in shared-slice-read-lead-in lead-in-requires returns returns-2)
+    tie.close (tie.spec
+    mul-lead-in
+    shared-slice-read-lead-in
+    lead-in-requires
+    returns
+    returns-2)

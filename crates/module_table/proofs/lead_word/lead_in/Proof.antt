@@ -6,36 +6,43 @@ use borrow.Author.Rules.{rules}
 use Rattle.module_table.proofs.lead_word.lead_in.Statement.{statement}
 use Rattle.module_table.proofs.lead_word.lead_in.Tie as tie
 
-returns : tie.Need-returns
+returns : tie.Need-returns-then-word-eq-NOTHING
 unfolding lead_in
-returns c = simp (eq-eqb c.before.args.word 0 c.if1.true)
+returns c = simp (eq-eqb c.args.word 0 c.if-word-eq-NOTHING.true)
 
-returns-2 : tie.Need-returns-2
+returns-2 : tie.Need-returns-then-word-eq-ISO
 unfolding lead_in
 returns-2 c =
-    let s = c.before.before in
-    simp (ne_eqb s.args.word 0 c.before.if1.false, eq-eqb s.args.word 1 c.if2.true)
+    let s = c in
+    simp (ne_eqb s.args.word 0 c.if-word-eq-NOTHING.false, eq-eqb s.args.word 1 c.if-word-eq-ISO.true)
 
-sub-t3 : tie.Need-overflow-sub-t3
+sub-t3 : tie.Need-overflow_sub-result
 sub-t3 c = search rules
 
-cast-t4 : tie.Need-overflow-cast-t4
+cast-t4 : tie.Need-overflow_cast-result
 cast-t4 c = search rules
 
-returns-3 : tie.Need-returns-3
+returns-3 : tie.Need-returns-then-word-lt-SYMBOL
 unfolding lead_in
 returns-3 c =
-    let s = c.before.before.before in
-    simp (ne_eqb s.args.word 0 c.before.before.if1.false, ne_eqb s.args.word 1 c.before.if2.false, lt-ltb s.args.word 514 c.if3.true)
+    let s = c in
+    simp (ne_eqb s.args.word 0 c.if-word-eq-NOTHING.false, ne_eqb s.args.word 1 c.if-word-eq-ISO.false, lt-ltb s.args.word 514 c.if-word-lt-SYMBOL.true)
 
-cast-t7 : tie.Need-overflow-cast-t7
+cast-t7 : tie.Need-overflow_cast-result-2
 cast-t7 c = search rules
 
-returns-4 : tie.Need-returns-4
+returns-4 : tie.Need-returns
 unfolding lead_in
 returns-4 c =
-    let s = c.before.before.before in
-    simp (ne_eqb s.args.word 0 c.before.before.if1.false, ne_eqb s.args.word 1 c.before.if2.false, le-ltb s.args.word 514 c.if3.false)
+    let s = c in
+    simp (ne_eqb s.args.word 0 c.if-word-eq-NOTHING.false, ne_eqb s.args.word 1 c.if-word-eq-ISO.false, le-ltb s.args.word 514 c.if-word-lt-SYMBOL.false)
 
 pub lead_in_spec : {M : Type 1} → statement M
-lead_in_spec = tie.close (tie.spec returns returns-2 sub-t3 cast-t4 returns-3 cast-t7 returns-4)
+lead_in_spec = tie.close (tie.spec
+    returns
+    returns-2
+    sub-t3
+    cast-t4
+    returns-3
+    cast-t7
+    returns-4)

@@ -6,14 +6,17 @@ use borrow.Author.Rules.{rules}
 use Rattle.piece.proofs.scan.class_at.Statement.{statement}
 use Rattle.piece.proofs.scan.class_at.Tie as tie
 
-byte-at-requires : tie.Need-byte-at-requires
+byte-at-requires : tie.Need-byte_at-requires
 byte-at-requires c κs = search rules
 
-class-of-requires : tie.Need-class-of-requires
+class-of-requires : tie.Need-class_of-requires
 class-of-requires c κs = search rules
 
 returns : tie.Need-returns
-returns c = c.class_of.ensures ∙ ap class_of c.before.byte_at.ensures
+returns c = c.class_of.ensures ∙ ap class_of c.byte_at.ensures
 
 pub class_at_spec : {M : Type 1} → statement M
-class_at_spec = tie.close (tie.spec byte-at-requires class-of-requires returns)
+class_at_spec = tie.close (tie.spec
+    byte-at-requires
+    class-of-requires
+    returns)

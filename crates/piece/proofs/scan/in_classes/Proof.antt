@@ -5,17 +5,21 @@ use borrow.Author.Rules.{rules}
 use Rattle.piece.proofs.scan.in_classes.Statement.{statement}
 use Rattle.piece.proofs.scan.in_classes.Tie as tie
 
-shared-slice-read-class-of : tie.Need-shared-slice-read-class-of
+shared-slice-read-class-of : tie.Need-bounds-text-at
 shared-slice-read-class-of c = search rules
 
-class-of-requires : tie.Need-class-of-requires
+class-of-requires : tie.Need-class_of-class-requires
 class-of-requires c κs = search rules
 
-returns : tie.Need-returns
-returns c = rw (← c.before.class_of.ensures) (simp (le-leb _ _ c.if1.true))
+returns : tie.Need-returns-then-low-class
+returns c = rw (← c.class_of-class.ensures) (simp (le-leb _ _ c.if-low-class.true))
 
-returns-2 : tie.Need-returns-2
-returns-2 c = rw (← c.before.class_of.ensures) (simp (lt-leb _ _ c.if1.false))
+returns-2 : tie.Need-returns
+returns-2 c = rw (← c.class_of-class.ensures) (simp (lt-leb _ _ c.if-low-class.false))
 
-pub in-classes-spec : {M : Type 1} → statement M
-in-classes-spec = tie.close (tie.spec shared-slice-read-class-of class-of-requires returns returns-2)
+pub in_classes_spec : {M : Type 1} → statement M
+in_classes_spec = tie.close (tie.spec
+    shared-slice-read-class-of
+    class-of-requires
+    returns
+    returns-2)

@@ -6,40 +6,40 @@ use borrow.Author.Rules.{rules}
 use Rattle.piece.proofs.scan.in_comment.Statement.{statement}
 use Rattle.piece.proofs.scan.in_comment.Tie as tie
 
-shared-slice-read-class-of : tie.Need-shared-slice-read-class-of
+shared-slice-read-class-of : tie.Need-bounds-text-at
 shared-slice-read-class-of c = search rules
 
-class-of-requires : tie.Need-class-of-requires
+class-of-requires : tie.Need-class_of-class-requires
 class-of-requires c κs = search rules
 
-returns : tie.Need-returns
-returns c = rw (← c.before.class_of.ensures) (simp (eq-eqb _ _ c.if1.true))
+returns : tie.Need-returns-then-class-eq-NEWLINE
+returns c = rw (← c.class_of-class.ensures) (simp (eq-eqb _ _ c.if-class-eq-NEWLINE.true))
 
-add-class-at : tie.Need-overflow-add-class-at
+add-class-at : tie.Need-overflow_add-at
 add-class-at c = search rules
 
-class-at-requires : tie.Need-class-at-requires
+class-at-requires : tie.Need-class_at-requires
 class-at-requires c κs = search rules
 
-returns-2 : tie.Need-returns-2
+returns-2 : tie.Need-returns-then-class_at-eq-HYPHEN
 returns-2 c =
-    let one = c.before.before in
-    let class = one.before.before in
-    rw (sym class.class_of.ensures ∙ one.if2.true, sym c.before.class_at.ensures ∙ c.if3.true)
+    let one = c in
+    let class = one in
+    rw (sym class.class_of-class.ensures ∙ one.if-class-eq-HYPHEN.true, sym c.class_at.ensures ∙ c.if-class_at-eq-HYPHEN.true)
 
-returns-3 : tie.Need-returns-3
+returns-3 : tie.Need-returns-then-class-eq-HYPHEN
 returns-3 c =
-    let one = c.before.before in
-    let class = one.before.before in
-    rw (sym class.class_of.ensures ∙ one.if2.true, ← c.before.class_at.ensures) (simp (ne_eqb _ _ c.if3.false))
+    let one = c in
+    let class = one in
+    rw (sym class.class_of-class.ensures ∙ one.if-class-eq-HYPHEN.true, ← c.class_at.ensures) (simp (ne_eqb _ _ c.if-class_at-eq-HYPHEN.false))
 
-returns-4 : tie.Need-returns-4
+returns-4 : tie.Need-returns
 returns-4 c =
-    let other = c.before in
-    rw (← other.before.class_of.ensures) (simp (ne_eqb _ _ other.if1.false, ne_eqb _ _ c.if2.false))
+    let other = c in
+    rw (← other.class_of-class.ensures) (simp (ne_eqb _ _ other.if-class-eq-NEWLINE.false, ne_eqb _ _ c.if-class-eq-HYPHEN.false))
 
-pub in-comment-spec : {M : Type 1} → statement M
-in-comment-spec =
+pub in_comment_spec : {M : Type 1} → statement M
+in_comment_spec =
     tie.close
     (tie.spec
     shared-slice-read-class-of

@@ -11,51 +11,60 @@ use Rattle.piece.proofs.Span.{Reached, reached_more, reached_stop, reached_end}
 use Rattle.piece.proofs.scan.run_end.Statement.{statement}
 use Rattle.piece.proofs.scan.run_end.Tie as tie
 
-abbrev invariant-loop : tie.invariant-loop
+abbrev invariant-loop : tie.invariant-loop-i
 invariant-loop table text at run i₀ i = Reached (belongs_to run) text at i
 
-abbrev decreases-loop : tie.decreases-loop
+abbrev decreases-loop : tie.decreases-loop-i
 decreases-loop table text at run i₀ i = length text - i
 
-loop-holds : tie.Need-loop-init invariant-loop decreases-loop
+loop-holds : tie.Need-loop-i-init invariant-loop decreases-loop
 loop-holds c = omega arith
 
 belongs-requires : tie.Need-belongs-requires invariant-loop decreases-loop
-belongs-requires c κs = (omega arith, c.before.before.before.requires.1)
+belongs-requires c κs = (omega arith, c.requires.1)
 
-add-i : tie.Need-overflow-add-i invariant-loop decreases-loop
+add-i : tie.Need-overflow_add-i invariant-loop decreases-loop
 add-i c = omega arith
 
-loop-less : tie.Need-loop-smaller invariant-loop decreases-loop
+loop-less : tie.Need-loop-i-smaller invariant-loop decreases-loop
 loop-less c = omega arith
 
 -- in a turn, where the loop is, and the call's arguments
-abbrev text_of : tie.At-loop invariant-loop decreases-loop → List ℕ
-text_of l = l.before.before.args.text.now
+abbrev text_of : tie.At-loop-i invariant-loop decreases-loop → List ℕ
+text_of l = l.args.text.now
 
-abbrev in-run : tie.At-loop invariant-loop decreases-loop → ℕ → ℕ → Bool
-in-run l = belongs_to l.before.before.args.run
+abbrev in-run : tie.At-loop-i invariant-loop decreases-loop → ℕ → ℕ → Bool
+in-run l = belongs_to l.args.run
 
-loop-again : tie.Need-loop-preserved invariant-loop decreases-loop
+loop-again : tie.Need-loop-i-preserved invariant-loop decreases-loop
 loop-again c =
-    let turn = c.before.before in
-    let l = turn.before in
-    let answer = sym c.before.belongs.ensures ∙ c.if1.true in
-    reached_more (in-run l) (text_of l) _ _ l.loop.invariant turn.loop-test.true answer
+    let turn = c in
+    let l = turn in
+    let answer = sym c.belongs.ensures ∙ c.if-belongs.true in
+    reached_more (in-run l.before.before.before) (text_of l.before.before.before) _ _ l.loop-i.invariant turn.loop-i-test.true answer
 
-returns : tie.Need-returns invariant-loop decreases-loop
+returns : tie.Need-returns-else-belongs invariant-loop decreases-loop
 returns c =
-    let turn = c.before.before in
-    let l = turn.before in
-    let answer = sym c.before.belongs.ensures ∙ c.if1.false in
-    reached_stop (in-run l) (text_of l) _ _ l.loop.invariant turn.loop-test.true answer
+    let turn = c in
+    let l = turn in
+    let answer = sym c.belongs.ensures ∙ c.if-belongs.false in
+    reached_stop (in-run l.before.before.before) (text_of l.before.before.before) _ _ l.loop-i.invariant turn.loop-i-test.true answer
 
-returns-2 : tie.Need-returns-2 invariant-loop decreases-loop
+returns-2 : tie.Need-returns invariant-loop decreases-loop
 returns-2 c =
-    let l = c.before in
-    reached_end (in-run l) (text_of l) _ _ l.loop.invariant c.loop-test.false
+    let l = c in
+    reached_end (in-run l.before) (text_of l.before) _ _ l.loop-i.invariant c.loop-i-test.false
 
 pub run_end_spec : {M : Type 1} → statement M
 run_end_spec =
     tie.close
-    (tie.spec invariant-loop decreases-loop loop-holds belongs-requires add-i loop-less loop-again returns returns-2)
+    (tie.spec
+    invariant-loop
+    decreases-loop
+    loop-holds
+    belongs-requires
+    add-i
+    loop-less
+    loop-again
+    returns
+    returns-2)

@@ -19,27 +19,27 @@ use Rattle.symbol.proofs.part.named_in.Tie as tie
 abbrev named : List ℕ → ℕ → ℕ → ℕ → Bool
 named text start end k = same (between text start end) (get_or symbol_names k [])
 
-abbrev invariant-loop : tie.invariant-loop
+abbrev invariant-loop : tie.invariant-loop-k
 invariant-loop text start end names offsets k₀ k = Searched (named text start end) 0 symbol_count k
 
-abbrev decreases-loop : tie.decreases-loop
+abbrev decreases-loop : tie.decreases-loop-k
 decreases-loop text start end names offsets k₀ k = symbol_count - k
 
-loop-holds : tie.Need-loop-init invariant-loop decreases-loop
+loop-holds : tie.Need-loop-k-init invariant-loop decreases-loop
 loop-holds c = searched_start _ 0 symbol_count (omega arith)
 
-is-name-of-requires : tie.Need-is-name-of-requires invariant-loop decreases-loop
+is-name-of-requires : tie.Need-is_name_of-requires invariant-loop decreases-loop
 is-name-of-requires c κs =
-    let l = c.before.before.before in
-    let s = l.before.before in
-    let h = in-names _ c.before.before.loop-test.true in
-    (s.requires.0, (search rules, part_within symbol_names _ _ s.requires.1 l.loop.k h))
+    let l = c in
+    let s = l in
+    let h = in-names _ c.loop-k-test.true in
+    (s.requires.0, (search rules, part_within symbol_names _ _ s.requires.1 l.loop-k.k h))
 
 -- the loop where a name was compared
 abbrev Compared : Type 0
-Compared = tie.After-is-name-of invariant-loop decreases-loop
+Compared = tie.After-is_name_of invariant-loop decreases-loop
 
-abbrev loop_at : Compared → tie.At-loop invariant-loop decreases-loop
+abbrev loop_at : Compared → tie.At-loop-k invariant-loop decreases-loop
 loop_at c = c.before.before.before.before
 
 abbrev start_of : Compared → tie.Start invariant-loop decreases-loop
@@ -50,36 +50,36 @@ abbrev wanted : Compared → ℕ → Bool
 wanted c = named (start_of c).args.text.now (start_of c).args.start (start_of c).args.end
 
 -- what the comparison answers
-answer : (c : Compared) → wanted c (loop_at c).loop.k ≡ c.is-name-of.result
+answer : (c : Compared) → wanted c (loop_at c).loop-k.k ≡ c.is_name_of.result
 answer c =
-    let h = in-names _ c.before.before.before.loop-test.true in
-    sym (part_compared symbol_names _ _ (start_of c).requires.1 (loop_at c).loop.k h _ c.is-name-of.ensures)
+    let h = in-names _ c.loop-k-test.true in
+    sym (part_compared symbol_names _ _ (start_of c).requires.1 (loop_at c).loop-k.k h _ c.is_name_of.ensures)
 
-returns : tie.Need-returns invariant-loop decreases-loop
+returns : tie.Need-returns-then-is_name_of invariant-loop decreases-loop
 unfolding symbol_of
 returns c =
-    let l = (loop_at c.before).loop in
-    let h = c.before.before.before.before.loop-test.true in
-    searched_hit (wanted c.before) 0 symbol_count l.k l.inv h (answer c.before ∙ c.if1.true)
+    let l = (loop_at c.before).loop-k in
+    let h = c.loop-k-test.true in
+    searched_hit (wanted c.before) 0 symbol_count l.k l.invariant h (answer c.before ∙ c.if-is_name_of.true)
 
-add-k : tie.Need-overflow-add-k invariant-loop decreases-loop
+add-k : tie.Need-overflow_add-k invariant-loop decreases-loop
 add-k c = omega arith
 
-loop-less : tie.Need-loop-smaller invariant-loop decreases-loop
+loop-less : tie.Need-loop-k-smaller invariant-loop decreases-loop
 loop-less c = omega arith
 
-loop-again : tie.Need-loop-preserved invariant-loop decreases-loop
+loop-again : tie.Need-loop-k-preserved invariant-loop decreases-loop
 loop-again c =
-    let l = (loop_at c.before).loop in
-    let h = c.before.before.before.before.loop-test.true in
-    searched_miss (wanted c.before) 0 symbol_count l.k l.inv h (answer c.before ∙ c.if1.false)
+    let l = (loop_at c.before).loop-k in
+    let h = c.loop-k-test.true in
+    searched_miss (wanted c.before) 0 symbol_count l.k l.invariant h (answer c.before ∙ c.if-is_name_of.false)
 
-returns-2 : tie.Need-returns-2 invariant-loop decreases-loop
+returns-2 : tie.Need-returns invariant-loop decreases-loop
 unfolding symbol_of
 returns-2 c =
-    let l = c.before in
-    let a = l.before.before.args in
-    searched_end (named a.text.now a.start a.end) 0 symbol_count l.loop.k l.loop.invariant c.loop-test.false
+    let l = c in
+    let a = l.args in
+    searched_end (named a.text.now a.start a.end) 0 symbol_count l.loop-k.k l.loop-k.invariant c.loop-k-test.false
 
 pub named_in_spec : {M : Type 1} → statement M
 named_in_spec =

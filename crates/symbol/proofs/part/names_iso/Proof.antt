@@ -6,15 +6,15 @@ use Rattle.symbol.specs.Symbol.{iso_name}
 use Rattle.symbol.proofs.part.names_iso.Statement.{statement}
 use Rattle.symbol.proofs.part.names_iso.Tie as tie
 
-slice-aggregate-same-spelling : tie.Need-slice-aggregate-same-spelling
-slice-aggregate-same-spelling c = search rules
 
-same-spelling-requires : tie.Need-same-spelling-requires
+same-spelling-requires : tie.Need-same_spelling-requires
 same-spelling-requires c κs = search rules
 
 returns : tie.Need-returns
 unfolding iso_name bytes
-returns c = c.same-spelling.ensures
+returns c = c.same_spelling.ensures
 
 pub names_iso_spec : {M : Type 1} → statement M
-names_iso_spec = tie.close (tie.spec slice-aggregate-same-spelling same-spelling-requires returns)
+names_iso_spec = tie.close (tie.spec
+    same-spelling-requires
+    returns)

@@ -26,45 +26,33 @@ either_module s = go (same s (get_or modules 0 [])) (same s (get_or modules 1 []
     go false true = refl
     go false false = refl
 
-slice-aggregate-is-name-of : tie.Need-slice-aggregate-is-name-of
-slice-aggregate-is-name-of c = search rules
 
-slice-aggregate-is-name-of-2 : tie.Need-slice-aggregate-is-name-of-2
-slice-aggregate-is-name-of-2 c = search rules
 
-is-name-of-requires : tie.Need-is-name-of-requires
+is-name-of-requires : tie.Need-is_name_of-requires
 unfolding modules bytes joined starts_there
 is-name-of-requires c κs =
-    let s = c.before.before.before in
+    let s = c in
     (s.requires, (omega arith, part_within modules _ _ (joined_table modules _ _ refl refl tt) 0 (omega arith)))
 
-slice-aggregate-is-name-of-3 : tie.Need-slice-aggregate-is-name-of-3
-slice-aggregate-is-name-of-3 c = search rules
 
-slice-aggregate-is-name-of-4 : tie.Need-slice-aggregate-is-name-of-4
-slice-aggregate-is-name-of-4 c = search rules
 
-is-name-of-requires-2 : tie.Need-is-name-of-requires-2
+is-name-of-requires-2 : tie.Need-is_name_of-requires-2
 unfolding modules bytes joined starts_there
 is-name-of-requires-2 c κs =
-    let s = c.before.before.before.before.before.before in
+    let s = c in
     (s.requires, (omega arith, part_within modules _ _ (joined_table modules _ _ refl refl tt) 1 (omega arith)))
 
 returns : tie.Need-returns
 unfolding modules bytes joined starts_there
 returns c =
-    let first = part_compared modules _ _ (joined_table modules _ _ refl refl tt) 0 (omega arith) _ c.before.before.before.is-name-of.ensures in
-    let second = part_compared modules _ _ (joined_table modules _ _ refl refl tt) 1 (omega arith) _ c.is-name-of2.ensures in
+    let first = part_compared modules _ _ (joined_table modules _ _ refl refl tt) 0 (omega arith) _ c.is_name_of.ensures in
+    let second = part_compared modules _ _ (joined_table modules _ _ refl refl tt) 1 (omega arith) _ c.is_name_of-2.ensures in
     rw (first, second) (either_module _)
 
 pub names_module_spec : {M : Type 1} → statement M
 names_module_spec =
     tie.close
     (tie.spec
-    slice-aggregate-is-name-of
-    slice-aggregate-is-name-of-2
     is-name-of-requires
-    slice-aggregate-is-name-of-3
-    slice-aggregate-is-name-of-4
     is-name-of-requires-2
     returns)

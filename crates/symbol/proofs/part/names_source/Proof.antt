@@ -13,39 +13,35 @@ use Rattle.symbol.proofs.Symbols.{module-indices, module-index-is, module-inside
 use Rattle.symbol.proofs.part.names_source.Statement.{statement}
 use Rattle.symbol.proofs.part.names_source.Tie as tie
 
-array-read-wide-byte : tie.Need-array-read-wide-byte
+array-read-wide-byte : tie.Need-bounds-k
 array-read-wide-byte c = search rules
 
-wide-byte-requires : tie.Need-wide-byte-requires
+wide-byte-requires : tie.Need-wide_byte-module-requires
 wide-byte-requires c κs = search rules
 
-slice-aggregate-is-name-of : tie.Need-slice-aggregate-is-name-of
-slice-aggregate-is-name-of c = search rules
 
-slice-aggregate-is-name-of-2 : tie.Need-slice-aggregate-is-name-of-2
-slice-aggregate-is-name-of-2 c = search rules
 
 -- the index that was read is that of the symbol's module
-module-read : (c : tie.After-wide-byte) → c.wide-byte.result ≡ (symbol c.before.before.args.k).module-index
+module-read : (c : tie.After-wide_byte-module) → c.wide_byte-module.result ≡ (symbol c.args.k).module-index
 unfolding module-indices symbols of_smi of_tc
-module-read c = c.wide-byte.ensures.0 ∙ module-index-is c.before.before.args.k
+module-read c = c.wide_byte-module.ensures.0 ∙ module-index-is c.args.k
 
-read_inside : (c : tie.After-wide-byte) → c.wide-byte.result < length modules
-read_inside c = rw (module-read c) (module-inside c.before.before.args.k c.before.before.requires.1)
+read_inside : (c : tie.After-wide_byte-module) → c.wide_byte-module.result < length modules
+read_inside c = rw (module-read c) (module-inside c.args.k c.requires.1)
 
-is-name-of-requires : tie.Need-is-name-of-requires
+is-name-of-requires : tie.Need-is_name_of-requires
 unfolding modules bytes joined starts_there
 is-name-of-requires c κs =
-    let r = c.before.before in
-    let s = r.before.before in
-    (s.requires.0, (omega (arith, read_inside r), part_within modules _ _ (joined_table modules _ _ refl refl tt) r.wide-byte.result (read_inside r)))
+    let r = c in
+    let s = r in
+    (s.requires.0, (omega (arith, read_inside r.before.before.before.before), part_within modules _ _ (joined_table modules _ _ refl refl tt) r.wide_byte-module.result (read_inside r.before.before.before.before)))
 
 returns : tie.Need-returns
 unfolding modules bytes joined starts_there module-name
 returns c =
-    let r = c.before.before.before in
-    rw (← module-read r)
-    (part_compared modules _ _ (joined_table modules _ _ refl refl tt) r.wide-byte.result (read_inside r) _ c.is-name-of.ensures)
+    let r = c in
+    rw (← module-read r.before.before.before.before.before)
+    (part_compared modules _ _ (joined_table modules _ _ refl refl tt) r.wide_byte-module.result (read_inside r.before.before.before.before.before) _ c.is_name_of.ensures)
 
 pub names_source_spec : {M : Type 1} → statement M
 names_source_spec =
@@ -53,7 +49,5 @@ names_source_spec =
     (tie.spec
     array-read-wide-byte
     wide-byte-requires
-    slice-aggregate-is-name-of
-    slice-aggregate-is-name-of-2
     is-name-of-requires
     returns)

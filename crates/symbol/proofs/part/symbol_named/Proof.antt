@@ -9,14 +9,16 @@ use Rattle.symbol.proofs.Joined.{joined_table}
 use Rattle.symbol.proofs.part.symbol_named.Statement.{statement}
 use Rattle.symbol.proofs.part.symbol_named.Tie as tie
 
-named_in_requires : tie.Need-named-in-requires
+named_in_requires : tie.Need-named_in-requires
 unfolding symbol_names symbols of_smi of_tc bytes joined starts_there
 named_in_requires c κs =
-    let s = c.before.before.before in
+    let s = c in
     (s.requires, joined_table symbol_names _ _ refl refl tt)
 
 returns : tie.Need-returns
 returns c = search rules
 
 pub symbol_named_spec : {M : Type 1} → statement M
-symbol_named_spec = tie.close (tie.spec named_in_requires returns)
+symbol_named_spec = tie.close (tie.spec
+    named_in_requires
+    returns)
