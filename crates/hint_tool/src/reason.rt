@@ -8,7 +8,11 @@ pub fn explain(hint: &[u8], fault: Fault, out: Output) {
         Fault::Sound => {}
         Fault::Early(place) => say_end(place, out),
         Fault::NoLength(place) => say_byte(hint, place, b"stands where a length must stand\n", out),
-        Fault::Zero(place) => say_fault(place, b"a length is not 0, and has no leading zero\n", out),
+        Fault::Zero(place) => say_fault(
+            place,
+            b"a length is not 0, and has no leading zero\n",
+            out,
+        ),
         Fault::Large(place) => say_fault(place, b"a length is at most 255\n", out),
         Fault::NoFormat(place) => say_byte(hint, place, b"is no format (x d o a t)\n", out),
         Fault::Wide(place) => say_byte(hint, place, b"takes a length of at most 8\n", out),
