@@ -75,8 +75,8 @@ KINDS = {
 # What is written for a class that is not its own spelling.
 SPELLED = {"lower": "a", "Upper": "A", "number": "1", "negative": "-1", "text": '""', "hex": "''H"}
 
-# The names that the table's generator has for the marks.
-MARKS = {"assign": "::=", "dots": "..", "left-brace": "{", "right-brace": "}", "left-paren": "(", "right-paren": ")"}
+# The names that the table's generator has for the marks. It has `_` for a word's dashes.
+MARKS = {"assign": "::=", "dots": "..", "left_brace": "{", "right_brace": "}", "left_paren": "(", "right_paren": ")"}
 MARKS |= {"comma": ",", "semicolon": ";", "bar": "|"}
 
 class Table:
@@ -84,9 +84,9 @@ class Table:
 
     def __init__(self):
         rules = grammar_table.Grammar()
-        start = grammar_table.simplified(rules.apply("smi-module", [], {}, "smi-module"))
+        start = grammar_table.simplified(rules.apply("smi_module", [], {}, "smi-module"))
         automaton = grammar_table.Automaton(rules, start)
-        names = {n: MARKS.get(name, name) for name, n in rules.numbers.items() if name != "terminals"}
+        names = {n: MARKS.get(name, name.replace("_", "-")) for name, n in rules.numbers.items() if name != "terminals"}
         self.classes = [names[n] for n in sorted(names)]
         self.rows, self.accepting = automaton.rows, automaton.accepting
         self.way = {1: []}

@@ -2,7 +2,7 @@
 """Prints the transition table of the grammar.
 
 Reads the grammar as crates/grammar/specs/Grammar.antt has it and the terminals' numbers as
-crates/terminal/specs/Terminal.antt has them, takes derivatives of the rule `smi-module` until no
+crates/terminal/specs/Terminal.antt has them, takes derivatives of the rule `smi_module` until no
 new rule comes, and numbers the rules: these are the states. Writes crates/grammar/src/table.rt and
 crates/grammar/specs/Table.antt; with --check it writes nothing, compares, and exits with 1 where
 one of the two files differs. What it prints is trusted in nothing: the proofs test every entry.
@@ -51,7 +51,7 @@ def terminals():
 def imports(text, numbers):
     """The terminals' numbers under the names that the grammar's file gives them."""
     found = {}
-    for group in re.findall(r"use Rattle·terminal\.specs\.Terminal\.\{([^}]*)\}", text):
+    for group in re.findall(r"use Rattle\.terminal\.specs\.Terminal\.\{([^}]*)\}", text):
         for item in group.split(","):
             words = item.split()
             found[words[-1]] = numbers[words[0]]
@@ -147,11 +147,11 @@ class Grammar:
 
     # The definitions that name a part of the grammar; the others are classes of names and brackets,
     # whose tokens belong to the definition that uses them.
-    UNNAMED = {"lower", "Upper", "number", "text", "hex", "braced", "bracketed", "list", "macro-word"}
+    UNNAMED = {"lower", "Upper", "number", "text", "hex", "braced", "bracketed", "list", "macro_word"}
     UNNAMED |= {"optional", "any", "parted", "access", "status", "def"}
 
     def owner_of(self, word, owner):
-        return owner if word in self.UNNAMED else word.removesuffix("-line")
+        return owner if word in self.UNNAMED else word.replace("_", "-").removesuffix("-line")
 
 
 # ---- derivatives, as proofs/Derivative.antt has them -----------------------------------------
@@ -274,20 +274,26 @@ class Printer:
     """The states as the two files have them, a line or a block for each."""
 
     GROUPS = {
-        "lowers": ["lower", "current", "deprecated", "obsolete", "not-accessible", "accessible-for-notify"]
-        + ["read-only", "read-write", "read-create"],
-        "macro-words": ["MODULE-IDENTITY", "OBJECT-IDENTITY", "OBJECT-TYPE", "NOTIFICATION-TYPE", "TEXTUAL-CONVENTION"],
+        "lowers": ["lower", "current", "deprecated", "obsolete", "not_accessible", "accessible_for_notify"]
+        + ["read_only", "read_write", "read_create"],
+        "macro_words": ["MODULE-IDENTITY", "OBJECT-IDENTITY", "OBJECT-TYPE", "NOTIFICATION-TYPE", "TEXTUAL-CONVENTION"],
         "numbers": ["number", "negative"],
     }
 
-    # How the comments spell what is no word of a module.
-    SPELLED = {"assign": "::=", "dots": "..", "left-brace": "{", "right-brace": "}", "left-paren": "(", "right-paren": ")"}
-    SPELLED |= {"comma": ",", "semicolon": ";", "bar": "|", "lowers": "lower", "macro-words": "macro word", "numbers": "number"}
+    # How the comments spell what is no word of a module; a word of a module has dashes there.
+    SPELLED = {"assign": "::=", "dots": "..", "left_brace": "{", "right_brace": "}", "left_paren": "(", "right_paren": ")"}
+    SPELLED |= {"comma": ",", "semicolon": ";", "bar": "|", "lowers": "lower", "macro_words": "macro word", "numbers": "number"}
+
+    # The longest line of code in a .rt file.
+    WIDTH = 100
 
     def __init__(self, grammar, automaton):
         self.automaton = automaton
         self.words = {n: name for name, n in grammar.numbers.items() if name != "terminals"}
         self.groups = {name: [grammar.numbers[word] for word in words] for name, words in self.GROUPS.items()}
+
+    def spelled(self, word):
+        return self.SPELLED.get(word, word.replace("_", "-"))
 
     def grouped(self, classes):
         """The names of the classes: a group's where all of it is there, then those of the rest."""
@@ -311,7 +317,7 @@ class Printer:
         parts = []
         for owner in sorted(owners):
             groups, words = self.grouped(owners[owner])
-            parts.append(" or ".join(self.SPELLED.get(word, word) for word in groups + words) + " of " + owner)
+            parts.append(" or ".join(self.spelled(word) for word in groups + words) + " of " + owner)
         return "after " + ", ".join(parts)
 
     def targets(self, state):
@@ -339,10 +345,9 @@ class Printer:
             "-- The automaton of the grammar, printed by tools/grammar_table.py: a line for each state, with the states that the",
             "-- classes lead to. Nothing rests on how it was made: the proofs test each state and each class.",
             "-- Assumes nothing.",
-            "use mathlib.Core.List.{List, [], _∷_, _++_}",
-            "use Prim.Native.Nat.{ℕ}",
-            "use Rattle·grammar·specs.specs.Automaton.{Automaton, dense}",
-            "use Rattle·terminal.specs.Terminal.{" + ", ".join(words + ["terminals"]) + "}",
+            "use Rattle.std.specs.Prelude.{List, [], ◌∷◌, ◌++◌, ℕ}",
+            "use Rattle.grammar.specs.Automaton.{Automaton, dense}",
+            "use Rattle.terminal.specs.Terminal.{" + ", ".join(words + ["terminals"]) + "}",
             "",
         ]
         for name, words in self.GROUPS.items():
@@ -366,6 +371,18 @@ class Printer:
             "",
         ]
         return "\n".join(lines)
+
+    def filled(self, row):
+        """The row's entries as `rt fmt` lays them out: as many on a line as fit, and a comment ends its line."""
+        lines, line = [], "   "
+        for c, x in enumerate(row):
+            entry = f" {x},"
+            if len(line + entry) > self.WIDTH:
+                lines, line = lines + [line], "   "
+            line += entry
+            if x:
+                lines, line = lines + [f"{line} // {self.spelled(self.words[c])}"], "   "
+        return lines + [line] if line.strip() else lines
 
     def rattle(self):
         a = self.automaton
@@ -391,16 +408,14 @@ class Printer:
         ]
         for state, row in enumerate(a.rows):
             lines.append(f"    // state {state}, {self.where(state)}")
-            for c, x in enumerate(row):
-                word = self.words[c]
-                lines.append(f"    {x}," + (f" // {self.SPELLED.get(word, word)}" if x else ""))
+            lines += self.filled(row)
         lines += ["];", ""]
         return "\n".join(lines)
 
 
 def main():
     grammar = Grammar()
-    automaton = Automaton(grammar, simplified(grammar.apply("smi-module", [], {}, "smi-module")))
+    automaton = Automaton(grammar, simplified(grammar.apply("smi_module", [], {}, "smi-module")))
     printer = Printer(grammar, automaton)
     files = {TABLE_RT: printer.rattle(), TABLE_ANTT: printer.antt()}
     if sys.argv[1:] == ["--check"]:

@@ -42,7 +42,7 @@ def files(end):
 def is_declared(line, following):
     """The names that a line declares: at a type, or as a record, data or ruleset."""
     bare = re.sub(r"^ *(?:(?:abbrev|unfoldable|pub) )*", "", line)
-    if re.match(r"(use|mod|module|--|→|let|in|unfolding|open|where|\||\(|λ)\b", bare):
+    if re.match(r"(use|mod|module|--|→|let|in|unfolding|open|where|\||\(|λ)(?= |$|\()", bare):
         return []
     kind = re.match(r"(?:record|data|ruleset) (" + SIGN + "+)", bare)
     if kind:
@@ -59,9 +59,9 @@ def read(path):
 def table():
     found = {}
     for path in files(".antt"):
-        own = path.endswith("/Proof.antt")
+        own = path.endswith(("/Proof.antt", "/Answers.antt", "/Invariants.antt"))
         for line in read(path).splitlines():
-            if own and re.search(r": (?:\w+ )*tie\.(?:Need|invariant|decreases)", line):
+            if own and re.search(r": (?:(?:\w+ )*tie\.(?:Need|invariant|decreases)|goal\.)|_spec :", line):
                 continue
             for name in is_declared(line, None):
                 if "-" in name and turned(name) != name and re.search("[a-z]", name):
@@ -124,7 +124,7 @@ def main(argv):
         if made != text:
             with open(path, "w", encoding="utf-8") as file:
                 file.write(made)
-    for path in files(".rt"):
+    for path in [*files(".rt"), *files(".edit")]:
         text = read(path)
         made = in_rt(text, rows)
         if made != text:

@@ -33,8 +33,8 @@ unfoldable pub clashes : List Definition → List ℕ → ℕ → Bool
 clashes ds values k = is_written_column ds (entry ds k) && creates ds values (type_of (numbered ds (entry ds k).parent))
 
 -- 2: a table or a row that isn't not-accessible
-abbrev pub open-table : Definition → Bool
-open-table d = (is_table d || is_row d) && not (eqb d.access not_accessible)
+abbrev pub open_table : Definition → Bool
+open_table d = (is_table d || is_row d) && not (eqb d.access not_accessible)
 
 -- 3: read-create in what is no column
 abbrev pub created_alone : List Definition → Definition → Bool
@@ -57,7 +57,7 @@ unfoldable pub access_clause : List Definition → List ℕ → ℕ → ℕ
 access_clause ds values k =
     if not (is_object (entry ds k)) then 0 else
     if clashes ds values k then 1 else
-    if open-table (entry ds k) then 2 else
+    if open_table (entry ds k) then 2 else
     if created_alone ds (entry ds k) then 3 else
     if unfit_counter (entry ds k) then 4 else
     0

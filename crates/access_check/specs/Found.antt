@@ -7,7 +7,7 @@ use Rattle.module_table.specs.declared.Definition.{Definition}
 use Rattle.object_tree.specs.Words.{is_object, numbered}
 use Rattle.index.specs.Choice.{if◌then◌else◌}
 use Rattle.sequence_list.specs.Named.{type_of}
-use Rattle.access_check.specs.Access.{is_written_column, open-table, created_alone, unfit_counter}
+use Rattle.access_check.specs.Access.{is_written_column, open_table, created_alone, unfit_counter}
 use Rattle.access_check.specs.Notification.{TwoNumbers, notification_clause}
 use Rattle.access_check.specs.declared.Check.{Check}
 use Rattle.access_check.specs.declared.Check.TheVariants.{Access, Notification}
@@ -16,7 +16,7 @@ use Rattle.access_check.specs.declared.Check.TheVariants.{Access, Notification}
 unfoldable pub own_clause : List Definition → Definition → ℕ
 own_clause ds d =
     if not (is_object d) then 0 else
-    if open-table d then 2 else
+    if open_table d then 2 else
     if created_alone ds d then 3 else
     if unfit_counter d then 4 else
     0

@@ -1,7 +1,7 @@
 // The clauses of refusal 21 that are about one object.
 ghost use Rattle.std.specs.Prelude.{◌≡◌};
 ghost use Rattle.module_table.specs.Definition.{definitions_in};
-ghost use Rattle.access_check.specs.Access.{has_access, first_with, open-table, created_alone, unfit_counter};
+ghost use Rattle.access_check.specs.Access.{has_access, first_with, open_table, created_alone, unfit_counter};
 ghost use Rattle.access_check.specs.Found.{own_clause};
 
 use definition::Span;
@@ -38,7 +38,7 @@ pub fn first_with(values: &[u32], definitions: &[usize], access: usize, list: Sp
 
 // Whether a table or a row isn't not-accessible.
 fn is_open_table(d: Definition) -> bool
-    ensures { result ≡ open-table d }
+    ensures { result ≡ open_table d }
 {
     (is_table(d) | is_row(d)) & (d.access != NOT_ACCESSIBLE)
 }

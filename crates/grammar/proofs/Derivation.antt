@@ -14,7 +14,7 @@ use Rattle.grammar.specs.Derivation.{Derivation, tokens_of, tree_of, DerivesToke
 use Rattle.grammar.specs.Rule.{Rule, never, empty, token, ◌⨾◌, ◌or◌, repeated, last, step, Tree, yield}
 use Rattle.grammar.specs.Automaton.{run}
 use Rattle.grammar.specs.Grammar.{smi_module}
-use Rattle.grammar.specs.Table.{module-automaton}
+use Rattle.grammar.specs.Table.{module_automaton}
 use Rattle.terminal.specs.Terminal.{terminals}
 use Rattle.grammar.proofs.OneVerdict.{one_verdict}
 use Rattle.grammar.proofs.Part.{same_last, same_step, last_no_step}
@@ -50,7 +50,7 @@ module _ {A : Type 0} (class : A → ℕ) where
   tree_yield (r or s) =
       let f = tree_yield r in
       let g = tree_yield s in
-      λ d. elim d [ inl x ↦ f x | inr y ↦ g y ]
+      elim [ inl x ↦ f x | inr y ↦ g y ]
   tree_yield (repeated r s) = classed_steps r s (tree_yield r) (tree_yield s)
 
   -- tokens whose classes are two lists, one after the other, are two lists of tokens
@@ -131,8 +131,7 @@ module _ {A : Type 0} (class : A → ℕ) where
   tree_onto (r or s) =
       let f = tree_onto r in
       let g = tree_onto s in
-      λ t.
-      elim t [
+      elim [
         | inl u ↦ λ ts e.
             let x = f u ts e in
             record { derivation = inl x.derivation; its_tree = ap inl x.its_tree; its_tokens = x.its_tokens }
@@ -268,9 +267,9 @@ module _ {A : Type 0} (class : A → ℕ) where
         }
 
 -- each class that the grammar names is a terminal
-module-below : T (below terminals smi_module)
+module_below : T (below terminals smi_module)
 unfolding smi_module
-module-below = tt
+module_below = tt
 
 module _ {A : Type 0} (class : A → ℕ) where
   -- no other verdict on a token sequence is right
@@ -281,12 +280,12 @@ module _ {A : Type 0} (class : A → ℕ) where
   -- where each terminal has a token
   module _ (inhabited : EachTerminal class) where
     pub carried : (ts : List A) (v : Verdict) → Answers smi_module (map class ts) v → AnswersTokens class smi_module ts v
-    carried = answers_tokens class terminals inhabited smi_module module-below
+    carried = answers_tokens class terminals inhabited smi_module module_below
 
     -- The theorem on the grammar, over every token sequence of any length.
-    pub token_theorem : (ts : List A) → AnswersTokens class smi_module ts (run module-automaton (map class ts))
-    token_theorem ts = carried ts (run module-automaton (map class ts)) (grammar_theorem (map class ts))
+    pub token_theorem : (ts : List A) → AnswersTokens class smi_module ts (run module_automaton (map class ts))
+    token_theorem ts = carried ts (run module_automaton (map class ts)) (grammar_theorem (map class ts))
 
     -- P5: the one right verdict on the sequence without tokens is that it is refused at token 0
     pub no_tokens_refused : (v : Verdict) → AnswersTokens class smi_module [] v → v ≡ refused 0
-    no_tokens_refused v a = one_token_verdict [] v (run module-automaton []) a (token_theorem []) ∙ no_tokens
+    no_tokens_refused v a = one_token_verdict [] v (run module_automaton []) a (token_theorem []) ∙ no_tokens

@@ -19,8 +19,8 @@ unrolled : (r s : Rule) → Same (repeated r s) (s or r ⨾ repeated r s)
 unrolled r s =
     record {
       back = ⊎_elim last (λ u. step u.0 u.1);
-      yields = λ d. elim d [ inl t ↦ refl | inr u ↦ refl ];
-      onto = λ t h. elim t [ last x ↦ (inl x, refl) | step x more ↦ (inr (x, more), refl) ];
+      yields = elim [ inl t ↦ refl | inr u ↦ refl ];
+      onto = elim [ last x ↦ λ h. (inl x, refl) | step x more ↦ λ h. (inr (x, more), refl) ];
       once =
           cases_once last (λ u. step u.0 u.1) (λ x y e. same_last e)
           (λ x y e. ap₂ (λ u v. (u, v)) (same_step e).0 (same_step e).1)
@@ -86,7 +86,7 @@ blank_silent (r ⨾ s) =
 blank_silent (r or s) =
     let f = blank_silent r in
     let g = blank_silent s in
-    silent_same (choice_same (blank r) (blank s)) (λ t. elim t [ inl x ↦ f x | inr y ↦ g y ])
+    silent_same (choice_same (blank r) (blank s)) (elim [ inl x ↦ f x | inr y ↦ g y ])
 blank_silent (repeated r s) = blank_silent s
 
 -- the first token of two lists, one after the other, is the second's where the first is empty, and else the first's
@@ -101,8 +101,8 @@ after_sequence : {r s p e q : Rule} (c : ℕ) → After (c ∷ []) r p → Blank
 after_sequence {r} {s} {p} {e} {q} c a b mute g =
     record {
       back = ⊎_elim (λ x. (a.back x.0, x.1)) (λ y. (b.back y.0, g.back y.1));
-      yields = λ d.
-          elim d [
+      yields =
+          elim [
             | inl x ↦ ap (λ l. l ++ yield s x.1) (a.yields x.0)
             | inr y ↦
                 ap₂ (λ l m. l ++ m) (b.yields y.0 ∙ mute y.0) (g.yields y.1)

@@ -74,9 +74,9 @@ module _ {P : List ℕ → Type 0} {f : List ℕ → List ℕ} where
   either a b =
       record {
         back = ⊎_elim (λ x. inl (a.back x)) (λ y. inr (b.back y));
-        yields = λ d. elim d [ inl x ↦ a.yields x | inr y ↦ b.yields y ];
-        onto = λ t.
-            elim t [
+        yields = elim [ inl x ↦ a.yields x | inr y ↦ b.yields y ];
+        onto =
+            elim [
               | inl x ↦ λ h. let e = a.onto x h in (inl e.0, ap inl e.1)
               | inr y ↦ λ h. let e = b.onto y h in (inr e.0, ap inr e.1)
             ];
@@ -147,7 +147,7 @@ left_alone r =
     record {
       back = λ d. inl d;
       yields = λ d. refl;
-      onto = λ t. elim t [ inl x ↦ λ h. (x, refl) | inr y ↦ λ h. absurd y ];
+      onto = elim [ inl x ↦ λ h. (x, refl) | inr y ↦ λ h. absurd y ];
       once = λ d e p. inl-injective d e p;
     }
 
@@ -156,7 +156,7 @@ right_alone s =
     record {
       back = λ d. inr d;
       yields = λ d. refl;
-      onto = λ t. elim t [ inl x ↦ λ h. absurd x | inr y ↦ λ h. (y, refl) ];
+      onto = elim [ inl x ↦ λ h. absurd x | inr y ↦ λ h. (y, refl) ];
       once = λ d e p. inr-injective d e p;
     }
 

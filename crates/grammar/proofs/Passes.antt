@@ -74,10 +74,10 @@ all_after n (c ∷ l) m h = all_after n l m h.1
 abbrev Yields-below : ℕ → Rule → Type 0
 Yields-below n r = (t : Tree r) → All-below n (yield r t)
 
-in-steps : (n : ℕ) (r s : Rule) → Yields-below n r → Yields-below n s → Yields-below n (repeated r s)
-in-steps n r s f g (last t) = g t
-in-steps n r s f g (step t more) =
-    all_appended n (yield r t) (yield (repeated r s) more) (f t) (in-steps n r s f g more)
+in_steps : (n : ℕ) (r s : Rule) → Yields-below n r → Yields-below n s → Yields-below n (repeated r s)
+in_steps n r s f g (last t) = g t
+in_steps n r s f g (step t more) =
+    all_appended n (yield r t) (yield (repeated r s) more) (f t) (in_steps n r s f g more)
 
 pub yields_below : (n : ℕ) (r : Rule) → T (below n r) → Yields-below n r
 yields_below n never h = λ t. absurd t
@@ -90,11 +90,11 @@ yields_below n (r ⨾ s) h =
 yields_below n (r or s) h =
     let f = yields_below n r (and_left (below n r) (below n s) h) in
     let g = yields_below n s (and_right (below n r) (below n s) h) in
-    λ t. elim t [ inl x ↦ f x | inr y ↦ g y ]
+    elim [ inl x ↦ f x | inr y ↦ g y ]
 yields_below n (repeated r s) h =
     let f = yields_below n r (and_left (below n r) (below n s) h) in
     let g = yields_below n s (and_right (below n r) (below n s) h) in
-    in-steps n r s f g
+    in_steps n r s f g
 
 -- the first class of a yield is below n
 pub first_below : (n : ℕ) (r : Rule) → T (below n r) → (t : Tree r) (c : ℕ) (more : List ℕ) → yield r t ≡ c ∷ more → c < n

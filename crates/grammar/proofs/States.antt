@@ -9,7 +9,7 @@ use lib.Dec.{eqb}
 use lib.ListN.{length, get_or}
 use Rattle.grammar.specs.Rule.{Rule, never}
 use Rattle.grammar.specs.Grammar.{smi_module}
-use Rattle.grammar.specs.Table.{transitions, module-automaton}
+use Rattle.grammar.specs.Table.{transitions, module_automaton}
 use Rattle.grammar.proofs.Derivative.{simplified, derivative}
 use Rattle.grammar.proofs.Passes.{Passes}
 
@@ -32,9 +32,9 @@ pub rules : List Rule
 unfolding smi_module transitions
 rules = grown (never ∷ simplified smi_module ∷ []) 0 transitions
 
-pub module-passes : Passes module-automaton rules smi_module
-unfolding rules module-automaton ℕ_discrete
-module-passes =
+pub module_passes : Passes module_automaton rules smi_module
+unfolding rules module_automaton ℕ_discrete
+module_passes =
     record {
       all_states = refl;
       all_entries = refl;

@@ -8,14 +8,14 @@ use Prim.Native.Nat.{ℕ}
 use Rattle.grammar.specs.Answer.{refused, Answers}
 use Rattle.grammar.specs.Automaton.{run, run_from}
 use Rattle.grammar.specs.Grammar.{smi_module}
-use Rattle.grammar.specs.Table.{module-automaton}
+use Rattle.grammar.specs.Table.{module_automaton}
 use Rattle.grammar.proofs.Run.{run_answers}
-use Rattle.grammar.proofs.States.{module-passes}
+use Rattle.grammar.proofs.States.{module_passes}
 
-pub grammar_theorem : (ts : List ℕ) → Answers smi_module ts (run module-automaton ts)
-grammar_theorem ts = run_answers module-passes ts
+pub grammar_theorem : (ts : List ℕ) → Answers smi_module ts (run module_automaton ts)
+grammar_theorem ts = run_answers module_passes ts
 
 -- no tokens: the run refuses at the end, which is token 0
-pub no_tokens : run module-automaton [] ≡ refused 0
-unfolding run_from module-automaton
+pub no_tokens : run module_automaton [] ≡ refused 0
+unfolding run_from module_automaton
 no_tokens = refl

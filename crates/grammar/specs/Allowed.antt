@@ -3,7 +3,7 @@
 use Rattle.std.specs.Prelude.{Bool, true, List, ℕ, leb, length}
 use Rattle.grammar.specs.Answer.{Verdict, derived, refused}
 use Rattle.grammar.specs.Automaton.{run}
-use Rattle.grammar.specs.Table.{module-automaton}
+use Rattle.grammar.specs.Table.{module_automaton}
 
 -- of n classes with this verdict none is at fault: they are derived, or only their end is
 abbrev pub unspoiled : ℕ → Verdict → Bool
@@ -12,4 +12,4 @@ unspoiled n (refused i) = leb n i
 
 -- the automaton allows the sequence as the beginning of one
 abbrev pub allowed : List ℕ → Bool
-allowed ts = unspoiled (length ts) (run module-automaton ts)
+allowed ts = unspoiled (length ts) (run module_automaton ts)

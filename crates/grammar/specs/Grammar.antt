@@ -60,8 +60,8 @@ macro_word =
     or token TEXTUAL-CONVENTION
 
 -- 1. module: Upper DEFINITIONS ::= BEGIN [IMPORTS group group* ;] identity def* END, then the end of the text
-abbrev pub module-line : (group identity def : Rule) → Rule
-module-line group identity def =
+abbrev pub module_line : (group identity def : Rule) → Rule
+module_line group identity def =
     Upper
     ⨾ token DEFINITIONS
     ⨾ token assign
@@ -196,7 +196,7 @@ oid_line part = braced (lower ⨾ part ⨾ zero_or_more part)
 abbrev pub part : Rule
 part = token non_negative or lower ⨾ bracketed (token non_negative)
 
--- 13. status: current, deprecated, obsolete. access: not-accessible, accessible-for-notify, read_only, read-write, read-create.
+-- 13. status: current, deprecated, obsolete. access: not-accessible, accessible-for-notify, read-only, read-write, read-create.
 abbrev pub status : Rule
 status = token current or token deprecated or token obsolete
 
@@ -235,4 +235,4 @@ abbrev pub identity : Rule
 identity = identity_line oid
 
 unfoldable pub smi_module : Rule
-smi_module = module-line group identity def
+smi_module = module_line group identity def

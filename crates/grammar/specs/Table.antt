@@ -157,7 +157,7 @@ transitions =
     ((bar, 60) ∷ (right_paren, 61) ∷ (dots, 79) ∷ []) ∷
     -- 69, after SIZE of sizes
     ((left_paren, 80) ∷ []) ∷
-    -- 70, after not-accessible or accessible-for-notify or read_only or read-write or read-create of smi-module
+    -- 70, after not-accessible or accessible-for-notify or read-only or read-write or read-create of smi-module
     ((STATUS, 81) ∷ []) ∷
     -- 71, after text of object-type
     ((MAX-ACCESS, 57) ∷ []) ∷
@@ -289,7 +289,7 @@ transitions =
     ((bar, 119) ∷ (right_paren, 131) ∷ []) ∷
     []
 
-unfoldable pub module-automaton : Automaton
+unfoldable pub module_automaton : Automaton
 unfolding transitions
-module-automaton =
+module_automaton =
     record { states = 135; width = terminals; table = dense terminals transitions; start = 1; accepting = 30 }

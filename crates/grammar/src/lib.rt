@@ -8,7 +8,7 @@ ghost use Rattle.grammar.specs.Answer.{Answers, Begins};
 ghost use Rattle.grammar.specs.Automaton.{next, run};
 ghost use Rattle.grammar.specs.Grammar.{smi_module};
 ghost use Rattle.grammar.specs.Reading.{verdict};
-ghost use Rattle.grammar.specs.Table.{module-automaton};
+ghost use Rattle.grammar.specs.Table.{module_automaton};
 
 mod table;
 
@@ -26,10 +26,10 @@ pub enum Reading {
 
 // The state after a token of this class: DEAD where no derived sequence goes on so, as with a class that is no terminal's.
 fn step(table: &[u8; ENTRIES], state: u8, class: u8) -> u8
-    requires table { table.now ≡ module-automaton.table }
-    requires state { state < module-automaton.states }
-    ensures leads { result ≡ next module-automaton state class }
-    ensures state { result < module-automaton.states }
+    requires table { table.now ≡ module_automaton.table }
+    requires state { state < module_automaton.states }
+    ensures leads { result ≡ next module_automaton state class }
+    ensures state { result < module_automaton.states }
 {
     let row = state as usize;
     let column = class as usize;
@@ -43,7 +43,7 @@ fn step(table: &[u8; ENTRIES], state: u8, class: u8) -> u8
 // What the grammar says of the first n classes. The table is a local, made once: a constant is made anew wherever it is used.
 pub fn recognise(classes: &[u8], n: usize) -> Reading
     requires { n ≤ length classes.now }
-    ensures ran { verdict result ≡ run module-automaton (take n classes.now) }
+    ensures ran { verdict result ≡ run module_automaton (take n classes.now) }
     ensures right { Answers smi_module (take n classes.now) (verdict result) }
 {
     let table = TABLE;

@@ -16,7 +16,7 @@ use Rattle.hint_form.specs.Hint.{Reading, pieces, none, read_hint, is_pieces, pi
 use Rattle.hint_integer.specs.Form.{read_form, is_bad}
 use Rattle.hint_piece.specs.Use.{Outcome}
 use Rattle.hint_piece.specs.Followed.{Followed, wrote, failed}
-use Rattle.hint_integer.specs.Signed.{in-range, signed}
+use Rattle.hint_integer.specs.Signed.{in_range, signed}
 use Rattle.hint_integer.specs.declared.Form.{Form}
 use Rattle.hint_integer.specs.declared.Form.TheVariants.{Base, Point, Bad}
 use Rattle.hint_piece.specs.declared.Progress.TheVariants.{To, Fault}
@@ -136,7 +136,7 @@ module _ (room : ℕ) (hint : List ℕ) (value : ℤ) where
       go (Point places) e = let z : ◌≡◌ {A = ℕ} 0 1 = cc in absurd (omega arith)
       go Bad e = refl
 
-  pub integer_range : 64 ≤ room → is_bad (read_form hint) ≡ false → in-range value ≡ false
+  pub integer_range : 64 ≤ room → is_bad (read_form hint) ≡ false → in_range value ≡ false
       → integer_verdict room hint value ≡ refusal 34 0
   unfolding integer_verdict by_form
   integer_range h b r = simp (le-ltb room 64 h) (go (read_form hint) b)
@@ -146,7 +146,7 @@ module _ (room : ℕ) (hint : List ℕ) (value : ℤ) where
       go (Point places) e = simp r
       go Bad e = let z : ◌≡◌ {A = ℕ} 0 1 = cc in absurd (omega arith)
 
-  pub integer_text : 64 ≤ room → is_bad (read_form hint) ≡ false → in-range value ≡ true
+  pub integer_text : 64 ≤ room → is_bad (read_form hint) ≡ false → in_range value ≡ true
       → integer_verdict room hint value ≡ text (signed (read_form hint) value)
   unfolding integer_verdict by_form
   integer_text h b r = simp (le-ltb room 64 h) (go (read_form hint) b)

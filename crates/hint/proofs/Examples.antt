@@ -11,8 +11,8 @@ use Rattle.hint_integer.specs.Form.{integer_format, read_point, read_form}
 use Rattle.digit.specs.Digits.{glyph, digits_within, digits, pointed, big_endian}
 use Rattle.character.specs.Cut.{before, cut_within, cut}
 use Rattle.character.specs.Character.{between, tail, lead_size, second_low, second_high, tails, sequence_size, character_size}
-use Rattle.hint_piece.specs.Use.{joined, passed, use-text, optional, following, one_use, uses, repeats, uses_start, uses_end}
-use Rattle.hint_integer.specs.Signed.{magnitude, signed, in-range}
+use Rattle.hint_piece.specs.Use.{joined, passed, use_text, optional, following, one_use, uses, repeats, uses_start, uses_end}
+use Rattle.hint_integer.specs.Signed.{magnitude, signed, in_range}
 use Rattle.hint.specs.Print.{turn, printing_within, printing}
 use Rattle.hint.specs.Answer.{text, refusal, of_outcome, by_pieces, octets_verdict, by_form, integer_verdict}
 
@@ -35,7 +35,7 @@ pub examples : Examples
 unfolding bytes octets_verdict by_pieces of_outcome read_hint pieces_of cut cut_within before piece_size piece_end piece_at is_piece
     terminator_of separator_of format_place length_place starred longest numeric bounded allowed number_at number_after
     mark_size mark_at mark digit
-    printing printing_within turn uses_end uses_start repeats uses one_use following optional use-text passed passes joined
+    printing printing_within turn uses_end uses_start repeats uses one_use following optional use_text passed passes joined
     character_size sequence_size tails second_high second_low lead_size tail between big_endian digits digits_within glyph base_of
-    integer_verdict by_form in-range signed magnitude integer_format read_form read_point pointed
+    integer_verdict by_form in_range signed magnitude integer_format read_form read_point pointed
 examples = record { P6 = refl; P7 = refl; P8-text = refl; P8-ascii = refl }

@@ -8,7 +8,7 @@ use Rattle.hint_integer.specs.Form.{read_form}
 use Rattle.hint_piece.specs.Use.{Outcome, printed, fault}
 use Rattle.hint_integer.specs.declared.Form.{Form}
 use Rattle.hint_integer.specs.declared.Form.TheVariants.{Base, Point, Bad}
-use Rattle.hint_integer.specs.Signed.{signed, in-range}
+use Rattle.hint_integer.specs.Signed.{signed, in_range}
 use Rattle.hint.specs.Print.{printing}
 use Rattle.hint.specs.declared.Answer.{Answer}
 use Rattle.hint.specs.declared.Answer.TheVariants.{Printed, ShortBuffer, LongValue, BadHint, BadOctet, OutOfRange}
@@ -45,8 +45,8 @@ octets_verdict room hint value =
 
 -- refusal 32, then 34, or the text
 unfoldable pub by_form : Form → ℤ → Verdict
-by_form (Base base) value = cond (in-range value) (text (signed (Base base) value)) (refusal 34 0)
-by_form (Point places) value = cond (in-range value) (text (signed (Point places) value)) (refusal 34 0)
+by_form (Base base) value = cond (in_range value) (text (signed (Base base) value)) (refusal 34 0)
+by_form (Point places) value = cond (in_range value) (text (signed (Point places) value)) (refusal 34 0)
 by_form Bad value = refusal 32 0
 
 -- an integer, with an output buffer of so many bytes: refusals in the order 30, 32, 34

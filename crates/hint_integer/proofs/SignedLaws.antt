@@ -15,23 +15,23 @@ use borrow.Author.Tests.{lt-ltb, le-ltb, leb-true, leb-false, ltb-true}
 use Rattle.hint_integer.specs.Form.{Usable}
 use Rattle.hint_integer.specs.declared.Form.{Form}
 use Rattle.hint_integer.specs.declared.Form.TheVariants.{Base, Point, Bad}
-use Rattle.hint_integer.specs.Signed.{in-range, magnitude, signed}
+use Rattle.hint_integer.specs.Signed.{in_range, magnitude, signed}
 use Rattle.digit.proofs.Sizes.{digits_short, pointed_size}
 
 -- the two tests of the range
-pub range_high : (z : ℤ) → le_z (negsuc 2147483647) z ≡ true → le_z z (pos 4294967295) ≡ in-range z
-unfolding in-range
+pub range_high : (z : ℤ) → le_z (negsuc 2147483647) z ≡ true → le_z z (pos 4294967295) ≡ in_range z
+unfolding in_range
 range_high (pos n) h = refl
 range_high (negsuc n) h = sym (lt-ltb n 2147483648 (omega (arith, leb-true n 2147483647 h)))
 
-pub range_low : (z : ℤ) → le_z (negsuc 2147483647) z ≡ false → le_z (negsuc 2147483647) z ≡ in-range z
-unfolding in-range
+pub range_low : (z : ℤ) → le_z (negsuc 2147483647) z ≡ false → le_z (negsuc 2147483647) z ≡ in_range z
+unfolding in_range
 range_low (pos n) h = let z : ◌≡◌ {A = ℕ} 0 1 = cc in absurd (omega arith)
 range_low (negsuc n) h = h ∙ sym (le-ltb n 2147483648 (omega (arith, leb-false n 2147483647 h)))
 
 -- an integer in the range has a magnitude below 2 ^ 32
-pub magnitude_small : (z : ℤ) → in-range z ≡ true → nat_abs z < 2 ^ 32
-unfolding in-range
+pub magnitude_small : (z : ℤ) → in_range z ≡ true → nat_abs z < 2 ^ 32
+unfolding in_range
 magnitude_small (pos n) h = omega (arith, leb-true n 4294967295 h)
 magnitude_small (negsuc n) h = omega (arith, ltb-true n 2147483648 h)
 

@@ -18,6 +18,6 @@ signed form (pos n) = magnitude form n
 signed form (negsuc n) = code "-" ∷ magnitude form (suc n)
 
 -- from -2147483648 to 4294967295; `negsuc n` is -(n + 1)
-unfoldable pub in-range : ℤ → Bool
-in-range (pos n) = leb n 4294967295
-in-range (negsuc n) = ltb n 2147483648
+unfoldable pub in_range : ℤ → Bool
+in_range (pos n) = leb n 4294967295
+in_range (negsuc n) = ltb n 2147483648

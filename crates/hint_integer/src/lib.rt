@@ -4,7 +4,7 @@
 ghost use Rattle.std.specs.Prelude.{◌+◌, ◌≤◌, ◌≡◌, true, nat_abs, length};
 ghost use Rattle.buffer.specs.Buffer.{Wrote};
 ghost use Rattle.hint_integer.specs.Form.{Usable, is_bad, read_form, read_point};
-ghost use Rattle.hint_integer.specs.Signed.{in-range, magnitude, signed};
+ghost use Rattle.hint_integer.specs.Signed.{in_range, magnitude, signed};
 
 use buffer::{byte_at, put};
 use digit::{print_digits, print_pointed};
@@ -55,7 +55,7 @@ pub fn form_of(hint: &[u8]) -> Form
 
 // Whether an integer is from -2147483648 to 4294967295.
 pub fn in_range(value: i64) -> bool
-    ensures { result ≡ in-range value }
+    ensures { result ≡ in_range value }
 {
     -2147483648 <= value && value <= 4294967295
 }
@@ -73,7 +73,7 @@ pub fn is_bad(form: Form) -> bool
 
 // The magnitude of an integer in the range: below zero it is negated first.
 fn magnitude_of(value: i64) -> u64
-    requires { in-range value ≡ true }
+    requires { in_range value ≡ true }
     ensures { result ≡ nat_abs value }
 {
     if value < 0 {
@@ -99,7 +99,7 @@ fn print_magnitude(form: Form, n: u64, out: &mut [u8], at: usize) -> usize
 // Writes an integer in a form from the start of the output, and answers the text's length.
 pub fn print_signed(form: Form, value: i64, out: &mut [u8]) -> usize
     requires usable { Usable form }
-    requires range { in-range value ≡ true }
+    requires range { in_range value ≡ true }
     requires room { 64 ≤ length out.old }
     ensures { Wrote (signed form value) 0 result out.old out.new }
 {

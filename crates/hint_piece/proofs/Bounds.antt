@@ -15,7 +15,7 @@ use Rattle.hint_form.specs.Hint.{base_of, longest, numeric, passes}
 use Rattle.character.specs.Cut.{Cut, whole, stuck}
 use Rattle.character.specs.Character.{characters}
 use Rattle.hint_form.specs.declared.Piece.{Piece}
-use Rattle.hint_piece.specs.Use.{Outcome, printed, passed, use-text, optional, following, one_use, uses}
+use Rattle.hint_piece.specs.Use.{Outcome, printed, passed, use_text, optional, following, one_use, uses}
 use Rattle.digit.proofs.Sizes.{Octets, octets_drop, octets_take, number_short}
 use Rattle.hint_piece.proofs.Outcomes.{size_of, joined_size}
 
@@ -45,10 +45,10 @@ passed_size at s (whole places) = omega arith
 passed_size at s (stuck i) = omega arith
 
 -- a use prints three bytes for each octet at most
-pub use-size : (format at : ℕ) (s : List ℕ) → 0 < length s → length s ≤ longest format → Octets s
-    → size_of (use-text format at s) ≤ 3 * length s
-unfolding use-text
-use-size format at s some allowed h = go (passes format) refl
+pub use_size : (format at : ℕ) (s : List ℕ) → 0 < length s → length s ≤ longest format → Octets s
+    → size_of (use_text format at s) ≤ 3 * length s
+unfolding use_text
+use_size format at s some allowed h = go (passes format) refl
   where
     number : Outcome
     number = printed (digits (base_of format) (big_endian 0 s))
@@ -78,9 +78,9 @@ module _ (p : Piece) (value : List ℕ) (some : 0 < p.size) (allowed : p.size �
       let s : List ℕ = take p.size (drop at value) in
       let long = octets_size p.size at value in
       let octets = octets_take p.size (drop at value) (octets_drop at value h) in
-      let text = use-size p.format at s (omega arith) (omega arith) octets in
+      let text = use_size p.format at s (omega arith) (omega arith) octets in
       let next : ℕ = following p left value (at + p.size) in
-      omega (arith, text, optional_size next, joined_size (use-text p.format at s) (printed (optional next)))
+      omega (arith, text, optional_size next, joined_size (use_text p.format at s) (printed (optional next)))
 
   -- so many uses from a place on leave four bytes for each octet after them
   abbrev Fits : ℕ → ℕ → Type 0

@@ -26,8 +26,8 @@ passed at octets (whole places) = printed octets
 passed at octets (stuck i) = fault (at + i)
 
 -- the octets of one use, which start at a place of the value: a and t pass them on, x d o print a big_endian number
-unfoldable pub use-text : ℕ → ℕ → List ℕ → Outcome
-use-text format at octets =
+unfoldable pub use_text : ℕ → ℕ → List ℕ → Outcome
+use_text format at octets =
     cond (passes format) (passed at octets (characters format octets))
     (printed (digits (base_of format) (big_endian 0 octets)))
 
@@ -46,7 +46,7 @@ following p left value next =
 -- one use at a place, with so many left after it: its octets' text and what follows
 unfoldable pub one_use : Piece → ℕ → List ℕ → ℕ → Outcome
 one_use p left value at =
-    joined (use-text p.format at (take p.size (drop at value))) (printed (optional (following p left value (at + p.size))))
+    joined (use_text p.format at (take p.size (drop at value))) (printed (optional (following p left value (at + p.size))))
 
 -- so many uses of a piece, the first at a place; with no octet left printing ends
 unfoldable pub uses : ℕ → Piece → List ℕ → ℕ → Outcome

@@ -4,7 +4,7 @@
 ghost use Rattle.std.specs.Prelude.{◌+◌, ◌-◌, ◌*◌, ◌≤◌, ◌<◌, ◌≡◌, length, take, drop};
 ghost use Rattle.hint_form.specs.Hint.{longest, passes};
 ghost use Rattle.buffer.specs.Buffer.{Wrote};
-ghost use Rattle.hint_piece.specs.Use.{use-text, optional, following, one_use, uses, repeats, uses_start};
+ghost use Rattle.hint_piece.specs.Use.{use_text, optional, following, one_use, uses, repeats, uses_start};
 ghost use Rattle.hint_piece.specs.Followed.{Followed};
 
 use buffer::{copy, put};
@@ -32,7 +32,7 @@ fn print_use(s: &[u8], at: usize, format: u8, out: &mut [u8], pos: usize) -> Pro
     requires allowed { length s.now ≤ longest format }
     requires early { at ≤ 1024 }
     requires room { pos + 4 * length s.now ≤ length out.old }
-    ensures { Followed (use-text format at s.now) pos result out.old out.new }
+    ensures { Followed (use_text format at s.now) pos result out.old out.new }
 {
     if !passes_on(format) {
         let n = big_endian(s);

@@ -121,8 +121,8 @@ place_first s (w ∷ ws) (suc k) h e = go (same s w) (place_first s ws k (omega 
 
 -- a word is found in its slot
 module _ (s : List ℕ) (class : ℕ) (held : SlotWord (slot_of s) class) where
-  in-slot : place_in s words < word_count → class ≡ first_word + place_in s words
-  in-slot h =
+  in_slot : place_in s words < word_count → class ≡ first_word + place_in s words
+  in_slot h =
       let e : s ≡ get_or words (place_in s words) [] =
       same_equal s (get_or words (place_in s words) []) (place_same s words (in_words (place_in s words) h)) in
       held.own (place_in s words) h (ap slot_of (sym e))
@@ -130,7 +130,7 @@ module _ (s : List ℕ) (class : ℕ) (held : SlotWord (slot_of s) class) where
   pub found : (k : ℕ) → class ≡ first_word + k → k < word_count → same s (get_or words k []) ≡ true → k ≡ place_in s words
   found k is h q =
       let first : place_in s words ≤ k = place_first s words k (in_words k h) q in
-      omega (arith, is, in-slot (omega arith))
+      omega (arith, is, in_slot (omega arith))
 
   pub not_found : ((k : ℕ) → class ≡ first_word + k → same s (get_or words k []) ≡ false) → word_count ≡ place_in s words
   unfolding words word_table word bytes
@@ -139,7 +139,7 @@ module _ (s : List ℕ) (class : ℕ) (held : SlotWord (slot_of s) class) where
       go : Dec (place_in s words < word_count) → word_count ≡ place_in s words
       go (no q) = omega (arith, place_bound s words)
       go (yes q) =
-          let f : same s (get_or words (place_in s words) []) ≡ false = h (place_in s words) (in-slot q) in
+          let f : same s (get_or words (place_in s words) []) ≡ false = h (place_in s words) (in_slot q) in
           let t : same s (get_or words (place_in s words) []) ≡ true = place_same s words q in
           absurd (true_false t f)
 

@@ -20,8 +20,8 @@ abbrev pub most_definitions : ℕ
 most_definitions = 512
 
 -- the module that lies in four slices
-abbrev pub module-in : List ℕ → List ℕ → List ℕ → List ℕ → Module
-module-in classes values words numbers = record {
+abbrev pub module_in : List ℕ → List ℕ → List ℕ → List ℕ → Module
+module_in classes values words numbers = record {
   classes = classes;
   values = values;
   definitions = definitions_in words;

@@ -26,7 +26,7 @@ use Rattle.module_table.specs.Definition.{entry}
 use Rattle.outline.specs.Outline.{outlined, outlined_at, outline}
 use Rattle.outline.proofs.Outline.{outline_counted, outline_entry}
 use Rattle.module_tree.specs.Marked.{Marked, word, ◌then◌, many, mark, plain, unmarked, marks, size, parts}
-use Rattle.module_tree.specs.Grammar.{definition, start, the_end, imports, identity, def, definitions, module-tree}
+use Rattle.module_tree.specs.Grammar.{definition, start, the_end, imports, identity, def, module_tree}
 use Rattle.module_tree.specs.Module.{fields_of_part, definition_of_part, end_of_part, numbers_of_part}
 use Rattle.module_tree.specs.OfTree.{EachNumbered}
 use Rattle.module_tree.proofs.Leading.{stands_all}
@@ -52,7 +52,7 @@ abbrev body : Marked → Marked → Marked
 body first others = first then many others then mark start the_end (word END)
 
 module _ (brought first others : Marked) (quiet : T (absent start brought)) (bare : T (without definition brought))
-    (IsFirst-passes : T (lines_pass first)) (others-pass : T (lines_pass others))
+    (first-passes : T (lines_pass first)) (others-pass : T (lines_pass others))
     (cs : List ℕ) (t : Tree (unmarked (heading_then (brought then body first others))))
     (at : At cs (heading_then (brought then body first others)) 0 t) (long : length cs ≡ size (heading_then (brought then body first others)) t) where
   -- the parts, and where they stand
@@ -125,7 +125,7 @@ module _ (brought first others : Marked) (quiet : T (absent start brought)) (bar
 
     first_row : Row cs f make agree first first_at w.0
     first_row =
-        lines_row cs f make agree first IsFirst-passes first_at w.0
+        lines_row cs f make agree first first-passes first_at w.0
         (at_left cs first (many others then mark start the_end (word END)) first_at w at_body) (omega (arith, ends_last)) rest_row.opens
 
     pub all_definitions : map f (landmark.definitions cs) ≡ parts definition make (heading_then (brought then body first others)) 0 t
@@ -210,30 +210,30 @@ imports_quiet = tt
 pub imports_bare : T (without definition imports)
 imports_bare = tt
 
-module _ (t : Tree (unmarked module-tree)) where
+module _ (t : Tree (unmarked module_tree)) where
   abbrev classes : List ℕ
-  classes = yield (unmarked module-tree) t
+  classes = yield (unmarked module_tree) t
 
-  pub whole : At classes module-tree 0 t
+  pub whole : At classes module_tree 0 t
   whole = record {
     classes = stands_all classes;
     starts = λ i h.
         let on : 0 + i ≡ i = omega arith in
-        ap (start_at classes) on ∙ starts_marked t i (omega (arith, marks_long start module-tree t));
+        ap (start_at classes) on ∙ starts_marked t i (omega (arith, marks_long start module_tree t));
   }
 
-  pub module-outline : outline classes ≡ parts definition definition_of_part module-tree 0 t
-  unfolding module-tree
-  module-outline = outline_is imports identity def imports_quiet imports_bare identity_passes def_passes classes t whole refl
+  pub module_outline : outline classes ≡ parts definition definition_of_part module_tree 0 t
+  unfolding module_tree
+  module_outline = outline_is imports identity def imports_quiet imports_bare identity_passes def_passes classes t whole refl
 
-  pub module-ends : map (λ (x : Definition). definition_end classes x.name.0) (outline classes) ≡ parts definition end_of_part module-tree 0 t
-  unfolding module-tree
-  module-ends = ends_are imports identity def imports_quiet imports_bare identity_passes def_passes classes t whole refl
+  pub module_ends : map (λ (x : Definition). definition_end classes x.name.0) (outline classes) ≡ parts definition end_of_part module_tree 0 t
+  unfolding module_tree
+  module_ends = ends_are imports identity def imports_quiet imports_bare identity_passes def_passes classes t whole refl
 
-  pub module-numbers : map (λ (x : Definition). oid_numbers classes x.oid) (outline classes) ≡ parts definition numbers_of_part module-tree 0 t
-  unfolding module-tree
-  module-numbers = numbers_of_all imports identity def imports_quiet imports_bare identity_passes def_passes classes t whole refl
+  pub module_numbers : map (λ (x : Definition). oid_numbers classes x.oid) (outline classes) ≡ parts definition numbers_of_part module_tree 0 t
+  unfolding module_tree
+  module_numbers = numbers_of_all imports identity def imports_quiet imports_bare identity_passes def_passes classes t whole refl
 
-  pub module-numbered : EachNumbered classes
-  unfolding module-tree
-  module-numbered = each_numbered imports identity def imports_quiet imports_bare identity_passes def_passes classes t whole refl
+  pub module_numbered : EachNumbered classes
+  unfolding module_tree
+  module_numbered = each_numbered imports identity def imports_quiet imports_bare identity_passes def_passes classes t whole refl

@@ -8,7 +8,7 @@ use Rattle.grammar.specs.Grammar.{lower, group, identity, def, tail, oid, smi_mo
 use Rattle.definition.specs.Fields.{span}
 use Rattle.module_table.specs.declared.Definition.{Definition}
 use Rattle.name_kind.specs.declared.need.Need.TheVariants.{Macro, ObjectType, Head, Object}
-use Rattle.module_tree.specs.Grammar.{module-tree}
+use Rattle.module_tree.specs.Grammar.{module_tree}
 use Rattle.module_tree.specs.Module.{outline_of_tree, ends_of_tree, numbers_of_tree, imports_of_tree, uses_of_tree}
 
 abbrev name : Tree lower
@@ -79,45 +79,45 @@ example =
 
 -- the names of the definitions are the tokens 11, 26, 34 and 46, and their kinds 1, 6, 2 and 4
 names : map (λ (d : Definition). d.name.0) (outline_of_tree example) ≡ 11 ∷ 26 ∷ 34 ∷ 46 ∷ []
-unfolding smi_module module-tree outline_of_tree example
+unfolding smi_module module_tree outline_of_tree example
 names = refl
 
 kinds : map (λ (d : Definition). d.kind) (outline_of_tree example) ≡ 1 ∷ 6 ∷ 2 ∷ 4 ∷ []
-unfolding smi_module module-tree outline_of_tree example
+unfolding smi_module module_tree outline_of_tree example
 kinds = refl
 
 -- a span that a definition lacks is empty, at its end
 ends : ends_of_tree example ≡ 26 ∷ 34 ∷ 46 ∷ 65 ∷ []
-unfolding smi_module module-tree ends_of_tree example
+unfolding smi_module module_tree ends_of_tree example
 ends = refl
 
 indices : map (λ (d : Definition). d.index) (outline_of_tree example) ≡ span 26 26 ∷ span 34 34 ∷ span 46 46 ∷ span 58 59 ∷ []
-unfolding smi_module module-tree outline_of_tree example
+unfolding smi_module module_tree outline_of_tree example
 indices = refl
 
 columns : map (λ (d : Definition). d.columns) (outline_of_tree example) ≡ span 26 26 ∷ span 30 33 ∷ span 46 46 ∷ span 65 65 ∷ []
-unfolding smi_module module-tree outline_of_tree example
+unfolding smi_module module_tree outline_of_tree example
 columns = refl
 
 -- status and access: lacking is 0
 status : map (λ (d : Definition). d.status) (outline_of_tree example) ≡ 0 ∷ 0 ∷ 0 ∷ 1 ∷ []
-unfolding smi_module module-tree outline_of_tree example
+unfolding smi_module module_tree outline_of_tree example
 status = refl
 
 access : map (λ (d : Definition). d.access) (outline_of_tree example) ≡ 0 ∷ 0 ∷ 0 ∷ 3 ∷ []
-unfolding smi_module module-tree outline_of_tree example
+unfolding smi_module module_tree outline_of_tree example
 access = refl
 
 -- the number in brackets is one of the OID's, its label is not
 numbers : numbers_of_tree example ≡ (24 ∷ []) ∷ [] ∷ (42 ∷ 44 ∷ []) ∷ (63 ∷ []) ∷ []
-unfolding smi_module module-tree numbers_of_tree example
+unfolding smi_module module_tree numbers_of_tree example
 numbers = refl
 
 imports : imports_of_tree example ≡ (5, 9) ∷ (7, 9) ∷ []
-unfolding smi_module module-tree imports_of_tree example
+unfolding smi_module module_tree imports_of_tree example
 imports = refl
 
 uses : uses_of_tree example
     ≡ (12, Macro) ∷ (23, Head) ∷ (30, Object) ∷ (39, Head) ∷ (47, Macro) ∷ (49, ObjectType) ∷ (58, Object) ∷ (62, Head) ∷ []
-unfolding smi_module module-tree uses_of_tree example
+unfolding smi_module module_tree uses_of_tree example
 uses = refl

@@ -90,17 +90,17 @@ module _ {S : Type 0} (same : S → S → Bool) (every : S) where
     image c v (x ∷ l) = insert (cond (same x every) every (move x c v)) (image c v l)
 
     -- one part and then the other, as the machine meets them
-    abbrev in-turn : Bool → (List S → List S) → (List S → List S) → List S → List S
-    in-turn true f g l = g (f l)
-    in-turn false f g l = f (g l)
+    abbrev in_turn : Bool → (List S → List S) → (List S → List S) → List S → List S
+    in_turn true f g l = g (f l)
+    in_turn false f g l = f (g l)
 
     abbrev pub flow : Bool → Marked → ℕ → List S → List S
     flow left nothing v l = []
     flow left nil v l = l
     flow left (word c) v l = image c v l
-    flow left (a then b) v l = in-turn left (flow left a v) (flow left b v) l
+    flow left (a then b) v l = in_turn left (flow left a v) (flow left b v) l
     flow left (a either b) v l = join (flow left a v l) (flow left b v l)
-    flow left (steps a b) v l = in-turn left (closed (flow left a v)) (flow left b v) l
+    flow left (steps a b) v l = in_turn left (closed (flow left a v)) (flow left b v) l
     flow left (mark f number a) v l = flow left a (cond (eqb f family) number v) l
 
     -- from the states l the machine ends in those allowed

@@ -24,7 +24,7 @@ use Rattle.definition.specs.Landmark.{class_at, is_defining, is_macro, before_ob
 use Rattle.definition.specs.Fields.{find}
 use Rattle.scope.specs.Import.{imports_start, imports_end, can_be_imported, is_symbol, is_import, source}
 use Rattle.module_tree.specs.Marked.{Marked, word, ◌then◌, mark, many, plain, listed, unmarked, leaves, marks, size, parts}
-use Rattle.module_tree.specs.Grammar.{import, imports, import_group, symbol, group, identity, def, definitions, module-tree}
+use Rattle.module_tree.specs.Grammar.{import, imports, import_group, symbol, group, identity, def, definitions, module_tree}
 use Rattle.module_tree.specs.Grammar as grammar
 use Rattle.module_tree.specs.Module.{leading, places, imports_of_part, in_a_row}
 use Rattle.module_tree.specs.OfTree.{imports_in}
@@ -393,15 +393,15 @@ module _ (rest : Marked) where
 definitions_import_none : T (without group definitions)
 definitions_import_none = tt
 
-pub module-imports : (t : Tree (unmarked module-tree))
-    → imports_in (yield (unmarked module-tree) t) ≡ in_a_row (parts group imports_of_part module-tree 0 t)
-unfolding module-tree
-module-imports t =
+pub module_imports : (t : Tree (unmarked module_tree))
+    → imports_in (yield (unmarked module_tree) t) ≡ in_a_row (parts group imports_of_part module_tree 0 t)
+unfolding module_tree
+module_imports t =
     let i = t.1.1.1.1.0 in
     let w = t.1.1.1.1.1 in
     let l = parts group imports_of_part imports 4 i in
     either_way definitions i w
-    (opens_there imports identity def imports_quiet imports_bare identity_passes def_passes (yield (unmarked module-tree) t) t
+    (opens_there imports identity def imports_quiet imports_bare identity_passes def_passes (yield (unmarked module_tree) t) t
     (whole t) refl)
     ∙ sym (ap in_a_row (ap (λ x. l ++ x) (no_parts group imports_of_part definitions definitions_import_none (4 + size imports i) w)
     ∙ append-nil l))

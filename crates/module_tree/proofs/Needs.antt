@@ -21,7 +21,7 @@ use Rattle.name_kind.specs.declared.need.Need.TheVariants.{NoName, Macro, TypeNa
 use Rattle.name_kind.specs.Need.{enclosing, upper_need, lists_objects, lower_need, need_at}
 use Rattle.scope.specs.Import.{imports_end}
 use Rattle.module_tree.specs.Marked.{many, unmarked, leaves, marks, size}
-use Rattle.module_tree.specs.Grammar.{used, imports, import_group, identity, def, definitions, module-tree, need_number, need_of}
+use Rattle.module_tree.specs.Grammar.{used, imports, import_group, identity, def, definitions, module_tree, need_number, need_of}
 use Rattle.module_tree.specs.Module.{is_none, numbered}
 use Rattle.module_tree.specs.OfTree.{is_needed, needs_in}
 use Rattle.module_tree.proofs.Answers.{same_answers, answers_self, answers_equal, answer, every_state, dead_state}
@@ -298,13 +298,13 @@ gap (inr x) w opens =
     ∙ ap (λ n. hits (needed l) n (length l)) on
 
 -- ---- the module of the grammar
-pub module-needs : (t : Tree (unmarked module-tree))
-    → needs_in (yield (unmarked module-tree) t) ≡ map (λ (p : ℕ × ℕ). (p.0, need_of p.1)) (numbered 0 (marks used module-tree t))
-unfolding module-tree
-module-needs t =
+pub module_needs : (t : Tree (unmarked module_tree))
+    → needs_in (yield (unmarked module_tree) t) ≡ map (λ (p : ℕ × ℕ). (p.0, need_of p.1)) (numbered 0 (marks used module_tree t))
+unfolding module_tree
+module_needs t =
     let i = t.1.1.1.1.0 in
     let w = t.1.1.1.1.1 in
     ap (map (with_need (cs i w)))
-    (gap i w (opens_there imports identity def imports_quiet imports_bare identity_passes def_passes (yield (unmarked module-tree) t) t
+    (gap i w (opens_there imports identity def imports_quiet imports_bare identity_passes def_passes (yield (unmarked module_tree) t) t
     (whole t) refl))
     ∙ needs_from i w ∙ ap (map (decoded (cs i w))) (sym (uses_from i w))

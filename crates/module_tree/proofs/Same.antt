@@ -3,8 +3,8 @@
 use mathlib.Core.Path.{◌≡◌, refl}
 use Rattle.grammar.specs.Grammar.{smi_module}
 use Rattle.module_tree.specs.Marked.{unmarked}
-use Rattle.module_tree.specs.Grammar.{module-tree}
+use Rattle.module_tree.specs.Grammar.{module_tree}
 
-pub same_rule : unmarked module-tree ≡ smi_module
-unfolding smi_module module-tree
+pub same_rule : unmarked module_tree ≡ smi_module
+unfolding smi_module module_tree
 same_rule = refl

@@ -13,7 +13,7 @@ use Rattle.grammar.specs.Rule.{Tree, yield}
 use Rattle.terminal.specs.Terminal.{Upper, assign, DEFINITIONS, END, IDENTIFIER, MODULE-IDENTITY, NOTIFICATION-TYPE, OBJECT, OBJECT-IDENTITY, OBJECT-TYPE, TEXTUAL-CONVENTION}
 use Rattle.definition.specs.Landmark.{class_at, is_lower, is_defining, before_object_identifier, begins, kind_at, identity, plain, object_identity, object, convention, sequence_type, notification}
 use Rattle.module_tree.specs.Marked.{unmarked, marks}
-use Rattle.module_tree.specs.Grammar.{start, the_end, module-tree}
+use Rattle.module_tree.specs.Grammar.{start, the_end, module_tree}
 use Rattle.module_tree.proofs.Answers.{same_answers, answers_self, answers_equal, answer, every_state, dead_state}
 use Rattle.module_tree.proofs.Machine.{before, outputs_before, passes, reads_right}
 
@@ -93,14 +93,14 @@ output_at (c ∷ l) zero h = ap (λ s. out s c) (shown_before l) ∙ start_first
 output_at (c ∷ l) (suc i) h = output_at l i (omega arith) ∙ sym (start_later c l i)
 
 -- the test of the whole grammar
-tested : T (passes next out same_answers every_state dead_state answers_self answers_equal false start 0 module-tree (shown [] ∷ []) (shown (Upper ∷ DEFINITIONS ∷ assign ∷ []) ∷ []))
-unfolding module-tree
+tested : T (passes next out same_answers every_state dead_state answers_self answers_equal false start 0 module_tree (shown [] ∷ []) (shown (Upper ∷ DEFINITIONS ∷ assign ∷ []) ∷ []))
+unfolding module_tree
 tested = tt
 
 -- what the landmarks say of the tokens is what is marked
-pub starts_marked : (t : Tree (unmarked module-tree)) (i : ℕ) → i < length (yield (unmarked module-tree) t)
-    → start_at (yield (unmarked module-tree) t) i ≡ get_or (marks start module-tree t) i 0
+pub starts_marked : (t : Tree (unmarked module_tree)) (i : ℕ) → i < length (yield (unmarked module_tree) t)
+    → start_at (yield (unmarked module_tree) t) i ≡ get_or (marks start module_tree t) i 0
 starts_marked t i h =
-    sym (output_at (yield (unmarked module-tree) t) i h)
-    ∙ ap (λ l. get_or l i 0) (reads_right next out same_answers every_state dead_state answers_self answers_equal start 0 module-tree
+    sym (output_at (yield (unmarked module_tree) t) i h)
+    ∙ ap (λ l. get_or l i 0) (reads_right next out same_answers every_state dead_state answers_self answers_equal start 0 module_tree
     (shown [] ∷ []) (shown (Upper ∷ DEFINITIONS ∷ assign ∷ []) ∷ []) t (shown []) tt tested)

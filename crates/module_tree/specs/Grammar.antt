@@ -8,7 +8,7 @@ use Rattle.terminal.specs.Terminal.{number, left_paren, right_paren, comma, semi
 use Rattle.definition.specs.Landmark as kind
 use Rattle.name_kind.specs.declared.need.Need.{Need}
 use Rattle.name_kind.specs.declared.need.Need.TheVariants.{NoName, Macro, TypeName, ObjectType, Head, Object, Sequence}
-use Rattle.module_tree.specs.Marked.{Marked, word, ◌then◌, ◌either◌, steps, mark, plain, optionally, many, listed, in-braces}
+use Rattle.module_tree.specs.Marked.{Marked, word, ◌then◌, ◌either◌, steps, mark, plain, optionally, many, listed, in_braces}
 
 -- The families of marks.
 
@@ -86,8 +86,8 @@ abbrev pub need_of : ℕ → Need
 need_of n = get_or (NoName ∷ Macro ∷ TypeName ∷ ObjectType ∷ Head ∷ Object ∷ Sequence ∷ []) n NoName
 
 -- a name that is used as this
-abbrev pub use-as : Need → Rule → Marked
-use-as need r = mark used (need_number need) (plain r)
+abbrev pub use_as : Need → Rule → Marked
+use_as need r = mark used (need_number need) (plain r)
 
 -- a definition of this kind: its name, which comes first, and what follows
 abbrev pub defines : ℕ → Rule → Marked → Marked
@@ -114,11 +114,11 @@ part =
     either plain lower then word left_paren then mark oid own_number (word number) then word right_paren
 
 abbrev pub oid_braces : Marked
-oid_braces = in-braces (mark oid 1 (use-as Head lower then part then many part))
+oid_braces = in_braces (mark oid 1 (use_as Head lower then part then many part))
 
 -- 10. ix
 abbrev pub ix : Marked
-ix = steps (use-as Object lower then word comma) (use-as Object lower either word IMPLIED then use-as Object lower)
+ix = steps (use_as Object lower then word comma) (use_as Object lower either word IMPLIED then use_as Object lower)
 
 -- 8. coltype
 abbrev pub coltype : Marked
@@ -127,20 +127,20 @@ coltype =
     either word OCTET then word STRING
     either word OBJECT then word IDENTIFIER
     either word BITS
-    either use-as TypeName Upper
+    either use_as TypeName Upper
 
 -- 7. simple, in an object or elsewhere
 abbrev pub simple : Need → Marked
 simple need =
     word INTEGER then optionally (plain (enum or ranges))
-    either use-as need Upper then optionally (plain (ranges or sizes))
+    either use_as need Upper then optionally (plain (ranges or sizes))
     either word OCTET then word STRING then optionally (plain sizes)
     either word OBJECT then word IDENTIFIER
     either word BITS then plain enum
 
 -- 6. syntax
 abbrev pub object_syntax : Marked
-object_syntax = word SEQUENCE then word OF then use-as Sequence Upper either simple ObjectType
+object_syntax = word SEQUENCE then word OF then use_as Sequence Upper either simple ObjectType
 
 -- 5. tail
 abbrev pub tail : Marked
@@ -154,12 +154,12 @@ object_identifier_line =
 
 abbrev pub object_identity_line : Marked
 object_identity_line =
-    defines kind.object_identity lower (use-as Macro (token OBJECT-IDENTITY) then tail then word assign then oid_braces)
+    defines kind.object_identity lower (use_as Macro (token OBJECT-IDENTITY) then tail then word assign then oid_braces)
 
 abbrev pub object_type_line : Marked
 object_type_line =
     defines kind.object lower
-    (use-as Macro (token OBJECT-TYPE)
+    (use_as Macro (token OBJECT-TYPE)
     then word SYNTAX
     then mark syntax 1 object_syntax
     then plain (optional (token UNITS ⨾ text))
@@ -167,7 +167,7 @@ object_type_line =
     then access_word
     then tail
     then optionally
-    (word INDEX then in-braces (mark index 1 ix) either word AUGMENTS then in-braces (mark augments 1 (use-as Object lower)))
+    (word INDEX then in_braces (mark index 1 ix) either word AUGMENTS then in_braces (mark augments 1 (use_as Object lower)))
     then optionally (mark default 1 (word DEFVAL) then plain (braced value))
     then word assign
     then oid_braces)
@@ -175,8 +175,8 @@ object_type_line =
 abbrev pub notification_type_line : Marked
 notification_type_line =
     defines kind.notification lower
-    (use-as Macro (token NOTIFICATION-TYPE)
-    then optionally (word OBJECTS then in-braces (mark objects 1 (listed (use-as Object lower))))
+    (use_as Macro (token NOTIFICATION-TYPE)
+    then optionally (word OBJECTS then in_braces (mark objects 1 (listed (use_as Object lower))))
     then tail
     then word assign
     then oid_braces)
@@ -185,7 +185,7 @@ abbrev pub textual_convention_line : Marked
 textual_convention_line =
     defines kind.convention Upper
     (word assign
-    then use-as Macro (token TEXTUAL-CONVENTION)
+    then use_as Macro (token TEXTUAL-CONVENTION)
     then plain (optional (token DISPLAY-HINT ⨾ text))
     then tail
     then word SYNTAX
@@ -194,7 +194,7 @@ textual_convention_line =
 abbrev pub sequence_type_line : Marked
 sequence_type_line =
     defines kind.sequence_type Upper
-    (word assign then word SEQUENCE then in-braces (mark columns 1 (listed (use-as Object lower then coltype))))
+    (word assign then word SEQUENCE then in_braces (mark columns 1 (listed (use_as Object lower then coltype))))
 
 abbrev pub def : Marked
 def =
@@ -209,7 +209,7 @@ def =
 abbrev pub identity : Marked
 identity =
     defines kind.identity lower
-    (use-as Macro (token MODULE-IDENTITY)
+    (use_as Macro (token MODULE-IDENTITY)
     then word LAST-UPDATED
     then plain text
     then word ORGANIZATION
@@ -234,5 +234,5 @@ imports = optionally (word IMPORTS then import_group then many import_group then
 abbrev pub definitions : Marked
 definitions = identity then many def then mark start the_end (word END)
 
-unfoldable pub module-tree : Marked
-module-tree = plain Upper then word DEFINITIONS then word assign then word BEGIN then imports then definitions
+unfoldable pub module_tree : Marked
+module_tree = plain Upper then word DEFINITIONS then word assign then word BEGIN then imports then definitions

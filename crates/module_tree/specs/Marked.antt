@@ -48,8 +48,8 @@ many x = steps x nil
 abbrev pub listed : Marked → Marked
 listed x = x then many (word comma then x)
 
-abbrev pub in-braces : Marked → Marked
-in-braces x = word left_brace then x then word right_brace
+abbrev pub in_braces : Marked → Marked
+in_braces x = word left_brace then x then word right_brace
 
 -- the tokens of a tree, each with its class and the number of the innermost mark of a family that it stands in; v where it stands in none
 abbrev pub leaves : (family v : ℕ) (m : Marked) → Tree (unmarked m) → List (ℕ × ℕ)

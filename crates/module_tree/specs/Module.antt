@@ -10,7 +10,7 @@ use Rattle.module_table.specs.declared.Definition.{Definition}
 use Rattle.outline.specs.Outline.{outlined}
 use Rattle.name_kind.specs.declared.need.Need.{Need}
 use Rattle.module_tree.specs.Marked.{Marked, unmarked, marks, size, parts}
-use Rattle.module_tree.specs.Grammar.{definition, used, status, access, syntax, index, augments, default, objects, columns, oid, own_number, group, import, symbol, source, need_of, module-tree}
+use Rattle.module_tree.specs.Grammar.{definition, used, status, access, syntax, index, augments, default, objects, columns, oid, own_number, group, import, symbol, source, need_of, module_tree}
 
 -- how many entries at the start of a list pass the test
 abbrev pub leading : (ℕ → Bool) → List ℕ → ℕ
@@ -88,25 +88,25 @@ in_a_row (l ∷ ls) = l ++ in_a_row ls
 
 -- the definitions of a module, in text order
 unfoldable pub outline_of_tree : Tree smi_module → List Definition
-unfolding smi_module module-tree
-outline_of_tree t = parts definition definition_of_part module-tree 0 t
+unfolding smi_module module_tree
+outline_of_tree t = parts definition definition_of_part module_tree 0 t
 
 -- where each of them ends
 unfoldable pub ends_of_tree : Tree smi_module → List ℕ
-unfolding smi_module module-tree
-ends_of_tree t = parts definition end_of_part module-tree 0 t
+unfolding smi_module module_tree
+ends_of_tree t = parts definition end_of_part module_tree 0 t
 
 -- the OID's own numbers of each, by their tokens
 unfoldable pub numbers_of_tree : Tree smi_module → List (List ℕ)
-unfolding smi_module module-tree
-numbers_of_tree t = parts definition numbers_of_part module-tree 0 t
+unfolding smi_module module_tree
+numbers_of_tree t = parts definition numbers_of_part module_tree 0 t
 
 -- the imports: each symbol's token, with the token of the module that it comes from
 unfoldable pub imports_of_tree : Tree smi_module → List (ℕ × ℕ)
-unfolding smi_module module-tree
-imports_of_tree t = in_a_row (parts group imports_of_part module-tree 0 t)
+unfolding smi_module module_tree
+imports_of_tree t = in_a_row (parts group imports_of_part module_tree 0 t)
 
 -- the uses: each token where the grammar has a name that is used, with what it is used as
 unfoldable pub uses_of_tree : Tree smi_module → List (ℕ × Need)
-unfolding smi_module module-tree
-uses_of_tree t = map (λ (p : ℕ × ℕ). (p.0, need_of p.1)) (numbered 0 (marks used module-tree t))
+unfolding smi_module module_tree
+uses_of_tree t = map (λ (p : ℕ × ℕ). (p.0, need_of p.1)) (numbered 0 (marks used module_tree t))

@@ -29,5 +29,5 @@ need_clause cs i Object = object_clause (enclosing cs i)
 need_clause cs i Sequence = 10
 
 -- of token i
-unfoldable pub use-clause : List ℕ → ℕ → ℕ
-use-clause cs i = need_clause cs i (need_at cs i)
+unfoldable pub use_clause : List ℕ → ℕ → ℕ
+use_clause cs i = need_clause cs i (need_at cs i)

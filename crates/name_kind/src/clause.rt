@@ -1,6 +1,6 @@
 // Which use of a name a token is, as the clause of refusals 41 and 42 tells it.
 ghost use Rattle.std.specs.Prelude.{◌≡◌, ◌≤◌, length, take};
-ghost use Rattle.name_kind.specs.Clause.{type_clause, object_clause, use-clause};
+ghost use Rattle.name_kind.specs.Clause.{type_clause, object_clause, use_clause};
 
 use crate::need::{Need, class_before, enclosing_at, need_at};
 
@@ -33,7 +33,7 @@ fn object_clause(word: u8) -> u8
 // Of token i. It is asked of a token at fault alone, since it looks for the braces that the token is in.
 pub fn use_clause(classes: &[u8], n: usize, i: usize) -> u8
     requires { n ≤ length classes.now }
-    ensures { result ≡ use-clause (take n classes.now) i }
+    ensures { result ≡ use_clause (take n classes.now) i }
 {
     let word = enclosing_at(classes, n, i);
     let need = need_at(classes, n, word, i);

@@ -22,8 +22,8 @@ module _ (ms : List Meaning) (i : ℕ) (need : Need) (is : need ≡ need_at (cla
   no_use_known none =
       sym (ap not (ap (serves (outline (classes_of ms)) (leads_to ms (spelled ms i))) (sym is ∙ none) ∙ no_name_needed (outline (classes_of ms)) (leads_to ms (spelled ms i))))
 
-  pub use-known : (lead : Lead) → lead ≡ leads_to ms (spelled ms i) → (r : Bool) → r ≡ serves (outline (classes_of ms)) lead need → not r ≡ is_unfit ms i
+  pub use_known : (lead : Lead) → lead ≡ leads_to ms (spelled ms i) → (r : Bool) → r ≡ serves (outline (classes_of ms)) lead need → not r ≡ is_unfit ms i
   unfolding is_unfit
-  use-known lead leads r served =
+  use_known lead leads r served =
       let same : serves (outline (classes_of ms)) lead need ≡ serves (outline (classes_of ms)) (leads_to ms (spelled ms i)) (need_at (classes_of ms) i) = rw (leads, is) in
       ap not (served ∙ same)

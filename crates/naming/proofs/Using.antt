@@ -33,7 +33,7 @@ use Rattle.scope.specs.Lead.{is_imported, is_offered, defined_as, leads_to}
 use Rattle.scope.specs.Held.{ImportsHeld}
 use Rattle.scope.proofs.Imports.{import_before}
 use Rattle.scope.proofs.Leads.{small}
-use Rattle.naming.specs.Rules.{is_unfit, unfit_use, use-rules}
+use Rattle.naming.specs.Rules.{is_unfit, unfit_use, use_rules}
 use Rattle.naming.specs.Values.{is_name_need, is_use, value_at}
 use Rattle.naming.specs.Told.{Filled}
 
@@ -53,9 +53,9 @@ module _ (ms : List Meaning) (i : ℕ) (after : imports_end (classes_of ms) ≤ 
   no_import : is_import (classes_of ms) i ≡ false
   no_import = answers (is_import (classes_of ms) i) (λ e. absurd (omega (arith, import_before (classes_of ms) i e))) (λ e. e)
 
-  pub use-value : is_name_need (need_at (classes_of ms) i) ≡ true → word_of (leads_to ms (spelled ms i)) ≡ value_at ms i
+  pub use_value : is_name_need (need_at (classes_of ms) i) ≡ true → word_of (leads_to ms (spelled ms i)) ≡ value_at ms i
   unfolding is_use
-  use-value e = rw (no_import, le-leb (imports_end (classes_of ms)) i after, e)
+  use_value e = rw (no_import, le-leb (imports_end (classes_of ms)) i after, e)
 
   pub other_value : is_name_need (need_at (classes_of ms) i) ≡ false → nat_abs (said ms i).value ≡ value_at ms i
   unfolding is_use
@@ -117,9 +117,9 @@ module _ (ms : List Meaning) (old : List ℕ) (i : ℕ) (values : List ℕ) (u :
     unfolding unfit_use
     use_kept e = never_broken (unfit_use ms i) (λ j l m. let same : j ≡ i = omega arith in ap (is_unfit ms) same ∙ e)
 
-    use-broken : is_unfit ms i ≡ true → Broken (finding (unfit_use ms i) i) ≡ judge_one (unfit_use ms i)
+    use_broken : is_unfit ms i ≡ true → Broken (finding (unfit_use ms i) i) ≡ judge_one (unfit_use ms i)
     unfolding unfit_use
-    use-broken e =
+    use_broken e =
         broken_at (unfit_use ms i) (finding (unfit_use ms i) i)
         (record {
           index = i;
@@ -143,11 +143,11 @@ module _ (ms : List Meaning) (old : List ℕ) (i : ℕ) (values : List ℕ) (u :
         at j l m (yes same) = rw same (get_or-set_same values i w 0 room ∙ is)
         at j l m (no other) = get_or-set_other values i j w 0 other ∙ u.behind j l (omega arith)
 
-    pub using_broken : is_unfit ms i ≡ true → Broken (finding (unfit_use ms i) i) ≡ judge (use-rules ms)
+    pub using_broken : is_unfit ms i ≡ true → Broken (finding (unfit_use ms i) i) ≡ judge (use_rules ms)
     using_broken e =
-        asked_broken (unfit_use ms) (imports_end (classes_of ms)) (length ms) i u.asked _ (use-broken e) h (finding (unfit_use ms i) i) refl
+        asked_broken (unfit_use ms) (imports_end (classes_of ms)) (length ms) i u.asked _ (use_broken e) h (finding (unfit_use ms i) i) refl
 
-  pub using_kept : length ms ≤ i → Kept ≡ judge (use-rules ms)
+  pub using_kept : length ms ≤ i → Kept ≡ judge (use_rules ms)
   using_kept h = asked_end (unfit_use ms) (imports_end (classes_of ms)) (length ms) i u.asked h
 
   pub using_end : length ms ≤ i → length values ≤ length ms → Filled ms old values

@@ -15,7 +15,7 @@ use Rattle.scope.specs.Import.{imports_end, is_import, source, offered}
 use Rattle.scope.specs.Lead.{introduces, leads_to}
 use Rattle.outline.specs.Outline.{outline}
 use Rattle.name_kind.specs.Need.{need_at}
-use Rattle.name_kind.specs.Clause.{use-clause}
+use Rattle.name_kind.specs.Clause.{use_clause}
 use Rattle.name_kind.specs.Serve.{serves}
 
 -- 8: a 513th definition; definitions are counted from 0
@@ -78,28 +78,28 @@ unfoldable pub is_unfit : List Meaning → ℕ → Bool
 is_unfit ms i = not (serves (outline (classes_of ms)) (leads_to ms (spelled ms i)) (need_at (classes_of ms) i))
 
 -- 41 where the name of token i isn't known, 42 where it is, and so of another kind
-abbrev pub use-number : List Meaning → ℕ → ℕ
-use-number ms i = if is_known ms (spelled ms i) then 42 else 41
+abbrev pub use_number : List Meaning → ℕ → ℕ
+use_number ms i = if is_known ms (spelled ms i) then 42 else 41
 
 -- 41 or 42: a name that isn't known in the kind needed, at token i alone; against where it is introduced
 unfoldable pub unfit_use : List Meaning → ℕ → Rule
 unfit_use ms i = record {
-  number = use-number ms i;
+  number = use_number ms i;
   from = i;
   to = suc i;
   breach = λ j. is_unfit ms j;
   place = λ j. j;
-  clause = λ j. use-clause (classes_of ms) j;
+  clause = λ j. use_clause (classes_of ms) j;
   other = λ j. introducer ms j;
 }
 
 -- one for each token after the imports, in text order: the earlier use is refused first, whichever number it has
-abbrev pub use-rules : List Meaning → List Rule
-use-rules ms = each (unfit_use ms) (imports_end (classes_of ms)) (length ms)
+abbrev pub use_rules : List Meaning → List Rule
+use_rules ms = each (unfit_use ms) (imports_end (classes_of ms)) (length ms)
 
 -- the rules on names after the first
 abbrev pub after_count : List Meaning → List Rule
-after_count ms = introduced_again ms ∷ not_offered ms ∷ use-rules ms
+after_count ms = introduced_again ms ∷ not_offered ms ∷ use_rules ms
 
 -- the rules on names, in the order of their ranks
 abbrev pub name_rules : List Meaning → List Rule

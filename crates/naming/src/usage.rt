@@ -9,7 +9,7 @@ ghost use Rattle.scope.specs.Token.{classes_of, TokensHeld};
 ghost use Rattle.scope.specs.Import.{imports_end};
 ghost use Rattle.scope.specs.Held.{ImportsHeld, Distinct};
 ghost use Rattle.scope.specs.Tag.{name_words};
-ghost use Rattle.naming.specs.Rules.{use-rules};
+ghost use Rattle.naming.specs.Rules.{use_rules};
 ghost use Rattle.naming.specs.Values.{is_name_need};
 ghost use Rattle.naming.specs.Told.{UsesFilled};
 
@@ -88,7 +88,7 @@ pub fn judge_uses(
     requires few { length (definitions_in definitions.now) ≤ most_definitions }
     requires distinct { Distinct (meanings_in text.now) }
     ensures long { length values.new ≡ length values.old }
-    ensures judged { result ≡ judge (use-rules (meanings_in text.now)) }
+    ensures judged { result ≡ judge (use_rules (meanings_in text.now)) }
     ensures filled { UsesFilled (meanings_in text.now) result values.old values.new }
 {
     let end = imports_end(classes);

@@ -177,15 +177,15 @@ module _ (m : Module) where
   built_in_stops (Lead.Definition r) e = absurd (true_false e refl)
   built_in_stops Nothing e = refl
 
-  pub in-time : (l : Lead) → Reaches m l → reached_in m (count_of m) l ≡ true
-  in-time l r =
+  pub in_time : (l : Lead) → Reaches m l → reached_in m (count_of m) l ≡ true
+  in_time l r =
       let stopped = built_in_stops (after step r.0 l) r.1 in
       let ended = ends_in_time step stops index_of (count_of m) l sticky (λ n e. inside (after step n l) e) distinct r.0 stopped in
       ap is_built_in (one_rest step stops l sticky (count_of m) r.0 ended stopped) ∙ r.1
 
   pub far_enough : (k : ℕ) → Reaches m (name_of k) → reaches m k ≡ true
   unfolding reaches
-  far_enough k r = in-time (name_of k) r
+  far_enough k r = in_time (name_of k) r
 
   -- so a definition that is not reached has no OID
   pub unreached_none : (k : ℕ) (xs : List ℕ) → reaches m k ≡ false → HasOid m (name_of k) xs → ⊥
@@ -201,7 +201,7 @@ module _ (m : Module) where
   -- what a name leads to has the OID that the definitions' give
   pub name_oid : (n : ℕ) (l : Lead) → reached_in m n l ≡ true → HasOid m l (name_numbers (resolved_oid m) l)
   unfolding resolved_oid
-  name_oid n l e = reached_oid (count_of m) l (in-time l (n, e))
+  name_oid n l e = reached_oid (count_of m) l (in_time l (n, e))
 
   -- a definition that is reached has its head's numbers, followed by its parts'
   pub oid_step : (n : ℕ) (d : RecordIndex) → reached_in m n (Lead.Definition d) ≡ true

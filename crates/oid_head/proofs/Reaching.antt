@@ -13,7 +13,7 @@ use Rattle.module_table.specs.declared.Definition.{Definition}
 use Rattle.module_table.specs.declared.Lead.{Lead}
 use Rattle.oid_head.specs.Oid.{has_value, head_in, head_of, is_built_in, next_head, name_of, reached_in, Reaches, reaches}
 use Rattle.oid_head.specs.Unreached.{unreached}
-use Rattle.oid_head.proofs.Meaning.{rests, step_value, stays_put, onward, in-time}
+use Rattle.oid_head.proofs.Meaning.{rests, step_value, stays_put, onward, in_time}
 use Rattle.oid_head.proofs.Unreached.{kept_reaches}
 
 module _ (m : Module) where
@@ -47,8 +47,8 @@ module _ (m : Module) where
       let there : head ≡ head_of m k = leads ∙ ap (head_in m.values) is in
       let value = sym (ap has_value is) ∙ v in
       answers (reached_in m (count_of m) head)
-      (λ t. t ∙ sym (in-time m (name_of k) (onto value there t)))
-      (λ f. answers (reached_in m (count_of m) (name_of k)) (λ t. absurd (true_false (in-time m head (from there t)) f)) (λ g. f ∙ sym g))
+      (λ t. t ∙ sym (in_time m (name_of k) (onto value there t)))
+      (λ f. answers (reached_in m (count_of m) (name_of k)) (λ t. absurd (true_false (in_time m head (from there t)) f)) (λ g. f ∙ sym g))
     where
       onto : {head : Lead} → has_value (at m k) ≡ true → head ≡ head_of m k → reached_in m (count_of m) head ≡ true → Reaches m (name_of k)
       onto value there t = (

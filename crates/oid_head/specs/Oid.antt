@@ -8,14 +8,14 @@ use Rattle.symbol.specs.Symbol.{iso_oid, numbers_of}
 use Rattle.definition.specs.Landmark.{has_oid}
 use Rattle.oid_number.specs.Number.{parts_in}
 use Rattle.module_table.specs.Lead.{lead_at}
-use Rattle.module_table.specs.Module.{Module, module-in, at, count_of}
+use Rattle.module_table.specs.Module.{Module, module_in, at, count_of}
 use Rattle.module_table.specs.declared.Lead.{Lead}
 use Rattle.module_table.specs.declared.Lead.TheVariants.{Iso, Import, Nothing}
 use Rattle.module_table.specs.declared.Definition.{Definition}
 
 -- the module that lies in three slices, before it has any OIDs
 abbrev pub named_in : List ℕ → List ℕ → List ℕ → Module
-named_in classes values words = module-in classes values words []
+named_in classes values words = module_in classes values words []
 
 -- the definition has an OID value: kinds 1 to 4 and 7; what stands for a definition where there is none is of kind 0
 abbrev pub has_value : Definition → Bool

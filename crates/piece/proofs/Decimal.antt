@@ -48,5 +48,5 @@ module _
     pub over_limit : limit < value → leb (decimal (take n (drop at t))) limit ≡ false
     over_limit h = lt-leb (decimal (take n (drop at t))) limit (omega (arith, counted))
 
-    pub in-limit : value ≤ limit → leb (decimal (take n (drop at t))) limit ≡ true
-    in-limit h = le-leb (decimal (take n (drop at t))) limit (omega (arith, counted))
+    pub in_limit : value ≤ limit → leb (decimal (take n (drop at t))) limit ≡ true
+    in_limit h = le-leb (decimal (take n (drop at t))) limit (omega (arith, counted))

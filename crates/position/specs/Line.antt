@@ -1,6 +1,6 @@
 -- Lines of a text, as editors count them: a line feed (10) ends each. Assumes nothing.
-use Rattle.std.specs.Prelude.{ℕ, zero, suc, ◌+◌, ◌-◌, Bool, cond, ◌&&◌, List, eqb, ltb, length, get_or}
-use Rattle.bytes.specs.Bytes.{index_of, slice}
+use Rattle.std.specs.Prelude.{ℕ, zero, suc, ◌+◌, ◌-◌, Bool, cond, ◌&&◌, List, eqb, ltb, length, get_or, slice_range}
+use Rattle.std.specs.List.{position_or_len}
 
 -- a line ends at this byte
 unfoldable pub is_end : List ℕ → ℕ → Bool
@@ -18,7 +18,7 @@ start_at text (suc n) = cond (is_end text n) (suc n) (start_at text n)
 
 -- where it ends: before the next line feed, or where the text does
 abbrev pub feed_after : List ℕ → ℕ → ℕ
-feed_after text place = place + index_of 10 (slice place (length text) text)
+feed_after text place = place + position_or_len (λ b. eqb b 10) (slice_range text place (length text))
 
 -- a carriage return (13) directly before that is no part of the line
 unfoldable pub without_return : List ℕ → ℕ → ℕ → ℕ

@@ -1,6 +1,6 @@
 // Lines of a text.
 ghost use Rattle.std.specs.Prelude.{◌≡◌, ◌≤◌, length};
-ghost use Rattle.position.specs.Line.{is_end, line_at, start_at, without_return, end_at};
+ghost use Rattle.position.specs.Line.{is_end, line_at, start_at, without_return, end_at, feed_after};
 
 const LINE_FEED: u8 = 10;
 
@@ -57,6 +57,19 @@ fn without_return(text: &[u8], place: usize, end: usize) -> usize
     end
 }
 
+// Where the next line feed stands from a place on, or where the text ends.
+fn feed_after(text: &[u8], place: usize) -> usize
+    requires { place ≤ length text.now }
+    ensures is { result ≡ feed_after text.now place }
+    ensures low { place ≤ result }
+    ensures high { result ≤ length text.now }
+{
+    match text[place..].iter().position(|b| *b == LINE_FEED) {
+        Some(n) => place + n,
+        None => text.len(),
+    }
+}
+
 // Where the line that a place stands in ends.
 pub fn line_end(text: &[u8], place: usize) -> usize
     requires { place ≤ length text.now }
@@ -64,6 +77,6 @@ pub fn line_end(text: &[u8], place: usize) -> usize
     ensures low { place ≤ result }
     ensures high { result ≤ length text.now }
 {
-    let feed = bytes::scan::find(text, place, text.len(), LINE_FEED);
+    let feed = feed_after(text, place);
     without_return(text, place, feed)
 }

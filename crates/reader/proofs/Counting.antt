@@ -18,7 +18,7 @@ use Rattle.oid_tree.specs.Stage.{with_oid, with_oids}
 use Rattle.oid_tree.specs.Refusal.{counts_before}
 use Rattle.type_class.specs.Stage.{convention_classed, conventions_classed, object_classed, definitions_classed}
 use Rattle.object_tree.specs.Tree.{parent_of, with_parent, parents_added}
-use Rattle.reader.specs.Reading.{numbered, classed, module-of}
+use Rattle.reader.specs.Reading.{numbered, classed, module_of}
 use Rattle.oid_tree.proofs.Counted.{stage_count}
 use Rattle.oid_tree.proofs.Lengths.{first_more, first_none}
 
@@ -72,5 +72,5 @@ module _ (ms : List Meaning) where
   pub classed_counted : length (classed ms).definitions ≡ count_of (named ms)
   classed_counted = classes_counted (numbered ms).classes (numbered ms).values (numbered ms).definitions ∙ oids_counted (named ms)
 
-  pub module-counted : count_of (module-of ms) ≡ count_of (named ms)
-  module-counted = parents_counted (classed ms).numbers (classed ms).definitions ∙ classed_counted
+  pub module_counted : count_of (module_of ms) ≡ count_of (named ms)
+  module_counted = parents_counted (classed ms).numbers (classed ms).definitions ∙ classed_counted

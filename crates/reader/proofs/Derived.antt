@@ -43,7 +43,7 @@ use Rattle.enumeration.specs.Item.{spelling_in}
 use Rattle.syntax_check.specs.Refusal.{rules_over}
 use Rattle.object_tree.specs.Tree.{parents_added}
 use Rattle.access_check.specs.Notification.{TwoNumbers}
-use Rattle.reader.specs.Reading.{numbered, classed, module-of, object_rules, starts_of, judged, records_of}
+use Rattle.reader.specs.Reading.{numbered, classed, module_of, object_rules, starts_of, judged, records_of}
 use Rattle.reader.specs.Buffers.{examined_to, refusal_of, Laid}
 use Rattle.reader.specs.Stage.{Classed, Related}
 use Rattle.reader.specs.declared.Examined.{Examined}
@@ -132,7 +132,7 @@ module _ (text classes starts ends : List ℕ) (t : TokensHeld text classes star
                 ∙ rules_judged classes values (spelling_in text starts ends) (spelled ms) spelled_alike (definitions_classed classes values (definitions_in w1))
                 ∙ (λ i. judge (rules_over (spelled ms) (classes_are text classes starts ends t i) (vs i) (now_classed i)))
 
-            now_related : parents_added (take used n1) (definitions_in w2) ≡ (module-of ms).definitions
+            now_related : parents_added (take used n1) (definitions_in w2) ≡ (module_of ms).definitions
             now_related = λ i. parents_added (part_held i) (classes_held i)
 
             -- with their parents, the notifications have two numbers each, if the grammar derives the tokens
@@ -144,10 +144,10 @@ module _ (text classes starts ends : List ℕ) (t : TokensHeld text classes star
                 (notifications_two ms (text_numbered text derives) (sym oids_judged ∙ kept))
 
             module _ (o : Judgement) (w3 : List ℕ) (l : Related values (take used n1) o w2 w3) where
-              pub module-held : definitions_in w3 ≡ (module-of ms).definitions
-              module-held = l.held ∙ now_related
+              pub module_held : definitions_in w3 ≡ (module_of ms).definitions
+              module_held = l.held ∙ now_related
 
-              pub objects_found : o ≡ judge (object_rules (module-of ms).definitions (module-of ms).values (module-of ms).numbers)
+              pub objects_found : o ≡ judge (object_rules (module_of ms).definitions (module_of ms).values (module_of ms).numbers)
               unfolding with_oids
               objects_found = l.judged ∙ (λ i. judge (object_rules (now_related i) (vs i) (part_held i)))
 
@@ -165,10 +165,10 @@ module _ (ts : List Tok) (starts : List ℕ) (held : starts ≡ starts_of ts) (r
       subst (λ (x : Judgement). Laid (judged ts x) records records numbers numbers') (sym (sym is ∙ e)) (refl, same)
 
 module _ (ts : List Tok) (j : Judgement) (kept : j ≡ Kept) where
-  pub answer_kept : (count : ℕ) → count ≡ count_of (module-of (meanings ts)) → Accepted count ≡ examined_to (judged ts j)
+  pub answer_kept : (count : ℕ) → count ≡ count_of (module_of (meanings ts)) → Accepted count ≡ examined_to (judged ts j)
   answer_kept count counted = ap Accepted counted ∙ sym (ap (λ (x : Judgement). examined_to (judged ts x)) kept)
 
-  pub laid_kept : (records records' numbers numbers' : List ℕ) → records' ≡ overlaid (records_of ts (module-of (meanings ts))) records
-      → numbers' ≡ overlaid (module-of (meanings ts)).numbers numbers → Laid (judged ts j) records records' numbers numbers'
+  pub laid_kept : (records records' numbers numbers' : List ℕ) → records' ≡ overlaid (records_of ts (module_of (meanings ts))) records
+      → numbers' ≡ overlaid (module_of (meanings ts)).numbers numbers → Laid (judged ts j) records records' numbers numbers'
   laid_kept records records' numbers numbers' rs ns =
       subst (λ (x : Judgement). Laid (judged ts x) records records' numbers numbers') (sym kept) (rs, ns)

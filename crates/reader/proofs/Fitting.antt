@@ -37,8 +37,8 @@ use Rattle.type_class.specs.Class.{row, syntax_in, lead_of, names_another, integ
 use Rattle.type_class.specs.Stage.{with_class, convention_classed, conventions_classed, object_classed}
 use Rattle.object_tree.specs.Tree.{parent_of, with_parent, parents_added}
 use Rattle.records.specs.Record.{Fits, AllFit}
-use Rattle.reader.specs.Reading.{numbered, classed, module-of}
-use Rattle.reader.proofs.Counting.{oids_counted, classed_counted, module-counted}
+use Rattle.reader.specs.Reading.{numbered, classed, module_of}
+use Rattle.reader.proofs.Counting.{oids_counted, classed_counted, module_counted}
 
 -- ---- what the outline has
 
@@ -257,10 +257,10 @@ module _ (ms : List Meaning) (bytes : (i : ℕ) → class_at (classes_of ms) i <
       (object_settled (entry ds k) small.0 small.1)
 
   -- with parents, which change nothing of this
-  pub all_fit : AllFit (module-of ms).definitions
+  pub all_fit : AllFit (module_of ms).definitions
   unfolding parents_added
   all_fit k h =
-      let there : k < count_of (named ms) = omega (arith, module-counted ms) in
+      let there : k < count_of (named ms) = omega (arith, module_counted ms) in
       let small = objects_settled k there in
       let f = settled_fits (entry (classed ms).definitions k) small.0 small.1 in
       rw (changed_entry (λ (i : ℕ) (d : Definition). with_parent (parent_of (classed ms).definitions (classed ms).numbers i) d) (classed ms).definitions k (omega (arith, classed_counted ms)))

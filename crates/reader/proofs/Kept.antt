@@ -21,19 +21,19 @@ use Rattle.module_table.specs.Module.{count_of, most_definitions}
 use Rattle.scope.specs.Token.{classes_of}
 use Rattle.outline.proofs.Outline.{outline_counted}
 use Rattle.naming.specs.Rules.{too_many}
-use Rattle.reader.specs.Reading.{rules, module-of, judged, outcome}
+use Rattle.reader.specs.Reading.{rules, module_of, judged, outcome}
 use Rattle.reader.specs.Buffers.{answer_to}
 use Rattle.reader.specs.declared.Answer.TheVariants.{Accepted}
-use Rattle.reader.proofs.Counting.{module-counted}
+use Rattle.reader.proofs.Counting.{module_counted}
 
 -- there are at most 512 definitions where refusal 8 is kept
-pub few_definitions : (ms : List Meaning) → AllKept (rules ms) → count_of (module-of ms) ≤ most_definitions
+pub few_definitions : (ms : List Meaning) → AllKept (rules ms) → count_of (module_of ms) ≤ most_definitions
 unfolding rules too_many
 few_definitions ms kept = go (dec_lt most_definitions (length (definitions (classes_of ms))))
   where
-    go : Dec (most_definitions < length (definitions (classes_of ms))) → count_of (module-of ms) ≤ most_definitions
+    go : Dec (most_definitions < length (definitions (classes_of ms))) → count_of (module_of ms) ≤ most_definitions
     go (yes h) = absurd (true_false (eq-eqb most_definitions most_definitions refl) (kept.0 most_definitions (omega arith) h))
-    go (no h) = omega (arith, module-counted ms, outline_counted (classes_of ms))
+    go (no h) = omega (arith, module_counted ms, outline_counted (classes_of ms))
 
 -- a text is accepted where all rules are kept
 pub accepted_kept : (text : List ℕ) (p : Parsing) (count : ℕ) → answer_to (outcome text p) ≡ Accepted count

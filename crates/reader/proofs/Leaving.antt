@@ -19,7 +19,7 @@ use Rattle.oid_tree.specs.Stage.{with_oid, with_oids}
 use Rattle.oid_tree.proofs.Cut.{buffer_oid}
 use Rattle.type_class.specs.Stage.{with_class, convention_classed, object_classed, conventions_classed, definitions_classed}
 use Rattle.object_tree.specs.Tree.{parent_of, with_parent, parents_added}
-use Rattle.reader.specs.Reading.{numbered, classed, module-of}
+use Rattle.reader.specs.Reading.{numbered, classed, module_of}
 
 -- a definition is left as it is, or has another class
 either : {B : Type 0} (g : Definition → B) (b : Bool) (d e : Definition) → g e ≡ g d → g (cond b e d) ≡ g d
@@ -42,10 +42,10 @@ parents_leave g same numbers ds k =
     column_kept g (λ (i : ℕ) (d : Definition). with_parent (parent_of ds numbers i) d) (λ i d. same _ d) ds k
 
 -- what neither changes
-pub module-leaves : {B : Type 0} (g : Definition → B) → ((d : Definition) (class sequence : ℕ) → g (with_class d class sequence) ≡ g d)
+pub module_leaves : {B : Type 0} (g : Definition → B) → ((d : Definition) (class sequence : ℕ) → g (with_class d class sequence) ≡ g d)
     → ((parent : ℕ) (d : Definition) → g (with_parent parent d) ≡ g d)
-    → (ms : List Meaning) (k : ℕ) → g (at (module-of ms) k) ≡ g (at (numbered ms) k)
-module-leaves g class parent ms k =
+    → (ms : List Meaning) (k : ℕ) → g (at (module_of ms) k) ≡ g (at (numbered ms) k)
+module_leaves g class parent ms k =
     parents_leave g parent (classed ms).numbers (classed ms).definitions k
     ∙ classes_leave g class (numbered ms).classes (numbered ms).values (numbered ms).definitions k
 
@@ -54,19 +54,19 @@ module _ (ms : List Meaning) where
   m = named ms
 
   -- a buffer that starts with the numbers of all definitions
-  pub module-oid : (buffer : List ℕ) → take (first_number m (count_of m)) buffer ≡ numbers_before m (count_of m)
-      → (k : ℕ) → oid_in buffer (at (module-of ms) k) ≡ resolved_oid m k
-  module-oid buffer held k =
-      module-leaves (oid_in buffer) (λ d class sequence. refl) (λ parent d. refl) ms k ∙ buffer_oid m buffer held k
+  pub module_oid : (buffer : List ℕ) → take (first_number m (count_of m)) buffer ≡ numbers_before m (count_of m)
+      → (k : ℕ) → oid_in buffer (at (module_of ms) k) ≡ resolved_oid m k
+  module_oid buffer held k =
+      module_leaves (oid_in buffer) (λ d class sequence. refl) (λ parent d. refl) ms k ∙ buffer_oid m buffer held k
 
   -- the module's own numbers are such a buffer
-  pub recorded_oid : (k : ℕ) → oid_of (module-of ms) k ≡ resolved_oid m k
+  pub recorded_oid : (k : ℕ) → oid_of (module_of ms) k ≡ resolved_oid m k
   unfolding with_oids
-  recorded_oid = module-oid (numbers_before m (count_of m)) (take-length (numbers_before m (count_of m)))
+  recorded_oid = module_oid (numbers_before m (count_of m)) (take-length (numbers_before m (count_of m)))
 
   -- no stage changes a kind
-  pub module-kind : (k : ℕ) → (at (module-of ms) k).kind ≡ (at m k).kind
+  pub module_kind : (k : ℕ) → (at (module_of ms) k).kind ≡ (at m k).kind
   unfolding with_oids with_oid
-  module-kind k =
-      module-leaves (λ (d : Definition). d.kind) (λ d class sequence. refl) (λ parent d. refl) ms k
+  module_kind k =
+      module_leaves (λ (d : Definition). d.kind) (λ d class sequence. refl) (λ parent d. refl) ms k
       ∙ column_kept (λ (d : Definition). d.kind) (with_oid m) (λ i d. refl) m.definitions k

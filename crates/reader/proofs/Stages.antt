@@ -15,7 +15,7 @@ use Rattle.oid_tree.specs.Refusal.{collecting_rules}
 use Rattle.oid_tree.specs.Stage.{with_oids}
 use Rattle.oid_holder.specs.Holder.{held_twice}
 use Rattle.syntax_check.specs.Refusal.{rules_over}
-use Rattle.reader.specs.Reading.{classed, module-of, oid_rules, object_rules, later_rules, rules}
+use Rattle.reader.specs.Reading.{classed, module_of, oid_rules, object_rules, later_rules, rules}
 
 module _ (ms : List Meaning) where
   abbrev twins : Rule
@@ -25,7 +25,7 @@ module _ (ms : List Meaning) where
   of_syntax = rules_over (spelled ms) (classed ms).classes (classed ms).values (classed ms).definitions
 
   abbrev of_objects : List Rule
-  of_objects = object_rules (module-of ms).definitions (module-of ms).values (module-of ms).numbers
+  of_objects = object_rules (module_of ms).definitions (module_of ms).values (module_of ms).numbers
 
   module _ (j : Judgement) (f : Finding) (broken : j ≡ Broken f) where
     pub names_broken : j ≡ judge (name_rules ms) → j ≡ judge (rules ms)

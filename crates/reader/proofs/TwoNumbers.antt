@@ -28,14 +28,14 @@ use Rattle.oid_head.proofs.Meaning.{value_inside}
 use Rattle.oid_head.proofs.Unreached.{all_reach}
 use Rattle.oid_tree.specs.Refusal.{collecting_rules}
 use Rattle.access_check.specs.Notification.{TwoNumbers}
-use Rattle.reader.specs.Reading.{module-of}
-use Rattle.reader.proofs.Leaving.{recorded_oid, module-kind}
+use Rattle.reader.specs.Reading.{module_of}
+use Rattle.reader.proofs.Leaving.{recorded_oid, module_kind}
 
 -- a notification is of a kind with an OID
-pub notification_value : (ms : List Meaning) (k : ℕ) → is_notification (at (module-of ms) k) ≡ true → has_value (at (named ms) k) ≡ true
+pub notification_value : (ms : List Meaning) (k : ℕ) → is_notification (at (module_of ms) k) ≡ true → has_value (at (named ms) k) ≡ true
 unfolding has_oid
 notification_value ms k is =
-    let kind : (at (named ms) k).kind ≡ notification = sym (module-kind ms k) ∙ eqb-true _ notification is in
+    let kind : (at (named ms) k).kind ≡ notification = sym (module_kind ms k) ∙ eqb-true _ notification is in
     rw kind
 
 module _ (ms : List Meaning) (each : EachNumbered (classes_of ms)) where
@@ -51,7 +51,7 @@ module _ (ms : List Meaning) (each : EachNumbered (classes_of ms)) where
         parts_length (classes_of ms) (named ms).values its,
       )
 
-  pub two_numbers : (k : ℕ) → Reaches (named ms) (name_of k) → 2 ≤ length (oid_of (module-of ms) k)
+  pub two_numbers : (k : ℕ) → Reaches (named ms) (name_of k) → 2 ≤ length (oid_of (module_of ms) k)
   two_numbers k r =
       omega (
         arith,
@@ -60,7 +60,7 @@ module _ (ms : List Meaning) (each : EachNumbered (classes_of ms)) where
       )
 
   -- where 12 is kept, the heads of notifications reach a built-in name
-  pub notifications_two : judge (collecting_rules (named ms)) ≡ Kept → TwoNumbers (module-of ms).definitions (module-of ms).numbers
+  pub notifications_two : judge (collecting_rules (named ms)) ≡ Kept → TwoNumbers (module_of ms).definitions (module_of ms).numbers
   unfolding reaches
   notifications_two kept k is =
       let value = notification_value ms k is in

@@ -33,8 +33,8 @@ numbered ms = with_oids (named ms)
 abbrev pub classed : List Meaning → Module
 classed ms = with_classes (numbered ms)
 
-abbrev pub module-of : List Meaning → Module
-module-of ms = with_parents (classed ms)
+abbrev pub module_of : List Meaning → Module
+module_of ms = with_parents (classed ms)
 
 -- the rules on OIDs, the last of which looks at what the others allow to be written
 unfoldable pub oid_rules : Module → List Rule
@@ -50,7 +50,7 @@ unfoldable pub later_rules : List Meaning → List Rule
 later_rules ms =
     oid_rules (named ms)
     ++ (rules_over (spelled ms) (classed ms).classes (classed ms).values (classed ms).definitions
-    ++ object_rules (module-of ms).definitions (module-of ms).values (module-of ms).numbers)
+    ++ object_rules (module_of ms).definitions (module_of ms).values (module_of ms).numbers)
 
 -- all rules from 8 on, in the order of their ranks
 unfoldable pub rules : List Meaning → List Rule
@@ -80,7 +80,7 @@ records_of ts m = records_before (starts_of ts) (ends_of ts) m.definitions (coun
 -- of tokens that the grammar derives, by what the rules say: a refusal is placed at the start of its token
 abbrev pub judged : List Tok → Judgement → Outcome
 judged ts judgement.Kept =
-    accepted (count_of (module-of (meanings ts))) (records_of ts (module-of (meanings ts))) (module-of (meanings ts)).numbers
+    accepted (count_of (module_of (meanings ts))) (records_of ts (module_of (meanings ts))) (module_of (meanings ts)).numbers
 judged ts (judgement.Broken f) = refused f.number f.clause (start_of ts f.token.0) (start_of ts f.other.0)
 
 -- of a text, by how it is parsed; a refusal by 3 to 7 is about one place alone

@@ -15,7 +15,7 @@ use Rattle.index.proofs.Tested.{passes, tested}
 use Rattle.terminal.specs.Terminal.{lower, Upper, current, assign, semicolon, FROM, IDENTIFIER, IMPORTS, MODULE-IDENTITY, NOTIFICATION-TYPE, OBJECT, OBJECT-IDENTITY, OBJECT-TYPE, TEXTUAL-CONVENTION}
 use Rattle.lexicon.specs.Word.{bytes, same, is_name}
 use Rattle.token.specs.Token.{Meaning, meaning, spelling_of, no_meaning}
-use Rattle.symbol.specs.Symbol.{symbol_of, symbol_count, symbol_names, symbols, symbol, of_smi, of_tc, module-name, modules}
+use Rattle.symbol.specs.Symbol.{symbol_of, symbol_count, symbol_names, symbols, symbol, of_smi, of_tc, module_name, modules}
 use Rattle.symbol.proofs.Symbols.{counted}
 use Rattle.name_tree.proofs.Both.{both_first, both_second}
 use Rattle.definition.specs.Landmark.{class_at, is_lower, is_defining, is_macro, before_object_identifier, begins}
@@ -136,15 +136,15 @@ no_name ms i h = ap (λ (m : Meaning). m.spelling) (get_or-eq_default ms no_mean
 
 -- each symbol's module has a name
 has_module : ℕ → List ℕ → Bool
-has_module k name = not (same [] (module-name k))
+has_module k name = not (same [] (module_name k))
 
 all_have : T (passes has_module 0 symbol_names)
-unfolding has_module symbol_names symbols symbol of_smi of_tc module-name modules bytes same
+unfolding has_module symbol_names symbols symbol of_smi of_tc module_name modules bytes same
 all_have = tt
 
-module-named : (k : ℕ) → k < symbol_count → same [] (module-name k) ≡ false
+module_named : (k : ℕ) → k < symbol_count → same [] (module_name k) ≡ false
 unfolding has_module
-module-named k h = not_held (same [] (module-name k)) (tested has_module [] symbol_names all_have k (rw counted h))
+module_named k h = not_held (same [] (module_name k)) (tested has_module [] symbol_names all_have k (rw counted h))
   where
     not_held : (b : Bool) → T (not b) → b ≡ false
     not_held true t = absurd t
@@ -156,13 +156,13 @@ module _ (ms : List Meaning) (i k : ℕ) (is : k ≡ symbol_of (spelled ms i)) w
   no_symbol_offered h = rw (← is) (simp (le-ltb k symbol_count h))
 
   module _ (known : k < symbol_count) (at : ℕ) (stands : at ≡ source (classes_of ms) i) where
-    pub module-offered : (r : Bool) → r ≡ same (spelled ms at) (module-name k) → r ≡ offered ms i
+    pub module_offered : (r : Bool) → r ≡ same (spelled ms at) (module_name k) → r ≡ offered ms i
     unfolding offered
-    module-offered r q = rw (← is, ← stands) (simp (lt-ltb k symbol_count known) q)
+    module_offered r q = rw (← is, ← stands) (simp (lt-ltb k symbol_count known) q)
 
     -- no module has the empty name
     pub no_module_offered : length ms ≤ at → false ≡ offered ms i
-    no_module_offered h = module-offered false (sym (ap (λ (s : List ℕ). same s (module-name k)) (no_name ms at h) ∙ module-named k known))
+    no_module_offered h = module_offered false (sym (ap (λ (s : List ℕ). same s (module_name k)) (no_name ms at h) ∙ module_named k known))
 
 -- the module after FROM
 pub source_is : (cs : List ℕ) (i at : ℕ) → at ≡ find cs FROM i (length cs) → at + 1 ≡ source cs i

@@ -4,7 +4,7 @@ use Rattle.std.specs.Prelude.{Bool, cond, not, ◌&&◌, ◌||◌, List, ℕ, su
 use Rattle.terminal.specs.Terminal.{Upper, semicolon, FROM, IMPORTS}
 use Rattle.lexicon.specs.Word.{same}
 use Rattle.token.specs.Token.{Meaning}
-use Rattle.symbol.specs.Symbol.{symbol_of, symbol_count, module-name}
+use Rattle.symbol.specs.Symbol.{symbol_of, symbol_count, module_name}
 use Rattle.definition.specs.Landmark.{class_at, is_lower, is_macro}
 use Rattle.definition.specs.Fields.{find}
 use Rattle.scope.specs.Token.{classes_of, spelled}
@@ -38,4 +38,4 @@ source cs i = suc (find cs FROM i (length cs))
 unfoldable pub offered : List Meaning → ℕ → Bool
 offered ms i =
     ltb (symbol_of (spelled ms i)) symbol_count
-    && same (spelled ms (source (classes_of ms) i)) (module-name (symbol_of (spelled ms i)))
+    && same (spelled ms (source (classes_of ms) i)) (module_name (symbol_of (spelled ms i)))

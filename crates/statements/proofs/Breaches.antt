@@ -18,7 +18,7 @@ use Rattle.reader.specs.Reading.{rules, start_of}
 use Rattle.reader.specs.Buffers.{record_words, number_words}
 use Rattle.statements.specs.Order.{ranks, is_among, ranks_before, rank}
 use Rattle.statements.proofs.Ordered.{NoLater, Placed, BrokenIn}
-use Rattle.statements.specs.Breach.{WithinLimits, Cuts, Derives, InBreach, short_buffer, long_text, not_cut, not_derived, in-module, FirstBreach}
+use Rattle.statements.specs.Breach.{WithinLimits, Cuts, Derives, InBreach, short_buffer, long_text, not_cut, not_derived, in_module, FirstBreach}
 use Rattle.statements.proofs.ModuleBreaches.{row_of_rule, rule_of_row}
 use Rattle.statements.proofs.First.{first_found, kept_none, placed_listed, first_least}
 use Rattle.statements.proofs.RisingRun.{Run, ranked_listed}
@@ -117,7 +117,7 @@ module _ (text : List ℕ) (a b : ℕ) where
     by_number m q (long_text over) = inr (inl (refl, over))
     by_number m q (not_cut e) = let n = cut_numbered text m q e in inr (inr (cut_ranked m n.0 n.1, n.0))
     by_number m q (not_derived c n f) = inr (inr (seven_later, omega arith))
-    by_number m q (in-module {token = t} c d x) =
+    by_number m q (in_module {token = t} c d x) =
         let y = rule_of_row (meanings_in text) m t x in
         inr (inr (omega (arith, seven_later, (after_grammar (meanings_in text) order y).0), later_number y))
 
@@ -175,7 +175,7 @@ module _ (text : List ℕ) (a b : ℕ) where
               let place : p ≡ q = cc in
               inr (ap rank number, omega arith, λ same. number)
           least m q (not_derived c d f) = absurd (never c)
-          least m q (in-module c d x) = absurd (never c)
+          least m q (in_module c d x) = absurd (never c)
 
       -- a text that cuts into tokens
       module _ (cuts : Cuts text) where
@@ -191,7 +191,7 @@ module _ (text : List ℕ) (a b : ℕ) where
             least m q (long_text l) = absurd (omega (arith, limits.short_text))
             least m q (not_cut e) = absurd (whole_cut m q e)
             least m q (not_derived c n f) = inr (refl, omega (arith, one_fault text fault f), λ same. refl)
-            least m q (in-module c d x) = absurd (none d)
+            least m q (in_module c d x) = absurd (none d)
 
         -- and is derived
         module _ (derives : Derives text) where
@@ -200,7 +200,7 @@ module _ (text : List ℕ) (a b : ℕ) where
           by_rules m q (long_text l) = absurd (omega (arith, limits.short_text))
           by_rules m q (not_cut e) = absurd (whole_cut m q e)
           by_rules m q (not_derived c none f) = absurd (none derives)
-          by_rules m q (in-module {token = t} c d x) = record { token = t; broken = rule_of_row (meanings_in text) m t x; starts = refl }
+          by_rules m q (in_module {token = t} c d x) = record { token = t; broken = rule_of_row (meanings_in text) m t x; starts = refl }
 
           -- all rules are kept
           pub none_broken : AllKept (rules (meanings_in text)) → (m q : ℕ) → In m q → ⊥
@@ -212,7 +212,7 @@ module _ (text : List ℕ) (a b : ℕ) where
           pub first_broken : Placed (length (meanings_in text)) (rules (meanings_in text)) → (f : Finding)
               → FirstBroken f (rules (meanings_in text)) → Least f.number (start_of (cut text).tokens f.token.0)
           first_broken placed f first = record {
-            broken = in-module cuts derives (row_of_rule (meanings_in text) f.number f.token.0 (first_found first));
+            broken = in_module cuts derives (row_of_rule (meanings_in text) f.number f.token.0 (first_found first));
             least = least;
           }
             where

@@ -6,7 +6,7 @@ use Rattle.token.specs.Token.{tok, meaning, spelling_of, value_of, meanings, cla
 use Rattle.rule.specs.declared.Judgement.TheVariants.{Kept}
 use Rattle.grammar.specs.Answer.{derived}
 use Rattle.grammar.specs.Automaton.{run, run_from}
-use Rattle.grammar.specs.Table.{module-automaton}
+use Rattle.grammar.specs.Table.{module_automaton}
 use Rattle.reader.specs.Reading.{accepted, judged}
 use Rattle.statements.specs.Card.{record_of_t, record_of_a, card_numbers}
 use Rattle.statements.proofs.CardTokens.{card_tokens}
@@ -57,15 +57,15 @@ use Rattle.chain.specs.Key as chain-Key
 use Rattle.piece.specs.Decimal as piece-Decimal
 use Rattle.piece.specs.Piece as piece-Piece
 
-pub card_verdict : run module-automaton (map class_of_token card_tokens) ≡ derived
-unfolding card_tokens tok meaning spelling_of value_of run_from module-automaton
+pub card_verdict : run module_automaton (map class_of_token card_tokens) ≡ derived
+unfolding card_tokens tok meaning spelling_of value_of run_from module_automaton
 card_verdict = refl
 
 pub card_kept : rule-Rule.judge (reader-Reading.rules (meanings card_tokens)) ≡ Kept
 unfolding card_tokens tok meaning spelling_of value_of
     rule-Rule.judge_one rule-Rule.judge rule-Rule.each_of rule-Rule.each index-First.first_of index-First.first index-First.any index-First.all
     index-First.hits_of index-First.hits index-Walk.after symbol-Symbol.modules symbol-Symbol.iso_name symbol-Symbol.iso_oid symbol-Symbol.of_smi symbol-Symbol.of_tc
-    symbol-Symbol.internet symbol-Symbol.below_internet symbol-Symbol.symbols symbol-Symbol.symbol_names symbol-Symbol.symbol_of symbol-Symbol.no_symbol symbol-Symbol.symbol symbol-Symbol.module-name
+    symbol-Symbol.internet symbol-Symbol.below_internet symbol-Symbol.symbols symbol-Symbol.symbol_names symbol-Symbol.symbol_of symbol-Symbol.no_symbol symbol-Symbol.symbol symbol-Symbol.module_name
     symbol-Symbol.what_is symbol-Symbol.numbers symbol-Symbol.numbers_of symbol-Symbol.sort_of symbol-Symbol.type_class symbol-Symbol.is_smi_type symbol-Symbol.start_in definition-Fields.braced_at
     definition-Fields.word_at definition-Fields.syntax_behind definition-Fields.columns_span definition-Fields.oid_span definition-Fields.fields_of definition-Fields.fields_at definition-Fields.restriction_at definition-Fields.syntax_at
     definition-Landmark.is_defining definition-Landmark.is_macro definition-Landmark.before_object_identifier definition-Landmark.begins definition-Landmark.closes definition-Landmark.definitions definition-Landmark.definition_end definition-Landmark.kind_at
@@ -92,7 +92,7 @@ pub card_read : judged card_tokens Kept ≡ accepted 2 (record_of_t ++ record_of
 unfolding card_tokens tok meaning spelling_of value_of
     rule-Rule.judge_one rule-Rule.judge rule-Rule.each_of rule-Rule.each index-First.first_of index-First.first index-First.any index-First.all
     index-First.hits_of index-First.hits index-Walk.after symbol-Symbol.modules symbol-Symbol.iso_name symbol-Symbol.iso_oid symbol-Symbol.of_smi symbol-Symbol.of_tc
-    symbol-Symbol.internet symbol-Symbol.below_internet symbol-Symbol.symbols symbol-Symbol.symbol_names symbol-Symbol.symbol_of symbol-Symbol.no_symbol symbol-Symbol.symbol symbol-Symbol.module-name
+    symbol-Symbol.internet symbol-Symbol.below_internet symbol-Symbol.symbols symbol-Symbol.symbol_names symbol-Symbol.symbol_of symbol-Symbol.no_symbol symbol-Symbol.symbol symbol-Symbol.module_name
     symbol-Symbol.what_is symbol-Symbol.numbers symbol-Symbol.numbers_of symbol-Symbol.sort_of symbol-Symbol.type_class symbol-Symbol.is_smi_type symbol-Symbol.start_in definition-Fields.braced_at
     definition-Fields.word_at definition-Fields.syntax_behind definition-Fields.columns_span definition-Fields.oid_span definition-Fields.fields_of definition-Fields.fields_at definition-Fields.restriction_at definition-Fields.syntax_at
     definition-Landmark.is_defining definition-Landmark.is_macro definition-Landmark.before_object_identifier definition-Landmark.begins definition-Landmark.closes definition-Landmark.definitions definition-Landmark.definition_end definition-Landmark.kind_at

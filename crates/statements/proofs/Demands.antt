@@ -20,10 +20,10 @@ use Rattle.naming.specs.Values.{named}
 use Rattle.oid_head.specs.Oid.{has_value, resolved_oid}
 use Rattle.oid_head.specs.Unreached.{unreached}
 use Rattle.oid_head.proofs.Unreached.{kept_has_oid, kept_one_oid}
-use Rattle.reader.proofs.Counting.{module-counted}
+use Rattle.reader.proofs.Counting.{module_counted}
 use Rattle.records.specs.Record.{record_width}
 use Rattle.records.proofs.Words.{before_long}
-use Rattle.reader.specs.Reading.{Outcome, accepted, refused, rules, later_rules, oid_rules, module-of, records_of, starts_of, ends_of, judged, outcome}
+use Rattle.reader.specs.Reading.{Outcome, accepted, refused, rules, later_rules, oid_rules, module_of, records_of, starts_of, ends_of, judged, outcome}
 use Rattle.reader.specs.Buffers.{number_of, place_of, answered_count, record_words, number_words, filled, answer_to, records_in, numbers_in, Left, Reads}
 use Rattle.reader.specs.declared.Answer.{Answer}
 use Rattle.reader.specs.declared.Answer.TheVariants.{Accepted, Refused}
@@ -40,13 +40,13 @@ use Rattle.statements.proofs.Breaches.{Ordered}
 use Rattle.statements.proofs.Right.{refused_exactly, accepted_exactly, accepted_is, later_refusal}
 
 -- where all rules are kept, each definition of a kind with an OID has the numbers that are resolved, and no others
-resolved_of : (ms : List Meaning) → AllKept (rules ms) → (k : ℕ) → k < definitions_in (module-of ms) → has_value (at (named ms) k) ≡ true
+resolved_of : (ms : List Meaning) → AllKept (rules ms) → (k : ℕ) → k < definitions_in (module_of ms) → has_value (at (named ms) k) ≡ true
     → OidIs (named ms) k (resolved_oid (named ms) k)
 unfolding rules later_rules oid_rules unreached
 resolved_of ms kept k h has = (kept_has_oid (named ms) k reached has, kept_one_oid (named ms) k reached has)
   where
     reached : (unreached (named ms)).breach k ≡ false
-    reached = (kept_rest (name_rules ms) (later_rules ms) kept).0 k (omega arith) (omega (arith, module-counted ms))
+    reached = (kept_rest (name_rules ms) (later_rules ms) kept).0 k (omega arith) (omega (arith, module_counted ms))
 
 -- after a refusal no word is read
 none_read : (o : Outcome) → 0 < number_of (answer_to o) → (records_in o ≡ []) × (numbers_in o ≡ [])
@@ -92,16 +92,16 @@ module _ (text : List ℕ) (order : Ordered (meanings_in text)) (placed : Placed
       found_all : found ≡ judged (cut text).tokens Kept
       found_all = all_kept.1
 
-      all_counted : answered_count answer ≡ definitions_in (module-of (meanings_in text))
+      all_counted : answered_count answer ≡ definitions_in (module_of (meanings_in text))
       all_counted = ap answered_count left.answered ∙ ap (λ (o : Outcome). answered_count (answer_to o)) found_all
 
       records_long : length (records_in found) ≡ answered_count answer * record_width
       records_long =
           ap (λ (o : Outcome). length (records_in o)) found_all
-          ∙ before_long (starts_of (cut text).tokens) (ends_of (cut text).tokens) (module-of (meanings_in text)).definitions (definitions_in (module-of (meanings_in text)))
+          ∙ before_long (starts_of (cut text).tokens) (ends_of (cut text).tokens) (module_of (meanings_in text)).definitions (definitions_in (module_of (meanings_in text)))
           ∙ ap (λ (c : ℕ). c * record_width) (sym all_counted)
 
-      numbers_long : length (numbers_in found) ≡ length (module-of (meanings_in text)).numbers
+      numbers_long : length (numbers_in found) ≡ length (module_of (meanings_in text)).numbers
       numbers_long = ap (λ (o : Outcome). length (numbers_in o)) found_all
 
     first_within : FirstDemand text answer records records' numbers numbers'
@@ -121,7 +121,7 @@ module _ (text : List ℕ) (order : Ordered (meanings_in text)) (placed : Placed
       unused = λ zero. (
         ap (λ (w : List ℕ). drop (answered_count answer * record_width) (take record_words w)) left.records_left
             ∙ filled_unused record_words (records_in found) records fit.0 _ (records_long zero),
-        ap (λ (w : List ℕ). drop (length (module-of (meanings_in text)).numbers) (take number_words w)) left.numbers_left
+        ap (λ (w : List ℕ). drop (length (module_of (meanings_in text)).numbers) (take number_words w)) left.numbers_left
             ∙ filled_unused number_words (numbers_in found) numbers fit.1 _ (numbers_long zero),
       );
     }
@@ -153,17 +153,17 @@ module _ (text : List ℕ) (order : Ordered (meanings_in text)) (placed : Placed
     rules_kept : AllKept (rules (meanings_in text))
     rules_kept = judged_kept (rules (meanings_in text)) (all_kept (accepted_within zero) zero).0
 
-    records_are : records' ≡ filled record_words (records_of (cut text).tokens (module-of (meanings_in text))) records
+    records_are : records' ≡ filled record_words (records_of (cut text).tokens (module_of (meanings_in text))) records
     records_are =
         let limits = accepted_within zero in
         (left limits).records_left ∙ ap (λ (o : Outcome). filled record_words (records_in o) records) (found_all limits zero)
 
-    numbers_are : numbers' ≡ filled number_words (module-of (meanings_in text)).numbers numbers
+    numbers_are : numbers' ≡ filled number_words (module_of (meanings_in text)).numbers numbers
     numbers_are =
         let limits = accepted_within zero in
         (left limits).numbers_left ∙ ap (λ (o : Outcome). filled number_words (numbers_in o) numbers) (found_all limits zero)
 
-    cut_of : (k : ℕ) → k < definitions_in (module-of (meanings_in text))
+    cut_of : (k : ℕ) → k < definitions_in (module_of (meanings_in text))
         → take (record_word records' k 4) (drop (record_word records' k 3) numbers') ≡ resolved_oid (named (meanings_in text)) k
     cut_of k h =
         ap₂ (λ (r n : List ℕ). take (record_word r k 4) (drop (record_word r k 3) n)) records_are numbers_are
@@ -183,6 +183,6 @@ module _ (text : List ℕ) (order : Ordered (meanings_in text)) (placed : Placed
     resolved = λ zero k h has.
         subst (OidIs (named (meanings_in text)) k) (sym (recorded_oid (meanings_in text) k)) (resolved_of (meanings_in text) (rules_kept zero) k h has);
     cut_out = λ zero k h has.
-        let inside : k < definitions_in (module-of (meanings_in text)) = omega (arith, all_counted (accepted_within zero) zero) in
+        let inside : k < definitions_in (module_of (meanings_in text)) = omega (arith, all_counted (accepted_within zero) zero) in
         rw (cut_of zero k inside) (resolved_of (meanings_in text) (rules_kept zero) k inside has);
   }

@@ -18,7 +18,7 @@ use Rattle.row_status.specs.declared.Answer.{Answer as RowAnswer}
 use Rattle.row_status.specs.declared.Answer.TheVariants.{NoError, WrongValue, InconsistentValue, NoSuchState}
 use Rattle.mib.specs.Raw.{laid, ReadRaw}
 use Rattle.statements.specs.Order.{ranks, is_among, ranks_before, rank}
-use Rattle.statements.specs.Breach.{InBreach, short_buffer, long_text, not_cut, not_derived, in-module}
+use Rattle.statements.specs.Breach.{InBreach, short_buffer, long_text, not_cut, not_derived, in_module}
 use Rattle.statements.specs.Statements.{NeverGiven}
 use Rattle.statements.proofs.Breaches.{after_grammar}
 use Rattle.statements.proofs.CutNumbers.{cut_numbered}
@@ -37,7 +37,7 @@ never_broken text a b m q (short_buffer few) is = omega arith
 never_broken text a b m q (long_text over) is = omega arith
 never_broken text a b m q (not_cut e) is = omega (arith, cut_numbered text m q e)
 never_broken text a b m q (not_derived c n f) is = omega arith
-never_broken text a b m q (in-module {token = t} c d x) is =
+never_broken text a b m q (in_module {token = t} c d x) is =
     let after = after_grammar (meanings_in text) (rules_in_order (meanings_in text)) (rule_of_row (meanings_in text) m t x) in
     omega (arith, after.1, ap rank is, unranked)
 

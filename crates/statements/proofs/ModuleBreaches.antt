@@ -11,7 +11,7 @@ use Rattle.token.specs.Token.{Meaning}
 use Rattle.module_table.specs.Module.{Module, most_definitions}
 use Rattle.scope.specs.Token.{classes_of, spelled}
 use Rattle.scope.specs.Import.{imports_end}
-use Rattle.naming.specs.Rules.{too_many, introduced_again, not_offered, unfit_use, use-rules, name_rules}
+use Rattle.naming.specs.Rules.{too_many, introduced_again, not_offered, unfit_use, use_rules, name_rules}
 use Rattle.naming.specs.Values.{named}
 use Rattle.oid_head.specs.Unreached as rule
 use Rattle.oid_tree.specs.Refusal.{too_long, past_room}
@@ -23,11 +23,11 @@ use Rattle.syntax_check.proofs.Places.{range_rule_inside, item_rule_inside}
 use Rattle.table_check.specs.Refusal.{table_broken}
 use Rattle.access_check.specs.Access.{access_broken}
 use Rattle.access_check.specs.Notification.{notification_broken}
-use Rattle.reader.specs.Reading.{numbered, classed, module-of, oid_rules, object_rules, later_rules, rules}
+use Rattle.reader.specs.Reading.{numbered, classed, module_of, oid_rules, object_rules, later_rules, rules}
 use Rattle.statements.specs.Breach.{definition_count, ModuleBreach, definition_513, iso_introduced, introduced_twice, unoffered, unknown, other_kind, unreached, long_oid, many_numbers, held_twice, misplaced, misfit, misnumbered, indirect, table_rules, access_rules, notification_rules}
 use Rattle.statements.proofs.Ordered.{Broken, ◌listed-in◌, BrokenIn, broken_in, listed_before, listed_after, listed_each}
-use Rattle.statements.proofs.Rising.{classed_keeps, module-keeps, uses_inside}
-use Rattle.statements.proofs.NameBreaches.{many_told, many_broken, again_told, iso_broken, twice_broken, offer_told, offer_broken, use-told, unknown_broken, kind_broken}
+use Rattle.statements.proofs.Rising.{classed_keeps, module_keeps, uses_inside}
+use Rattle.statements.proofs.NameBreaches.{many_told, many_broken, again_told, iso_broken, twice_broken, offer_told, offer_broken, use_told, unknown_broken, kind_broken}
 use Rattle.statements.proofs.OidBreaches.{all_there, definition_broken, definition_told, unreached_told, unreached_broken, long_told, long_broken, room_told, room_broken, held_told, held_broken}
 use Rattle.statements.proofs.SyntaxBreaches.{misplaced_told, misplaced_broken, misfit_told, misfit_broken, misnumbered_told, misnumbered_broken, indirect_told, indirect_broken}
 use Rattle.statements.proofs.TableBreaches.{table_told, table_clause, access_told, access_clauses, notification_told, notification_clauses}
@@ -66,7 +66,7 @@ module _ (ms : List Meaning) where
       told_each f 0 (length shapes.definitions) (λ k l h. p k (omega (arith, all_there ms (classed_keeps ms)))) (length shapes.definitions - 0) 0 (omega arith) (omega arith)
 
   abbrev m : Module
-  m = module-of ms
+  m = module_of ms
 
   abbrev tables : Rule
   tables = table_broken m.definitions m.values m.numbers
@@ -79,25 +79,25 @@ module _ (ms : List Meaning) where
 
   tables_told : (k : ℕ) → Broken tables k → ModuleBreach ms 20 (tables.place k)
   unfolding table_broken
-  tables_told k b = definition_told ms (module-keeps ms) 20 _ _ _ k b (λ h e. table_rules h (table_told m k e))
+  tables_told k b = definition_told ms (module_keeps ms) 20 _ _ _ k b (λ h e. table_rules h (table_told m k e))
 
   accesses_told : (k : ℕ) → Broken accesses k → ModuleBreach ms 21 (accesses.place k)
   unfolding access_broken
-  accesses_told k b = definition_told ms (module-keeps ms) 21 _ _ _ k b (λ h e. access_rules h (access_told m k e))
+  accesses_told k b = definition_told ms (module_keeps ms) 21 _ _ _ k b (λ h e. access_rules h (access_told m k e))
 
   notifications_told : (k : ℕ) → Broken notifications k → ModuleBreach ms 22 (notifications.place k)
   unfolding notification_broken
   notifications_told k b =
-      definition_told ms (module-keeps ms) 22 _ _ _ k b (λ h e. let x = notification_told m k e in notification_rules h x.0 x.1)
+      definition_told ms (module_keeps ms) 22 _ _ _ k b (λ h e. let x = notification_told m k e in notification_rules h x.0 x.1)
 
   -- a rule for each token after the imports
   abbrev end : ℕ
   end = imports_end (classes_of ms)
 
-  uses_told : AllTold (use-rules ms)
+  uses_told : AllTold (use_rules ms)
   unfolding each
   uses_told =
-      told_each (unfit_use ms) end (length ms) (λ k l h. use-told ms k l h) (length ms - end) end (omega arith) (omega (arith, uses_inside ms))
+      told_each (unfit_use ms) end (length ms) (λ k l h. use_told ms k l h) (length ms - end) end (omega arith) (omega (arith, uses_inside ms))
 
   names_told : AllTold (name_rules ms)
   unfolding too_many introduced_again not_offered
@@ -232,9 +232,9 @@ module _ (ms : List Meaning) where
       broken_in (items k) (by_syntax _ (by_items k h)) (items_numbered k) (misnumbered_broken ms k h l s token has w n mis)
   rule_of_row number token (indirect {k} h is name f) = broken_in conventions (by_syntax _ by_conventions) refl (indirect_broken ms k h is name f)
   rule_of_row number token (table_rules {k} h fault) =
-      broken_in tables (by_objects _ (inl refl)) refl (definition_broken ms (module-keeps ms) 20 _ _ _ k h (table_clause m k fault))
+      broken_in tables (by_objects _ (inl refl)) refl (definition_broken ms (module_keeps ms) 20 _ _ _ k h (table_clause m k fault))
   rule_of_row number token (access_rules {k} h fault) =
-      broken_in accesses (by_objects _ (inr (inl refl))) refl (definition_broken ms (module-keeps ms) 21 _ _ _ k h (access_clauses m k fault))
+      broken_in accesses (by_objects _ (inr (inl refl))) refl (definition_broken ms (module_keeps ms) 21 _ _ _ k h (access_clauses m k fault))
   rule_of_row number token (notification_rules {k} h is fault) =
       broken_in notifications (by_objects _ (inr (inr (inl refl)))) refl
-      (definition_broken ms (module-keeps ms) 22 _ _ _ k h (notification_clauses m k is fault))
+      (definition_broken ms (module_keeps ms) 22 _ _ _ k h (notification_clauses m k is fault))

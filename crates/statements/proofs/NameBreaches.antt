@@ -25,7 +25,7 @@ use Rattle.name_kind.specs.declared.need.Need.{Need}
 use Rattle.name_kind.specs.declared.need.Need.TheVariants.{NoName, Macro, TypeName, ObjectType, Head, Object, Sequence}
 use Rattle.name_kind.proofs.Served.{no_name_needed}
 use Rattle.index.proofs.Search.{any_at, first_holds}
-use Rattle.naming.specs.Rules.{too_many, introduces_name, introduced_again, not_offered, is_known, is_unfit, use-number, unfit_use}
+use Rattle.naming.specs.Rules.{too_many, introduces_name, introduced_again, not_offered, is_known, is_unfit, use_number, unfit_use}
 use Rattle.naming.proofs.Known.{unknown_nothing}
 use Rattle.statements.specs.Breach.{definition_count, name_token, Offers, Known, iso_itself, introduced, ModuleBreach, definition_513, iso_introduced, introduced_twice, unoffered, unknown, other_kind}
 use Rattle.statements.proofs.Tests.{both, joined, either, left, right, deny, fails, never, found}
@@ -138,20 +138,20 @@ module _ (ms : List Meaning) where
 
   module _ (i : ℕ) (l : imports_end (classes_of ms) ≤ i) (h : i < length ms) where
     -- a use that isn't known in the kind needed breaks the row of its number
-    use-row : is_unfit ms i ≡ true → (b : Bool) → is_known ms (spelled ms i) ≡ b → ModuleBreach ms (cond b 42 41) i
+    use_row : is_unfit ms i ≡ true → (b : Bool) → is_known ms (spelled ms i) ≡ b → ModuleBreach ms (cond b 42 41) i
     unfolding is_unfit
-    use-row e true known = other_kind l h (is_known_told _ known) (not-true _ e)
-    use-row e false none =
+    use_row e true known = other_kind l h (is_known_told _ known) (not-true _ e)
+    use_row e false none =
         unknown l h
         (λ no_name.
         never (not-true _ e) (ap (serves (outline (classes_of ms)) (leads_to ms (spelled ms i))) no_name ∙ no_name_needed _ _))
         (λ known. never none (known_is _ known))
 
-    pub use-told : (j : ℕ) → Broken (unfit_use ms i) j → ModuleBreach ms (unfit_use ms i).number ((unfit_use ms i).place j)
+    pub use_told : (j : ℕ) → Broken (unfit_use ms i) j → ModuleBreach ms (unfit_use ms i).number ((unfit_use ms i).place j)
     unfolding unfit_use
-    use-told j b =
+    use_told j b =
         let same : i ≡ j = omega (arith, b.from, b.below) in
-        subst (λ (k : ℕ). ModuleBreach ms (use-number ms i) k) same (use-row (ap (is_unfit ms) same ∙ b.breaks) (is_known ms (spelled ms i)) refl)
+        subst (λ (k : ℕ). ModuleBreach ms (use_number ms i) k) same (use_row (ap (is_unfit ms) same ∙ b.breaks) (is_known ms (spelled ms i)) refl)
 
     -- and the rule of the token is broken where a row says so, with that number
     at_token : is_unfit ms i ≡ true → BrokenBy (unfit_use ms i) i

@@ -24,14 +24,14 @@ use Rattle.oid_holder.specs.Holder.{is_holder}
 use Rattle.oid_run.specs.Run.{is_below}
 use Rattle.object_tree.specs.Words.{is_object}
 use Rattle.object_tree.specs.Tree.{is_parent, parent_of, with_parent, parents_added}
-use Rattle.reader.specs.Reading.{numbered, classed, module-of}
+use Rattle.reader.specs.Reading.{numbered, classed, module_of}
 use Rattle.statements.specs.Breach.{definition_count, name_token, ModuleBreach, held_twice, parent}
 use Rattle.statements.specs.Searches.{IsParent}
 use Rattle.statements.proofs.Tests.{both, joined, left, right}
-use Rattle.statements.proofs.Rising.{classed_keeps, module-keeps}
+use Rattle.statements.proofs.Rising.{classed_keeps, module_keeps}
 use Rattle.statements.proofs.NameBreaches.{spelled_same}
 use Rattle.statements.proofs.OidBreaches.{all_there}
-use Rattle.reader.proofs.Leaving.{module-leaves}
+use Rattle.reader.proofs.Leaving.{module_leaves}
 
 -- a list without its last number
 same_before : (xs ys : List ℕ) (x y : ℕ) → xs ++ (x ∷ []) ≡ ys ++ (y ∷ []) → xs ≡ ys
@@ -56,7 +56,7 @@ is_below_by a b last e = spelled_same _ _ (ap (λ (x : ℕ). a ++ (x ∷ [])) nu
 
 module _ (ms : List Meaning) (kept : (i : ℕ) → ModuleBreach ms 15 i → ⊥) where
   abbrev m : Module
-  m = module-of ms
+  m = module_of ms
 
   abbrev ds : List Definition
   ds = (classed ms).definitions
@@ -82,7 +82,7 @@ module _ (ms : List Meaning) (kept : (i : ℕ) → ModuleBreach ms 15 i → ⊥)
       let x = both (is_object (entry ds j)) _ e in
       let y = both (is_object (entry ds k)) _ x.1 in
       let z = below_is _ _ y.1 in (
-        omega (arith, all_there ms (classed_keeps ms), all_there ms (module-keeps ms)),
+        omega (arith, all_there ms (classed_keeps ms), all_there ms (module_keeps ms)),
         before is_object (λ p d. refl) j ∙ x.0,
         before is_object (λ p d. refl) k ∙ y.0,
         z.0,
@@ -100,18 +100,18 @@ module _ (ms : List Meaning) (kept : (i : ℕ) → ModuleBreach ms 15 i → ⊥)
   -- an object holds its OID
   holder : (j : ℕ) → is_object (at m j) ≡ true → is_holder (at (numbered ms) j) ≡ true
   holder j e =
-      let o : is_object (at (numbered ms) j) ≡ true = sym (module-leaves is_object (λ d class sequence. refl) (λ p d. refl) ms j) ∙ e in
+      let o : is_object (at (numbered ms) j) ≡ true = sym (module_leaves is_object (λ d class sequence. refl) (λ p d. refl) ms j) ∙ e in
       right (eqb (at (numbered ms) j).kind identity) (right (eqb (at (numbered ms) j).kind object_identity) (left _ o))
 
   -- there is one parent
   not_two : (k i j : ℕ) → i < j → IsParent m i k → IsParent m j k → ⊥
   not_two k i j l x y =
-      let h : j < definition_count ms = omega (arith, y.0, all_there ms (module-keeps ms)) in
+      let h : j < definition_count ms = omega (arith, y.0, all_there ms (module_keeps ms)) in
       let oids : oid_of m i ≡ oid_of m j = same_before _ _ x.3 y.3 (sym x.4 ∙ y.4) in
       kept (name_token ms j)
       (held_twice i h l (holder j y.1) (holder i x.1)
-      (sym (module-leaves (oid_in m.numbers) (λ d class sequence. refl) (λ p d. refl) ms i) ∙ oids
-      ∙ module-leaves (oid_in m.numbers) (λ d class sequence. refl) (λ p d. refl) ms j))
+      (sym (module_leaves (oid_in m.numbers) (λ d class sequence. refl) (λ p d. refl) ms i) ∙ oids
+      ∙ module_leaves (oid_in m.numbers) (λ d class sequence. refl) (λ p d. refl) ms j))
 
   pub parents : (k j : ℕ) → k < definition_count ms → (parent m k ≡ suc j) ↔ IsParent m j k
   parents k j h = (
@@ -122,13 +122,13 @@ module _ (ms : List Meaning) (kept : (i : ℕ) → ModuleBreach ms 15 i → ⊥)
   )
     where
       go : IsParent m j k → (l : ℕ) → last_before (test k) (length ds) ≡ l → l ≡ suc j
-      go x zero is = absurd (true_false (test_of k j x) (last_passed (test k) (length ds) j (omega (arith, is)) (omega (arith, x.0, all_there ms (classed_keeps ms), all_there ms (module-keeps ms)))))
+      go x zero is = absurd (true_false (test_of k j x) (last_passed (test k) (length ds) j (omega (arith, is)) (omega (arith, x.0, all_there ms (classed_keeps ms), all_there ms (module_keeps ms)))))
       go x (suc i) is = which (dec_lt i j) (dec_lt j i)
         where
           found : IsParent m i k
           found = tested k i (omega (arith, is, last_inside (test k) (length ds))) (last_holds (test k) (length ds) i is)
 
           which : Dec (i < j) → Dec (j < i) → suc i ≡ suc j
-          which (yes l) d = absurd (true_false (test_of k j x) (last_passed (test k) (length ds) j (omega (arith, is)) (omega (arith, x.0, all_there ms (classed_keeps ms), all_there ms (module-keeps ms)))))
+          which (yes l) d = absurd (true_false (test_of k j x) (last_passed (test k) (length ds) j (omega (arith, is)) (omega (arith, x.0, all_there ms (classed_keeps ms), all_there ms (module_keeps ms)))))
           which (no l) (yes g) = absurd (not_two k j i g x found)
           which (no l) (no g) = omega arith

@@ -14,14 +14,14 @@ use Rattle.module_tree.proofs.OfText.{text_numbered}
 use Rattle.naming.specs.Values.{named}
 use Rattle.oid_head.specs.Oid.{name_of, Reaches, reaches}
 use Rattle.oid_head.proofs.Meaning.{far_enough}
-use Rattle.reader.specs.Reading.{module-of}
+use Rattle.reader.specs.Reading.{module_of}
 use Rattle.reader.proofs.TwoNumbers as reader
 use Rattle.statements.specs.Order.{is_among, ranks_before, rank}
-use Rattle.statements.specs.Breach.{Cuts, Derives, definition_count, InBreach, in-module, unreached, First, FirstBreach}
+use Rattle.statements.specs.Breach.{Cuts, Derives, definition_count, InBreach, in_module, unreached, First, FirstBreach}
 use Rattle.statements.specs.Printed.{PrintedBreach, as_now, short, NoAnswerChanged}
 
 pub two_numbers : (text : List ℕ) → Derives text → (k : ℕ) → Reaches (named (meanings_in text)) (name_of k)
-    → 2 ≤ length (oid_of (module-of (meanings_in text)) k)
+    → 2 ≤ length (oid_of (module_of (meanings_in text)) k)
 two_numbers text derives = reader.two_numbers (meanings_in text) (text_numbered text derives)
 
 twelve_before : rank 12 < rank 22
@@ -34,7 +34,7 @@ module _ (text : List ℕ) (a b : ℕ) where
 
   -- where 12 is kept, no notification is short
   never_short : Cuts text → Derives text → Kept12 → (k : ℕ) → k < definition_count (meanings_in text)
-      → is_notification (at (module-of (meanings_in text)) k) ≡ true → length (oid_of (module-of (meanings_in text)) k) < 2 → ⊥
+      → is_notification (at (module_of (meanings_in text)) k) ≡ true → length (oid_of (module_of (meanings_in text)) k) < 2 → ⊥
   unfolding reaches
   never_short cuts derives kept k inside is few =
       let m = named (meanings_in text) in
@@ -42,7 +42,7 @@ module _ (text : List ℕ) (a b : ℕ) where
       (λ t. omega (arith, two_numbers text derives k (count_of m, t)))
       (λ f.
       kept _
-      (in-module cuts derives
+      (in_module cuts derives
       (unreached inside (reader.notification_value (meanings_in text) k is) (λ r. true_false (far_enough m k r) f))))
 
   -- so what is broken by the table as it is printed is broken as it is, if 12 is kept where 22 is asked for

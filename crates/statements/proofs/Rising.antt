@@ -16,7 +16,7 @@ use Rattle.module_table.specs.Definition.{entry}
 use Rattle.scope.specs.Token.{classes_of, spelled}
 use Rattle.scope.specs.Import.{imports_end}
 use Rattle.outline.specs.Outline.{outline}
-use Rattle.naming.specs.Rules.{too_many, introduced_again, not_offered, is_known, unfit_use, use-rules, name_rules}
+use Rattle.naming.specs.Rules.{too_many, introduced_again, not_offered, is_known, unfit_use, use_rules, name_rules}
 use Rattle.naming.specs.Values.{named}
 use Rattle.oid_head.specs.Unreached.{unreached}
 use Rattle.oid_tree.specs.Refusal.{too_long, past_room}
@@ -28,7 +28,7 @@ use Rattle.syntax_check.proofs.Places.{Inside, range_rule_inside, item_rule_insi
 use Rattle.table_check.specs.Refusal.{table_broken}
 use Rattle.access_check.specs.Access.{access_broken}
 use Rattle.access_check.specs.Notification.{notification_broken}
-use Rattle.reader.specs.Reading.{numbered, classed, module-of, oid_rules, object_rules, later_rules, rules}
+use Rattle.reader.specs.Reading.{numbered, classed, module_of, oid_rules, object_rules, later_rules, rules}
 use Rattle.statements.specs.Order.{ranks, is_among, ranks_before, rank}
 use Rattle.statements.proofs.Ordered.{Broken, Placed}
 use Rattle.statements.proofs.RisingHits.{Confined, hits_confined, confined_wider}
@@ -88,8 +88,8 @@ module _ (ms : List Meaning) where
   pub classed_keeps : Keeps (outline (classes_of ms)) (classed ms).definitions
   classed_keeps = keeps_then numbered_keeps (classes_keep (numbered ms).classes (numbered ms).values (numbered ms).definitions)
 
-  pub module-keeps : Keeps (outline (classes_of ms)) (module-of ms).definitions
-  module-keeps = keeps_then classed_keeps (parents_keep (classed ms).numbers (classed ms).definitions)
+  pub module_keeps : Keeps (outline (classes_of ms)) (module_of ms).definitions
+  module_keeps = keeps_then classed_keeps (parents_keep (classed ms).numbers (classed ms).definitions)
 
   -- ---- the rules, one by one
 
@@ -131,20 +131,20 @@ module _ (ms : List Meaning) where
   held_twice_rises = of_definitions numbered_keeps (held_twice (numbered ms).definitions (numbered ms).numbers) refl (λ k. refl)
 
   abbrev objects : List Definition
-  objects = (module-of ms).definitions
+  objects = (module_of ms).definitions
 
-  table_broken_rises : Rising 20 (table_broken objects (module-of ms).values (module-of ms).numbers)
+  table_broken_rises : Rising 20 (table_broken objects (module_of ms).values (module_of ms).numbers)
   unfolding table_broken
-  table_broken_rises = of_definitions module-keeps (table_broken objects (module-of ms).values (module-of ms).numbers) refl (λ k. refl)
+  table_broken_rises = of_definitions module_keeps (table_broken objects (module_of ms).values (module_of ms).numbers) refl (λ k. refl)
 
-  access_broken_rises : Rising 21 (access_broken objects (module-of ms).values)
+  access_broken_rises : Rising 21 (access_broken objects (module_of ms).values)
   unfolding access_broken
-  access_broken_rises = of_definitions module-keeps (access_broken objects (module-of ms).values) refl (λ k. refl)
+  access_broken_rises = of_definitions module_keeps (access_broken objects (module_of ms).values) refl (λ k. refl)
 
-  notification_broken_rises : Rising 22 (notification_broken objects (module-of ms).values (module-of ms).numbers)
+  notification_broken_rises : Rising 22 (notification_broken objects (module_of ms).values (module_of ms).numbers)
   unfolding notification_broken
   notification_broken_rises =
-      of_definitions module-keeps (notification_broken objects (module-of ms).values (module-of ms).numbers) refl (λ k. refl)
+      of_definitions module_keeps (notification_broken objects (module_of ms).values (module_of ms).numbers) refl (λ k. refl)
 
   -- ---- the rules on syntaxes, each inside its definition
 
@@ -210,7 +210,7 @@ module _ (ms : List Meaning) where
   pub uses_inside : imports_end (classes_of ms) ≤ length ms
   uses_inside = omega (arith, imports.end_inside (classes_of ms), counted)
 
-  uses_run : Run (rank 41) (suc (rank 41)) (use-rules ms)
+  uses_run : Run (rank 41) (suc (rank 41)) (use_rules ms)
   unfolding each
   uses_run =
       run_each (unfit_use ms) (rank 41) (length ms) (λ k. k) suc unfit_use_rises (λ j k l h. omega arith)
@@ -253,7 +253,7 @@ module _ (ms : List Meaning) where
       (run_row (omega arith) (omega arith) (omega arith) (of_each 18 items items_home) (run_one indirect_rises)))
 
   abbrev of_objects : List Rule
-  of_objects = object_rules objects (module-of ms).values (module-of ms).numbers
+  of_objects = object_rules objects (module_of ms).values (module_of ms).numbers
 
   objects_run : Run (rank 20) (suc (rank 22)) of_objects
   unfolding object_rules rank ranks_before is_among
@@ -273,7 +273,7 @@ module _ (ms : List Meaning) where
   at_tokens : {n : ℕ} {r : Rule} → Confined n 0 (length ms) r → (i : ℕ) → Broken r i → r.place i < length ms
   at_tokens c i p = (c.inside i p).1
 
-  uses_placed : Placed (length ms) (use-rules ms)
+  uses_placed : Placed (length ms) (use_rules ms)
   unfolding each
   uses_placed =
       placed_each (length ms) (length ms) (unfit_use ms) (λ k h i p. omega (arith, (unfit_use_rises k h).inside i p))

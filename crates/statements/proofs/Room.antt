@@ -21,7 +21,7 @@ use Rattle.oid_tree.specs.Stage.{with_oids}
 use Rattle.oid_tree.proofs.Counted.{numbers_fit}
 use Rattle.records.proofs.Words.{before_long}
 use Rattle.reader.proofs.Kept.{few_definitions}
-use Rattle.reader.specs.Reading.{rules, later_rules, oid_rules, module-of, starts_of, ends_of, judged, outcome}
+use Rattle.reader.specs.Reading.{rules, later_rules, oid_rules, module_of, starts_of, ends_of, judged, outcome}
 use Rattle.reader.specs.Buffers.{record_words, number_words, records_in, numbers_in}
 
 -- of rules that are kept, the later ones are
@@ -30,7 +30,7 @@ kept_rest [] ss kept = kept
 kept_rest (r ∷ rs) ss kept = kept_rest rs ss kept.1
 
 -- there are at most 8,192 sub-identifiers where refusal 14 is kept
-numbers_kept : (ms : List Meaning) → AllKept (rules ms) → length (module-of ms).numbers ≤ most_numbers
+numbers_kept : (ms : List Meaning) → AllKept (rules ms) → length (module_of ms).numbers ≤ most_numbers
 unfolding rules later_rules oid_rules with_oids
 numbers_kept ms kept = numbers_fit (named ms) (kept_rest (name_rules ms) (later_rules ms) kept).1.1.0 (count_of (named ms)) (omega arith)
 
@@ -46,7 +46,7 @@ words_fit text (Derived n) = go (judge (rules ms)) refl
         → (length (records_in (judged (cut text).tokens j)) ≤ record_words) × (length (numbers_in (judged (cut text).tokens j)) ≤ number_words)
     go Kept is =
         let kept = judged_kept (rules ms) is in (
-          omega (arith, before_long (starts_of (cut text).tokens) (ends_of (cut text).tokens) (module-of ms).definitions (count_of (module-of ms)), few_definitions ms kept),
+          omega (arith, before_long (starts_of (cut text).tokens) (ends_of (cut text).tokens) (module_of ms).definitions (count_of (module_of ms)), few_definitions ms kept),
           omega (arith, numbers_kept ms kept),
         )
     go (Broken f) is = omega arith

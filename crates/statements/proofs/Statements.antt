@@ -10,7 +10,7 @@ use Rattle.reader.specs.Buffers.{answer_to, examined_to}
 use Rattle.grammar.specs.Automaton.{run}
 use Rattle.grammar.specs.Grammar.{smi_module}
 use Rattle.grammar.specs.Rule.{yield}
-use Rattle.grammar.specs.Table.{module-automaton}
+use Rattle.grammar.specs.Table.{module_automaton}
 use Rattle.grammar.proofs.Begun.{begun}
 use Rattle.grammar.proofs.Theorem.{grammar_theorem}
 use Rattle.statements.specs.Statements.{Statements}
@@ -40,7 +40,7 @@ statements = record {
   second_demand = λ text. second_demand text (order text) (rules_placed (meanings_in text));
   quotes = quotes_alike answer_to;
   third_demand = λ text. third_demand text (order text);
-  what_may_stand = λ classes. begun (yield smi_module) classes (run module-automaton classes) (grammar_theorem classes);
+  what_may_stand = λ classes. begun (yield smi_module) classes (run module_automaton classes) (grammar_theorem classes);
   of_derivation = of_text;
   two_numbers = two_numbers;
   no_answer_changed = no_answer_changed;

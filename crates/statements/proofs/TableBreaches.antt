@@ -17,7 +17,7 @@ use Rattle.sequence_list.specs.Named.{type_of, columns_of, names_object, names, 
 use Rattle.clause_table.specs.Clause.{is_of, rows_of, is_first_under, has_its_row, rowless_table, is_row_in, stray_row, unindexed_row, indexed_object, repeating_row, misnaming_row, unlisted_column, is_index_row, unfounded_augments}
 use Rattle.clause_table.proofs.OneRow.{exactly_one, one_is_all}
 use Rattle.table_check.specs.Refusal.{clause_of}
-use Rattle.access_check.specs.Access.{has_access, creates, is_written_column, clashes, open-table, created_alone, is_counter, is_counter_access, unfit_counter, access_clause}
+use Rattle.access_check.specs.Access.{has_access, creates, is_written_column, clashes, open_table, created_alone, is_counter, is_counter_access, unfit_counter, access_clause}
 use Rattle.access_check.specs.Notification.{is_not_zeroed, lists_hidden, notification_clause}
 use Rattle.statements.specs.Breach.{OneRow, TableFault, rowless, stray, unindexed, indexed, repeating, misnaming, unlisted, unfounded, AccessFault, clashing, accessible, created, counter, defaulted, NotificationFault, not_zero, hidden, object_at, last_number}
 use Rattle.statements.proofs.Tests.{both, joined, either, left, right, deny, fails, never, found, unfound, clause_told, clause_none, clause_here, clause_later, clause_kept, clause_keeping}
@@ -245,7 +245,7 @@ module _ (m : Module) (k : ℕ) where
       (any_at (has_access ds m.values read_create) _ _ i l h (eq-eqb _ read_create create))
 
   abbrev a2 : Bool
-  a2 = open-table d
+  a2 = open_table d
 
   accessible_told : a2 ≡ true → AccessFault m k
   accessible_told t =

@@ -11,7 +11,7 @@ use Rattle.token.specs.Cut.{Cut, cut}
 use Rattle.token.specs.Table.{longest_text}
 use Rattle.grammar.specs.Answer.{derived}
 use Rattle.grammar.specs.Automaton.{run}
-use Rattle.grammar.specs.Table.{module-automaton}
+use Rattle.grammar.specs.Table.{module_automaton}
 use Rattle.grammar.proofs.Derivation.{one_token_verdict}
 use Rattle.syntax.specs.Parsing.{Parses, answer_to as parsing-of}
 use Rattle.syntax.specs.declared.Answer.{Answer as Parsing}
@@ -35,8 +35,8 @@ parsed : (p : Parsing) → Parses card_text p → p ≡ Derived (length (cut car
 parsed p right =
     let i = right.judged (ap (λ (c : Cut). c.ending) card_cut) in
     let same = one_token_verdict class_of_token (cut card_text).tokens i.0 _ i.1 (run_judges (cut card_text).tokens) in
-    let is : run module-automaton (map class_of_token (cut card_text).tokens) ≡ derived =
-    ap (λ (c : Cut). run module-automaton (map class_of_token c.tokens)) card_cut ∙ card_verdict in
+    let is : run module_automaton (map class_of_token (cut card_text).tokens) ≡ derived =
+    ap (λ (c : Cut). run module_automaton (map class_of_token c.tokens)) card_cut ∙ card_verdict in
     i.2 ∙ ap (parsing-of (cut card_text).tokens (length card_text)) (same ∙ is)
 
 -- and all rules are kept

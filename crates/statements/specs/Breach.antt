@@ -3,7 +3,7 @@
 -- the first.
 --
 -- A definition is meant by its index k in text order, from 0 on, and a token by its index i. `named ms`, `numbered ms`, `classed ms` and
--- `module-of ms` are the module that the tokens make: when its names are known, with its OIDs, with its classes, and whole.
+-- `module_of ms` are the module that the tokens make: when its names are known, with its OIDs, with its classes, and whole.
 -- Assumes nothing.
 use Rattle.std.specs.Prelude.{◌≡◌, ◌⊎◌, true, false, List, [], ℕ, suc, ◌+◌, ◌-◌, ◌≤◌, ◌<◌, length, get_or, ℤ}
 use Rattle.std.specs.Int.Signed.{lt_z}
@@ -13,7 +13,7 @@ use Rattle.token.specs.Table.{longest_text}
 use Rattle.grammar.specs.Grammar.{smi_module}
 use Rattle.grammar.specs.Derivation.{DerivesTokens}
 use Rattle.syntax.specs.Parsing.{Fault}
-use Rattle.symbol.specs.Symbol.{iso_name, symbol_count, symbol_names, module-name}
+use Rattle.symbol.specs.Symbol.{iso_name, symbol_count, symbol_names, module_name}
 use Rattle.definition.specs.Landmark.{definitions, convention}
 use Rattle.definition.specs.Members.{is_name}
 use Rattle.definition.specs.declared.Span.{Span}
@@ -42,7 +42,7 @@ use Rattle.enumeration.specs.Item.{item_number}
 use Rattle.syntax_check.specs.Refusal.{restriction_of, is_untested}
 use Rattle.object_tree.specs.Words.{counter32, counter64, not_accessible, accessible_for_notify, read_only, read_write, read_create, is_object, is_notification, is_table, is_row, is_given, numbered as definition-of-number, number_at}
 use Rattle.sequence_list.specs.Named.{type_of, columns_of, named_at}
-use Rattle.reader.specs.Reading.{numbered, classed, module-of, start_of}
+use Rattle.reader.specs.Reading.{numbered, classed, module_of, start_of}
 use Rattle.reader.specs.Buffers.{record_words, number_words}
 use Rattle.statements.specs.Order.{rank}
 
@@ -72,7 +72,7 @@ name_token ms k = get_or (definitions (classes_of ms)) k 0
 -- the module that token i is imported from offers it: one of its built-in symbols has this name
 abbrev pub Offers : List Meaning → ℕ → Type 0
 Offers ms i =
-    (k : ℕ) × (k < symbol_count) × (get_or symbol_names k [] ≡ spelled ms i) × (module-name k ≡ spelled ms (source (classes_of ms) i))
+    (k : ℕ) × (k < symbol_count) × (get_or symbol_names k [] ≡ spelled ms i) × (module_name k ≡ spelled ms (source (classes_of ms) i))
 
 -- a name is known: it is `iso`, or a token introduces it, as a definition's name or as an imported symbol
 pub data Known (ms : List Meaning) (s : List ℕ) : Type 0 where
@@ -259,11 +259,11 @@ pub data ModuleBreach (ms : List Meaning) : ℕ → ℕ → Type 0 where
   indirect : {k : ℕ} → k < definition_count ms → (at (classed ms) k).kind ≡ convention → is_named (syntax_of (classed ms) k) ≡ true
       → is_smi_lead (lead_of (classed ms).values (syntax_of (classed ms) k)) ≡ false → ModuleBreach ms 19 (at (classed ms) k).syntax.from
   -- 20: table rules
-  table_rules : {k : ℕ} → k < definition_count ms → TableFault (module-of ms) k → ModuleBreach ms 20 (name_token ms k)
+  table_rules : {k : ℕ} → k < definition_count ms → TableFault (module_of ms) k → ModuleBreach ms 20 (name_token ms k)
   -- 21: access rules
-  access_rules : {k : ℕ} → k < definition_count ms → AccessFault (module-of ms) k → ModuleBreach ms 21 (name_token ms k)
+  access_rules : {k : ℕ} → k < definition_count ms → AccessFault (module_of ms) k → ModuleBreach ms 21 (name_token ms k)
   -- 22: a notification's next-to-last number isn't 0, or it lists a not-accessible object
-  notification_rules : {k : ℕ} → k < definition_count ms → is_notification (at (module-of ms) k) ≡ true → NotificationFault (module-of ms) k
+  notification_rules : {k : ℕ} → k < definition_count ms → is_notification (at (module_of ms) k) ≡ true → NotificationFault (module_of ms) k
       → ModuleBreach ms 22 (name_token ms k)
 
 -- ---- All rows
@@ -279,7 +279,7 @@ pub data InBreach (text : List ℕ) (records numbers : ℕ) : ℕ → ℕ → Ty
   -- 7: the grammar derives no such token sequence; the place is the third demand's
   not_derived : {place : ℕ} → Cuts text → (Derives text → ⊥) → Fault text place → InBreach text records numbers 7 place
   -- the rows above: the place is the start of the token
-  in-module : {number token : ℕ} → Cuts text → Derives text → ModuleBreach (meanings_in text) number token
+  in_module : {number token : ℕ} → Cuts text → Derives text → ModuleBreach (meanings_in text) number token
       → InBreach text records numbers number (start_of (cut text).tokens token)
 
 -- By what says where a rule is broken: that of this number is, at this place; no rule of an earlier rank is broken anywhere, and none of its

@@ -5,14 +5,14 @@ use Rattle.std.specs.Prelude.{◌≡◌, ◌↔◌, true, List, ℕ, ◌≤◌, 
 use Rattle.token.specs.Cut.{cut, meanings_in}
 use Rattle.module_table.specs.Module.{at, oid_of}
 use Rattle.object_tree.specs.Words.{is_notification}
-use Rattle.reader.specs.Reading.{module-of, start_of}
+use Rattle.reader.specs.Reading.{module_of, start_of}
 use Rattle.statements.specs.Breach.{Cuts, Derives, definition_count, name_token, InBreach, First, FirstBreach}
 
 -- The rule of this number is broken at this place, by the table as it is printed: as now, or a notification has fewer than two numbers.
 pub data PrintedBreach (text : List ℕ) (records numbers : ℕ) : ℕ → ℕ → Type 0 where
   as_now : {number place : ℕ} → InBreach text records numbers number place → PrintedBreach text records numbers number place
   short : {k : ℕ} → Cuts text → Derives text → k < definition_count (meanings_in text)
-      → is_notification (at (module-of (meanings_in text)) k) ≡ true → length (oid_of (module-of (meanings_in text)) k) < 2
+      → is_notification (at (module_of (meanings_in text)) k) ≡ true → length (oid_of (module_of (meanings_in text)) k) < 2
       → PrintedBreach text records numbers 22 (start_of (cut text).tokens (name_token (meanings_in text) k))
 
 -- Nothing is answered otherwise by the table as it is printed than by the table as it is.

@@ -13,7 +13,7 @@ use Rattle.oid_head.specs.Oid.{HasOid, has_value, name_of, Reaches}
 use Rattle.oid_head.specs.Unreached.{unreached}
 use Rattle.clause_table.specs.Clause.{has_one_row}
 use Rattle.object_tree.specs.Words.{is_object}
-use Rattle.reader.specs.Reading.{module-of}
+use Rattle.reader.specs.Reading.{module_of}
 use Rattle.statements.specs.Breach.{definition_count, name_token, Offers, parent, OneRow, ModuleBreach}
 
 -- a symbol of this name is imported
@@ -43,7 +43,7 @@ pub record Searches : Type 0 where
   pub one_row : (m : Module) (type : ℕ) → (has_one_row m.definitions type ≡ true) ↔ ((r : ℕ) × OneRow m type r)
   -- the parent of a definition, by its number, counted from 1, where no token breaks rule 15
   pub parents : (ms : List Meaning) → ((i : ℕ) → ModuleBreach ms 15 i → ⊥) → (k j : ℕ) → k < definition_count ms
-      → (parent (module-of ms) k ≡ suc j) ↔ IsParent (module-of ms) j k
+      → (parent (module_of ms) k ≡ suc j) ↔ IsParent (module_of ms) j k
   -- 12 knows of no bound: however far the heads are followed
   pub never_reached : (m : Module) (k : ℕ) → ((unreached m).breach k ≡ true) ↔ ((has_value (at m k) ≡ true) × (Reaches m (name_of k) → ⊥))
   -- what has an OID is what reaches a built-in name

@@ -26,7 +26,7 @@ use Rattle.module_tree.specs.OfTree.{OfTree}
 use Rattle.naming.specs.Values.{named}
 use Rattle.oid_head.specs.Oid.{HasOid, has_value, name_of, Reaches}
 use Rattle.records.specs.Record.{record_width}
-use Rattle.reader.specs.Reading.{Outcome, module-of, records_of}
+use Rattle.reader.specs.Reading.{Outcome, module_of, records_of}
 use Rattle.reader.specs.Buffers.{number_of, place_of, answered_count, record_words, number_words, zeros, filled, answer_to, examined_to, answer_of, ReadsAs, Reads, Examines}
 use Rattle.reader.specs.declared.Examined.{Examined}
 use Rattle.reader.specs.declared.Answer.{Answer}
@@ -64,8 +64,8 @@ pub record FirstDemand (text : List ℕ) (answer : Answer) (records records' num
   -- "unused working words are 0": those after the records, and those after the sub-identifiers
   pub unused : number_of answer ≡ 0
       → (drop (answered_count answer * record_width) (take record_words records') ≡ zeros (record_words - answered_count answer * record_width))
-      × (drop (length (module-of (meanings_in text)).numbers) (take number_words numbers')
-      ≡ zeros (number_words - length (module-of (meanings_in text)).numbers))
+      × (drop (length (module_of (meanings_in text)).numbers) (take number_words numbers')
+      ≡ zeros (number_words - length (module_of (meanings_in text)).numbers))
 
 -- Definition k has this OID, and no other, by the relation that follows heads however far they lead.
 abbrev pub OidIs : Module → ℕ → List ℕ → Type 0
@@ -86,19 +86,19 @@ pub record SecondDemand (text : List ℕ) (answer : Answer) (records records' nu
   -- accepted, number 0, exactly when no rule is broken anywhere
   pub accepted_exactly : (number_of answer ≡ 0) ↔ ((number place : ℕ) → InBreach text (length records) (length numbers) number place → ⊥)
   -- "Accepted answers number 0, place 0 and the definition count; a refusal's count is 0"
-  pub counted : number_of answer ≡ 0 → (place_of answer ≡ 0) × (answered_count answer ≡ definitions_in (module-of (meanings_in text)))
+  pub counted : number_of answer ≡ 0 → (place_of answer ≡ 0) × (answered_count answer ≡ definitions_in (module_of (meanings_in text)))
   pub not_counted : 0 < number_of answer → answered_count answer ≡ 0
   -- "Ten words each, in text order", and then zeros; the words beyond as they were
   pub recorded : number_of answer ≡ 0
-      → records' ≡ filled record_words (records_of (cut text).tokens (module-of (meanings_in text))) records
+      → records' ≡ filled record_words (records_of (cut text).tokens (module_of (meanings_in text))) records
   -- "Each definition's sub-identifiers fill the next free words, without gaps", and then zeros; the words beyond as they were
   pub numbered : number_of answer ≡ 0
-      → numbers' ≡ filled number_words (module-of (meanings_in text)).numbers numbers
+      → numbers' ≡ filled number_words (module_of (meanings_in text)).numbers numbers
   -- "An OID is the head's OID followed by the parts' numbers": these are the sub-identifiers of each definition of a kind that has any,
   -- cut out of all of them by where they start and how many they are
-  pub resolved : number_of answer ≡ 0 → (k : ℕ) → k < definitions_in (module-of (meanings_in text))
+  pub resolved : number_of answer ≡ 0 → (k : ℕ) → k < definitions_in (module_of (meanings_in text))
       → has_value (at (named (meanings_in text)) k) ≡ true
-      → OidIs (named (meanings_in text)) k (oid_of (module-of (meanings_in text)) k)
+      → OidIs (named (meanings_in text)) k (oid_of (module_of (meanings_in text)) k)
   -- "first index and count of its sub-identifiers": words 3 and 4 of record k cut the OID of definition k out of the number buffer as it
   -- is left
   pub cut_out : number_of answer ≡ 0 → (k : ℕ) → k < answered_count answer → has_value (at (named (meanings_in text)) k) ≡ true
@@ -223,7 +223,7 @@ pub record Statements : Type 0 where
   -- "A head has at least one and the grammar asks for a part after it": of derived tokens, each definition whose heads reach a built-in
   -- name, as 12 asks of all that are of a kind with an OID, has two numbers in its OID at least
   pub two_numbers : (text : List ℕ) → Derives text → (k : ℕ) → Reaches (named (meanings_in text)) (name_of k)
-      → 2 ≤ length (oid_of (module-of (meanings_in text)) k)
+      → 2 ≤ length (oid_of (module_of (meanings_in text)) k)
   -- so rule 22 needs no test for that: "No answer changes"
   pub no_answer_changed : (text : List ℕ) (records numbers : ℕ) → NoAnswerChanged text records numbers
   -- "11 is no longer given"

@@ -27,7 +27,7 @@ negated_fits (suc v) h = record { sfits = omega arith }
 
 -- a signed number that is passed on stays the same
 pub passed_on : {z : ℤ} → mag z < 9223372036854775808 → to_z w64 (of_z w64 z) ≡ z
-passed_on {z} h = to_z-of_z {z = z} (record { sfits = h })
+passed_on {z} h = to_z-of_z {w = w64} {z = z} (record { sfits = h })
 
 -- of two numbers that are the same neither is below the other
 neither : (a b : ℕ) → (not (ltb a b) && not (ltb b a)) ≡ eqb a b

@@ -23,29 +23,29 @@ pub counted : length symbol_names ≡ symbol_count
 unfolding symbol_names symbols
 counted = refl
 
-pub in-names : (k : ℕ) → k < symbol_count → k < length symbol_names
-in-names k h = rw counted h
+pub in_names : (k : ℕ) → k < symbol_count → k < length symbol_names
+in_names k h = rw counted h
 
 pub name_is : (k : ℕ) → get_or symbol_names k [] ≡ (symbol k).name
 unfolding symbol_names symbol no_symbol
 name_is k = get_or-map (λ (s : Symbol). s.name) symbols k no_symbol
 
 -- the index of the module that offers each symbol
-unfoldable pub module-indices : List ℕ
-module-indices = map (λ (s : Symbol). s.module-index) symbols
+unfoldable pub module_indices : List ℕ
+module_indices = map (λ (s : Symbol). s.module_index) symbols
 
-pub module-index-is : (k : ℕ) → get_or module-indices k 0 ≡ (symbol k).module-index
-unfolding module-indices symbol no_symbol
-module-index-is k = get_or-map (λ (s : Symbol). s.module-index) symbols k no_symbol
+pub module_index_is : (k : ℕ) → get_or module_indices k 0 ≡ (symbol k).module_index
+unfolding module_indices symbol no_symbol
+module_index_is k = get_or-map (λ (s : Symbol). s.module_index) symbols k no_symbol
 
 -- it is that of a module
-in-modules : ℕ → ℕ → Bool
-in-modules k index = ltb index (length modules)
+in_modules : ℕ → ℕ → Bool
+in_modules k index = ltb index (length modules)
 
-pub module-inside : (k : ℕ) → k < symbol_count → (symbol k).module-index < length modules
-unfolding in-modules module-indices symbols of_smi of_tc modules
-module-inside k h =
-    rw module-index-is at (ltb→lt (get_or module-indices k 0) (length modules) (tested in-modules 0 module-indices tt k h))
+pub module_inside : (k : ℕ) → k < symbol_count → (symbol k).module_index < length modules
+unfolding in_modules module_indices symbols of_smi of_tc modules
+module_inside k h =
+    rw module_index_is at (ltb→lt (get_or module_indices k 0) (length modules) (tested in_modules 0 module_indices tt k h))
 
 -- what each symbol is, as the code says it
 unfoldable pub sorts : List Sort
@@ -63,24 +63,24 @@ pub numbers_are : (k : ℕ) → get_or symbol_numbers k [] ≡ numbers_of k
 unfolding symbol_numbers numbers_of numbers what_is symbol no_symbol
 numbers_are k = get_or-map (λ (s : Symbol). numbers s.what) symbols k no_symbol
 
-in-numbers : (k : ℕ) → k < symbol_count → k < length symbol_numbers
+in_numbers : (k : ℕ) → k < symbol_count → k < length symbol_numbers
 unfolding symbol_numbers symbols
-in-numbers k h = h
+in_numbers k h = h
 
 -- the numbers of symbol k, in a table of them all
 module _ {whole starts : List ℕ} (k : ℕ) (h : k < symbol_count) {from : ℕ} (is : from ≡ start_in starts k) (t : Joined symbol_numbers whole starts) where
   pub numbers_length : {to : ℕ} → to ≡ start_in starts (k + 1) → to ≡ from + length (numbers_of k)
-  numbers_length e = rw numbers_are at (part_length symbol_numbers whole starts t k (in-numbers k h) is e)
+  numbers_length e = rw numbers_are at (part_length symbol_numbers whole starts t k (in_numbers k h) is e)
 
   module _ (j : ℕ) (l : j < length (numbers_of k)) where
     own : j < length (get_or symbol_numbers k [])
     own = rw numbers_are l
 
     pub number_inside : from + j < length whole
-    number_inside = part_inside symbol_numbers whole starts t k (in-numbers k h) is j own
+    number_inside = part_inside symbol_numbers whole starts t k (in_numbers k h) is j own
 
     pub number_at : get_or whole (from + j) 0 ≡ get_or (numbers_of k) j 0
-    number_at = part_at symbol_numbers whole starts t k (in-numbers k h) is j own ∙ rw numbers_are refl
+    number_at = part_at symbol_numbers whole starts t k (in_numbers k h) is j own ∙ rw numbers_are refl
 
 -- a symbol's name leads to its index
 own_index : ℕ → List ℕ → Bool
@@ -122,25 +122,25 @@ class_past k h = sym (ap (λ (s : Symbol). type_class s.what) (past_symbols k h)
 pub smi_type_past : (k : ℕ) → symbol_count ≤ k → false ≡ is_smi_type k
 unfolding is_smi_type what_is no_symbol type_class
 smi_type_past k h =
-    sym (ap (λ (s : Symbol). eqb s.module-index 0 && ltb 0 (type_class s.what)) (past_symbols k h))
+    sym (ap (λ (s : Symbol). eqb s.module_index 0 && ltb 0 (type_class s.what)) (past_symbols k h))
 
 -- whether a symbol is one of SMI's types, by the index of its module and its class
 module _ (k : ℕ) where
-  pub smi_type_first : get_or module-indices k 0 ≡ 0 → (class : ℕ) → class ≡ type_class (what_is k) → ltb 0 class ≡ is_smi_type k
+  pub smi_type_first : get_or module_indices k 0 ≡ 0 → (class : ℕ) → class ≡ type_class (what_is k) → ltb 0 class ≡ is_smi_type k
   unfolding is_smi_type
-  smi_type_first first class is = rw (← module-index-is k, first, is)
+  smi_type_first first class is = rw (← module_index_is k, first, is)
 
-  pub smi_type_later : (get_or module-indices k 0 ≡ 0 → ⊥) → eqb (get_or module-indices k 0) 0 ≡ is_smi_type k
+  pub smi_type_later : (get_or module_indices k 0 ≡ 0 → ⊥) → eqb (get_or module_indices k 0) 0 ≡ is_smi_type k
   unfolding is_smi_type
-  smi_type_later later = rw (← module-index-is k) (simp (ne_eqb (get_or module-indices k 0) 0 later))
+  smi_type_later later = rw (← module_index_is k) (simp (ne_eqb (get_or module_indices k 0) 0 later))
 
 -- the class of each type is one of the first twelve
-in-classes : ℕ → Symbol → Bool
-in-classes k s = ltb (type_class s.what) 13
+in_classes : ℕ → Symbol → Bool
+in_classes k s = ltb (type_class s.what) 13
 
 listed_class_small : (k : ℕ) → k < symbol_count → type_class (what_is k) < 13
-unfolding in-classes type_class what_is symbol no_symbol symbols of_smi of_tc below_internet
-listed_class_small k h = ltb→lt (type_class (what_is k)) 13 (tested in-classes no_symbol symbols tt k h)
+unfolding in_classes type_class what_is symbol no_symbol symbols of_smi of_tc below_internet
+listed_class_small k h = ltb→lt (type_class (what_is k)) 13 (tested in_classes no_symbol symbols tt k h)
 
 pub class_small : (k : ℕ) → type_class (what_is k) < 13
 class_small k = go (dec_lt k symbol_count)

@@ -19,7 +19,7 @@ pub data What : Type 0 where
 pub record Symbol : Type 0 where
   pub name : List ℕ
   -- the module that offers it, by its index among the modules
-  pub module-index : ℕ
+  pub module_index : ℕ
   pub what : What
 
 -- the modules that can be imported from
@@ -77,10 +77,10 @@ counter64 = 12
 
 -- a symbol of SNMPv2-SMI, and one of SNMPv2-TC
 unfoldable pub of_smi : String → What → Symbol
-of_smi s w = record { name = bytes s; module-index = 0; what = w }
+of_smi s w = record { name = bytes s; module_index = 0; what = w }
 
 unfoldable pub of_tc : String → What → Symbol
-of_tc s w = record { name = bytes s; module-index = 1; what = w }
+of_tc s w = record { name = bytes s; module_index = 1; what = w }
 
 -- internet 1.3.6.1, and what lies below it
 unfoldable pub internet : List ℕ
@@ -153,15 +153,15 @@ symbol_of s = first (λ (k : ℕ). same s (get_or symbol_names k [])) 0 symbol_c
 
 -- what stands for a symbol where the list has none at an index
 unfoldable pub no_symbol : Symbol
-no_symbol = record { name = []; module-index = 0; what = oid [] }
+no_symbol = record { name = []; module_index = 0; what = oid [] }
 
 -- the symbol k
 unfoldable pub symbol : ℕ → Symbol
 symbol k = get_or symbols k no_symbol
 
 -- the name of the module that offers symbol k
-unfoldable pub module-name : ℕ → List ℕ
-module-name k = get_or modules (symbol k).module-index []
+unfoldable pub module_name : ℕ → List ℕ
+module_name k = get_or modules (symbol k).module_index []
 
 -- what symbol k is
 unfoldable pub what_is : ℕ → What
@@ -197,7 +197,7 @@ class_of_sort Sort.Macro = 0
 
 -- symbol k is one of SMI's eight types: a type that SNMPv2-SMI, the first of the modules, offers
 unfoldable pub is_smi_type : ℕ → Bool
-is_smi_type k = eqb (symbol k).module-index 0 && ltb 0 (type_class (what_is k))
+is_smi_type k = eqb (symbol k).module_index 0 && ltb 0 (type_class (what_is k))
 
 -- where the list k starts, by a table of starts
 unfoldable pub start_in : List ℕ → ℕ → ℕ

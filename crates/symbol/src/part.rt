@@ -2,7 +2,7 @@
 // imported from, and whether it is the one that offers a symbol.
 ghost use Rattle.std.specs.Prelude.{◌≡◌, ◌+◌, ◌<◌, length};
 ghost use Rattle.lexicon.specs.Word.{same, between, Within};
-ghost use Rattle.symbol.specs.Symbol.{symbol_count, symbol_names, symbol_of, is_module, module-name, iso_name, start_in, part, Joined};
+ghost use Rattle.symbol.specs.Symbol.{symbol_count, symbol_names, symbol_of, is_module, module_name, iso_name, start_in, part, Joined};
 
 use crate::start as start_in;
 use crate::table::{
@@ -81,7 +81,7 @@ pub fn names_module(text: &[u8], start: usize, end: usize) -> bool
 pub fn names_source(text: &[u8], start: usize, end: usize, k: usize) -> bool
     requires name { Within text.now start end }
     requires symbol { k < symbol_count }
-    ensures { result ≡ same (between text.now start end) (module-name k) }
+    ensures { result ≡ same (between text.now start end) (module_name k) }
 {
     let module = wide_byte(MODULES[k]);
     is_name_of(text, start, end, &MODULE_NAMES, &MODULE_STARTS, module)

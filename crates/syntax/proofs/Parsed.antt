@@ -21,7 +21,7 @@ use Rattle.token.proofs.Samples.{sample}
 use Rattle.token.proofs.Quotes.{quotes}
 use Rattle.grammar.specs.Grammar.{smi_module}
 use Rattle.grammar.specs.Automaton.{run}
-use Rattle.grammar.specs.Table.{module-automaton}
+use Rattle.grammar.specs.Table.{module_automaton}
 use Rattle.grammar.specs.Answer.{Verdict, derived}
 use Rattle.grammar.specs.Answer.{refused as refused-at}
 use Rattle.grammar.specs.Derivation.{BeginsTokens, EachTerminal}
@@ -36,7 +36,7 @@ each_terminal : EachTerminal class_of_token
 each_terminal c h = let s = sample c h in (s.token, s.classed)
 
 -- the run of the automaton over the classes of tokens is the right verdict on them
-pub run_judges : (ts : List Tok) → Judges ts (run module-automaton (map class_of_token ts))
+pub run_judges : (ts : List Tok) → Judges ts (run module_automaton (map class_of_token ts))
 run_judges ts = token_theorem class_of_token each_terminal ts
 
 abbrev starts : List Tok → List ℕ
@@ -104,12 +104,12 @@ module _
 
     -- a text that cuts into tokens
     pub judged_parses : (n : ℕ) (r : Answer) → a ≡ Tokens n
-        → r ≡ placed n starts' (length t) (run module-automaton (take n classes))
+        → r ≡ placed n starts' (length t) (run module_automaton (take n classes))
         → Parses t r × Tabled t r classes starts' ends
     judged_parses n r is answer =
         let ts = (cut t).tokens in
         let sequence = map class_of_token ts in
-        let verdict = run module-automaton sequence in
+        let verdict = run module_automaton sequence in
         let all : take (length ts) (overlaid sequence old-classes) ≡ sequence =
         take_at sequence (drop (length sequence) old-classes) (length ts) (length-map ts class_of_token) in
         let is-placed = placed_is ts old-starts (length t) verdict in

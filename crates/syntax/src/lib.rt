@@ -3,7 +3,7 @@
 
 ghost use Rattle.std.specs.Prelude.{◌≡◌, ◌≤◌, length, take};
 ghost use Rattle.grammar.specs.Automaton.{run};
-ghost use Rattle.grammar.specs.Table.{module-automaton};
+ghost use Rattle.grammar.specs.Table.{module_automaton};
 ghost use Rattle.token.specs.Table.{longest_text, Lent};
 ghost use Rattle.syntax.specs.Parsing.{Parses, Tabled};
 ghost use Rattle.syntax.specs.Placing.{placed};
@@ -50,7 +50,7 @@ fn judge(
 ) -> Answer
     requires few { count ≤ longest_text }
     requires long { length classes.now ≡ longest_text }
-    ensures { result ≡ placed count starts.now size (run module-automaton (take count classes.now)) }
+    ensures { result ≡ placed count starts.now size (run module_automaton (take count classes.now)) }
 {
     let Reading::Refused(index) = grammar::recognise(classes, count) else {
         return Answer::Derived(count);

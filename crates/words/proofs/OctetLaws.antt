@@ -8,7 +8,7 @@ use native.Mathlib.Numerals.{add-one}
 use lib.ListN.{length, get_or, take, drop, set}
 use lib.Seq.{get_or-drop, take-suc-set}
 use Rattle.words.proofs.Left.{left, ended}
-use Rattle.words.specs.Octets.{Writing, octets, none, step, after, joined, in-front, octets_from}
+use Rattle.words.specs.Octets.{Writing, octets, none, step, after, joined, in_front, octets_from}
 use Rattle.words.specs.declared.octets.Before.{Before}
 use Rattle.words.specs.declared.octets.Step.TheVariants.{Pass, Put, Wrong}
 
@@ -21,8 +21,8 @@ pub whole_none : (writing : Writing) → whole [] writing ≡ writing
 whole_none (octets others) = refl
 whole_none none = refl
 
-whole_more : (put : List ℕ) (octet : ℕ) (others : Writing) → whole put (in-front octet others) ≡ whole (put ++ (octet ∷ [])) others
-unfolding in-front
+whole_more : (put : List ℕ) (octet : ℕ) (others : Writing) → whole put (in_front octet others) ≡ whole (put ++ (octet ∷ [])) others
+unfolding in_front
 whole_more put octet (octets others) = ap octets (sym (append_assoc put (octet ∷ []) others))
 whole_more put octet none = refl
 

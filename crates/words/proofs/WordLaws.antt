@@ -9,18 +9,28 @@ use native.Mathlib.Omega.{arith}
 use native.Mathlib.Nat.{eq-or-lt_of_le}
 use lib.Dec.{eqb}
 use lib.ListN.{length, get_or, take, drop, length-take, length-drop}
-use lib.Seq.{take_all, take-length, drop-drop}
+use lib.Seq.{take_all, drop-drop}
 use borrow.Author.Tests.{eq-eqb, ne_eqb}
-use Rattle.bytes.specs.Bytes.{index_of, index_after, slice}
+use Rattle.std.specs.List.{position_or_len}
+use Rattle.std.proofs.lemmas.List.Recursion.{is_position_or_len}
 use Rattle.words.proofs.Left.{left, ended}
-use Rattle.words.specs.Words.{words, in-front, place, between, Stands, Found}
+use Rattle.words.specs.Words.{words, in_front, place, word_end, between, Stands, Found}
 use Rattle.words.specs.declared.word.Word.{Word}
 use Rattle.words.specs.declared.word.Word.TheVariants.{At, Missing}
+
+-- how many bytes stand before the first separator, where the first byte is one or not
+abbrev index_after : Bool → ℕ → ℕ
+index_after true k = 0
+index_after false k = suc k
+
+abbrev index_of : ℕ → List ℕ → ℕ
+index_of s [] = 0
+index_of s (b ∷ line) = index_after (eqb b s) (index_of s line)
 
 -- a separator in the line ends the first word
 parted : (s : ℕ) (line : List ℕ) → index_of s line < length line
     → words s line ≡ take (index_of s line) line ∷ words s (drop (suc (index_of s line)) line)
-unfolding words index_of index_after
+unfolding words
 parted s [] inside = absurd (omega arith)
 parted s (b ∷ line) inside = go (eqb b s) (parted s line) inside
   where
@@ -29,26 +39,25 @@ parted s (b ∷ line) inside = go (eqb b s) (parted s line) inside
 
     go : (t : Bool) → (k < length line → words s line ≡ take k line ∷ words s (drop (suc k) line))
         → index_after t k < suc (length line)
-        → cond t ([] ∷ words s line) (in-front b (words s line))
+        → cond t ([] ∷ words s line) (in_front b (words s line))
         ≡ take (index_after t k) (b ∷ line) ∷ words s (drop (suc (index_after t k)) (b ∷ line))
     go true behind inside = refl
-    go false behind inside = ap (in-front b) (behind (omega arith))
+    go false behind inside = ap (in_front b) (behind (omega arith))
 
 -- without one the line is one word
 whole : (s : ℕ) (line : List ℕ) → length line ≤ index_of s line → words s line ≡ line ∷ []
-unfolding words index_of index_after
+unfolding words
 whole s [] none = refl
 whole s (b ∷ line) none = go (eqb b s) (whole s line) none
   where
     go : (t : Bool) → (length line ≤ index_of s line → words s line ≡ line ∷ [])
         → suc (length line) ≤ index_after t (index_of s line)
-        → cond t ([] ∷ words s line) (in-front b (words s line)) ≡ (b ∷ line) ∷ []
+        → cond t ([] ∷ words s line) (in_front b (words s line)) ≡ (b ∷ line) ∷ []
     go true behind none = absurd (omega arith)
-    go false behind none = ap (in-front b) (behind (omega arith))
+    go false behind none = ap (in_front b) (behind (omega arith))
 
 -- a search that finds none ends at the line's end
 reach : (s : ℕ) (line : List ℕ) → index_of s line ≤ length line
-unfolding index_of index_after
 reach s [] = omega arith
 reach s (b ∷ line) = go (eqb b s) (reach s line)
   where
@@ -146,11 +155,20 @@ found_left s line (suc index) from low =
     let inside : end ≤ length line = omega (arith, reach s (drop from line), length-drop from line) in
     found_next s line index from end low refl (found_left s line index) (eq-or-lt_of_le inside)
 
+-- that is where std's search finds it
+index_is : (s : ℕ) (line : List ℕ) → index_of s line ≡ position_or_len (λ b. eqb b s) line
+index_is s line = is_position_or_len (index_of s) (λ b. eqb b s) refl (λ b rest. turn (eqb b s) (index_of s rest)) line
+  where
+    turn : (t : Bool) (k : ℕ) → index_after t k ≡ cond t 0 (1 + k)
+    turn true k = refl
+    turn false k = omega arith
+
 -- a search in the line is one in what is left of it
-pub searched : (s : ℕ) (line : List ℕ) (from end : ℕ) → end ≡ from + index_of s (slice from (length line) line)
-    → end ≡ from + index_of s (drop from line)
-unfolding slice
-searched s line from end is = is ∙ ap (λ (l : List ℕ). from + index_of s (drop from l)) (take-length line)
+pub searched : (s : ℕ) (line : List ℕ) (from end : ℕ) → end ≡ word_end s line from → end ≡ from + index_of s (drop from line)
+searched s line from end is =
+    is
+    ∙ ap (λ (l : List ℕ). from + position_or_len (λ b. eqb b s) l) (take_all (length line - from) (drop from line) (omega (arith, length-drop from line)))
+    ∙ ap (λ (k : ℕ). from + k) (sym (index_is s (drop from line)))
 
 -- so the place is the whole answer
 pub answered : (s : ℕ) (line : List ℕ) (index : ℕ) (found : Word) → found ≡ place 0 (words s line) index
@@ -163,13 +181,13 @@ unfolding words
 some s [] = omega arith
 some s (b ∷ line) = go (eqb b s) (words s line)
   where
-    go : (t : Bool) (all : List (List ℕ)) → 1 ≤ length (cond t ([] ∷ all) (in-front b all))
+    go : (t : Bool) (all : List (List ℕ)) → 1 ≤ length (cond t ([] ∷ all) (in_front b all))
     go true all = omega arith
     go false [] = omega arith
     go false (word ∷ all) = omega arith
 
 -- a byte in front leaves their number
-same_number : (b : ℕ) (all : List (List ℕ)) → 1 ≤ length all → length (in-front b all) ≡ length all
+same_number : (b : ℕ) (all : List (List ℕ)) → 1 ≤ length all → length (in_front b all) ≡ length all
 same_number b [] none = absurd (omega arith)
 same_number b (word ∷ all) one = refl
 

@@ -72,14 +72,14 @@ pub data Writing : Type 0 where
   none : Writing
 
 -- an octet in front of others
-unfoldable pub in-front : ℕ → Writing → Writing
-in-front octet (octets others) = octets (octet ∷ others)
-in-front octet none = none
+unfoldable pub in_front : ℕ → Writing → Writing
+in_front octet (octets others) = octets (octet ∷ others)
+in_front octet none = none
 
 -- a byte in front of others that are written so
 unfoldable pub joined : Step → Writing → Writing
 joined (Pass before) others = others
-joined (Put octet before) others = in-front octet others
+joined (Put octet before) others = in_front octet others
 joined Wrong others = none
 
 -- what bytes write, by what stands before them. For the byte behind the last one stands 0, which is no digit and no mark

@@ -1,17 +1,22 @@
 -- The words of a line, with a separator between them. Assumes nothing.
-use Rattle.std.specs.Prelude.{ℕ, zero, suc, ◌+◌, ◌-◌, ◌≤◌, ◌<◌, ◌≡◌, cond, List, [], ◌∷◌, eqb, length, get_or, take, drop}
+use Rattle.std.specs.Prelude.{ℕ, zero, suc, ◌+◌, ◌-◌, ◌≤◌, ◌<◌, ◌≡◌, cond, List, [], ◌∷◌, eqb, length, get_or, take, drop, slice_range}
+use Rattle.std.specs.List.{position_or_len}
 use Rattle.words.specs.declared.word.Word.{Word}
 use Rattle.words.specs.declared.word.Word.TheVariants.{At, Missing}
 
 -- a byte in front of the first of some words
-abbrev pub in-front : ℕ → List (List ℕ) → List (List ℕ)
-in-front b [] = (b ∷ []) ∷ []
-in-front b (word ∷ rest) = (b ∷ word) ∷ rest
+abbrev pub in_front : ℕ → List (List ℕ) → List (List ℕ)
+in_front b [] = (b ∷ []) ∷ []
+in_front b (word ∷ rest) = (b ∷ word) ∷ rest
 
 -- the words of a line: a separator ends a word, any other byte belongs to its word; an empty line has one word, an empty one
 unfoldable pub words : ℕ → List ℕ → List (List ℕ)
 words separator [] = [] ∷ []
-words separator (b ∷ line) = cond (eqb b separator) ([] ∷ words separator line) (in-front b (words separator line))
+words separator (b ∷ line) = cond (eqb b separator) ([] ∷ words separator line) (in_front b (words separator line))
+
+-- where the word that starts at an index ends: before the next separator, or where the line does
+abbrev pub word_end : ℕ → List ℕ → ℕ → ℕ
+word_end separator line from = from + position_or_len (λ b. eqb b separator) (slice_range line from (length line))
 
 -- where the word of an index stands, if the first starts at `from` and the next one byte behind its end; or there are not so many
 unfoldable pub place : ℕ → List (List ℕ) → ℕ → Word

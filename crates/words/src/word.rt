@@ -1,12 +1,25 @@
 // The words of a line, with a separator between them.
 ghost use Rattle.std.specs.Prelude.{◌≡◌, true, [], ◌≤◌, length, get_or};
-ghost use Rattle.words.specs.Words.{Found, place, words};
+ghost use Rattle.words.specs.Words.{Found, place, word_end, words};
 
 // The word asked for, from its first byte up to, not including, the second index; or there are not so many.
 #[derive(Clone, Copy)]
 pub enum Word {
     At(usize, usize),
     Missing,
+}
+
+// Where the word that starts at `from` ends: before the next separator, or where the line does.
+fn word_end(line: &[u8], separator: u8, from: usize) -> usize
+    requires { from ≤ length line.now }
+    ensures is { result ≡ word_end separator line.now from }
+    ensures low { from ≤ result }
+    ensures high { result ≤ length line.now }
+{
+    match line[from..].iter().position(|b| *b == separator) {
+        Some(n) => from + n,
+        None => line.len(),
+    }
 }
 
 // The word of that index, counted from 0. An empty line has one word, which is empty.
@@ -17,14 +30,14 @@ pub fn word_at(line: &[u8], separator: u8, index: usize) -> Word
     let mut from = 0;
     let mut left = index;
     while left > 0 {
-        let end = bytes::scan::find(line, from, line.len(), separator);
+        let end = word_end(line, separator, from);
         if end == line.len() {
             return Word::Missing;
         }
         from = end + 1;
         left -= 1;
     }
-    Word::At(from, bytes::scan::find(line, from, line.len(), separator))
+    Word::At(from, word_end(line, separator, from))
 }
 
 // The bytes of the word of that index; none where there is no such word.
@@ -58,5 +71,5 @@ pub fn same(a: &[u8], b: &[u8]) -> bool
     ensures equal { result ≡ true → a.now ≡ b.now }
     ensures told { a.now ≡ b.now → result ≡ true }
 {
-    check::same(a, b)
+    a == b
 }

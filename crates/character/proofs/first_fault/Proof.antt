@@ -42,7 +42,7 @@ add-i c =
     let a = start.args in
     let small = character_small a.format a.s.now c.loop-i.i in
     let size = c.character_size-size.ensures in
-    omega (arith, start.well-formed)
+    omega (arith, start.well_formed)
 
 loop-less : tie.Need-loop-i-smaller invariant-loop decreases-loop
 loop-less c = omega arith

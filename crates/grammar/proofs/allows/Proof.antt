@@ -17,7 +17,7 @@ use Rattle.grammar.specs.Automaton.{run}
 use Rattle.grammar.specs.Grammar.{smi_module}
 use Rattle.grammar.specs.Reading.{verdict}
 use Rattle.grammar.specs.Rule.{yield}
-use Rattle.grammar.specs.Table.{module-automaton}
+use Rattle.grammar.specs.Table.{module_automaton}
 use Rattle.grammar.proofs.Begun.{begun}
 use Rattle.grammar.proofs.Theorem.{grammar_theorem}
 use Rattle.grammar.proofs.allows.Statement.{statement}
@@ -39,10 +39,10 @@ module _ (classes : List ℕ) (n x : ℕ) (room : n < length classes) where
   Ensured r = (r ≡ allowed ts) × ((r ≡ true) ↔ Begins smi_module ts)
 
   -- an answer that is the verdict's is ensured
-  ensured : (r : Bool) (v : Verdict) → v ≡ run module-automaton (take (n + 1) (set classes n x)) → r ≡ unspoiled (n + 1) v → Ensured r
+  ensured : (r : Bool) (v : Verdict) → v ≡ run module_automaton (take (n + 1) (set classes n x)) → r ≡ unspoiled (n + 1) v → Ensured r
   ensured r v e told =
-      let same : r ≡ allowed ts = told ∙ ap (λ k. unspoiled k v) (sym sized) ∙ ap (unspoiled (length ts)) (e ∙ ap (run module-automaton) asked) in
-      (same, subst (λ b. (b ≡ true) ↔ Begins smi_module ts) (sym same) (begun (yield smi_module) ts (run module-automaton ts) (grammar_theorem ts)))
+      let same : r ≡ allowed ts = told ∙ ap (λ k. unspoiled k v) (sym sized) ∙ ap (unspoiled (length ts)) (e ∙ ap (run module_automaton) asked) in
+      (same, subst (λ b. (b ≡ true) ↔ Begins smi_module ts) (sym same) (begun (yield smi_module) ts (run module_automaton ts) (grammar_theorem ts)))
 
 slice-write-classes : tie.Need-bounds-classes-n
 slice-write-classes c = search rules
@@ -64,11 +64,9 @@ same_length c = search rules
 
 returns : tie.Need-returns-in_default
 returns c =
-    let read = c.before.before in
-    let start = read.before.before.before in
-    let a = start.args in
-    let h = ensured a.classes.now a.n a.class start.requires true derived
-    (ap verdict (sym c.enum_told-1.given.1) ∙ read.recognise.ensures.0) refl in
+    let a = c.args in
+    let h = ensured a.classes.now a.n a.class c.requires true derived
+    (ap verdict (sym c.in_default.is) ∙ c.recognise.ensures.0) refl in
     (h.0, (h.1, refl))
 
 same-length-2 : tie.Need-shape_of-classes
@@ -76,12 +74,10 @@ same-length-2 c = search rules
 
 returns-2 : tie.Need-returns
 returns-2 c =
-    let read = c.before.before.before in
-    let start = read.before.before.before in
-    let a = start.args in
-    let i = c.index-1.given.0.0.0 in
-    let h = ensured a.classes.now a.n a.class start.requires (ltb a.n i) (refused i)
-    (ap verdict (sym c.index-1.given.1) ∙ read.recognise.ensures.0) (ap (λ k. leb k i) (sym (add-one a.n))) in
+    let a = c.args in
+    let i = c.in-Refused.index.0 in
+    let h = ensured a.classes.now a.n a.class c.requires (ltb a.n i) (refused i)
+    (ap verdict (sym c.in-Refused.is) ∙ c.recognise.ensures.0) (ap (λ k. leb k i) (sym (add-one a.n))) in
     (h.0, (h.1, refl))
 
 pub allows_spec : {M : Type 1} → statement M

@@ -11,7 +11,7 @@ use lib.Seq.{get_or-take, length-take-le}
 use Rattle.grammar.specs.Answer.{Verdict, derived, refused, Answers}
 use Rattle.grammar.specs.Automaton.{next, run}
 use Rattle.grammar.specs.Grammar.{smi_module}
-use Rattle.grammar.specs.Table.{module-automaton, transitions}
+use Rattle.grammar.specs.Table.{module_automaton, transitions}
 use Rattle.grammar.proofs.Resumed.{Resumed, resumed_start, resumed_dead, resumed_token, resumed_whole, resumed_short}
 use Rattle.grammar.proofs.Theorem.{grammar_theorem}
 use Rattle.grammar.proofs.recognise.Statement.{statement}
@@ -19,56 +19,56 @@ use Rattle.grammar.proofs.recognise.Tie as tie
 
 abbrev invariant-loop : tie.invariant-loop-i
 invariant-loop classes n table state₀ i₀ state i =
-    (table ≡ module-automaton.table)
+    (table ≡ module_automaton.table)
     × (i ≤ n)
-    × (state < module-automaton.states)
-    × Resumed module-automaton (take n classes) state i
+    × (state < module_automaton.states)
+    × Resumed module_automaton (take n classes) state i
 
 abbrev decreases-loop : tie.decreases-loop-i
 decreases-loop classes n table state₀ i₀ state i = n - i
 
 -- what is ensured of the verdict on a class sequence: it is the run's, and right
 abbrev Ensured : List ℕ → Verdict → Type 0
-Ensured ts v = (v ≡ run module-automaton ts) × Answers smi_module ts v
+Ensured ts v = (v ≡ run module_automaton ts) × Answers smi_module ts v
 
 -- a verdict that is the run's is right
-answered : (ts : List ℕ) (v : Verdict) → run module-automaton ts ≡ v → Ensured ts v
+answered : (ts : List ℕ) (v : Verdict) → run module_automaton ts ≡ v → Ensured ts v
 answered ts v e = (sym e, subst (Answers smi_module ts) e (grammar_theorem ts))
 
 -- the run over the first n classes, in state s after i of them
-module _ (classes : List ℕ) (n s i : ℕ) (enough : n ≤ length classes) (h : Resumed module-automaton (take n classes) s i) where
+module _ (classes : List ℕ) (n s i : ℕ) (enough : n ≤ length classes) (h : Resumed module_automaton (take n classes) s i) where
   -- class i is one of the first n, and leads to state x
-  module _ (l : i < n) (x : ℕ) (e : x ≡ next module-automaton s (get_or classes i 0)) where
+  module _ (l : i < n) (x : ℕ) (e : x ≡ next module_automaton s (get_or classes i 0)) where
     among : i < length (take n classes)
     among = omega (arith, length-take-le n classes enough)
 
-    leads : next module-automaton s (get_or (take n classes) i 0) ≡ x
-    leads = ap (next module-automaton s) (get_or-take n classes i 0 l) ∙ sym e
+    leads : next module_automaton s (get_or (take n classes) i 0) ≡ x
+    leads = ap (next module_automaton s) (get_or-take n classes i 0 l) ∙ sym e
 
     dead : x ≡ 0 → Ensured (take n classes) (refused i)
-    dead z = answered (take n classes) (refused i) (resumed_dead module-automaton (take n classes) s i x h among leads z)
+    dead z = answered (take n classes) (refused i) (resumed_dead module_automaton (take n classes) s i x h among leads z)
 
-    one_further : (x ≡ 0 → ⊥) → Resumed module-automaton (take n classes) x (i + 1)
-    one_further alive = resumed_token module-automaton (take n classes) s i x h among leads alive
+    one_further : (x ≡ 0 → ⊥) → Resumed module_automaton (take n classes) x (i + 1)
+    one_further alive = resumed_token module_automaton (take n classes) s i x h among leads alive
 
   -- all of the first n classes are past
   module _ (l : n ≤ i) where
     past : length (take n classes) ≤ i
     past = omega (arith, length-take-le n classes enough)
 
-    accepted : s ≡ module-automaton.accepting → Ensured (take n classes) derived
-    accepted e = answered (take n classes) derived (resumed_whole module-automaton (take n classes) s i h past e)
+    accepted : s ≡ module_automaton.accepting → Ensured (take n classes) derived
+    accepted e = answered (take n classes) derived (resumed_whole module_automaton (take n classes) s i h past e)
 
-    ended : (s ≡ module-automaton.accepting → ⊥) → i ≤ n → Ensured (take n classes) (refused n)
+    ended : (s ≡ module_automaton.accepting → ⊥) → i ≤ n → Ensured (take n classes) (refused n)
     ended other within =
         let e : i ≡ n = omega arith in
-        answered (take n classes) (refused n) (resumed_short module-automaton (take n classes) s i h past other ∙ ap refused e)
+        answered (take n classes) (refused n) (resumed_short module_automaton (take n classes) s i h past other ∙ ap refused e)
 
 loop-holds : tie.Need-loop-i-init invariant-loop decreases-loop
-unfolding module-automaton transitions
+unfolding module_automaton transitions
 loop-holds c =
     let args = c.args in
-    (refl, zero-le, lit< tt, resumed_start module-automaton (take args.n args.classes.now))
+    (refl, zero-le, lit< tt, resumed_start module_automaton (take args.n args.classes.now))
 
 shared-slice-read-step : tie.Need-bounds-classes-i invariant-loop decreases-loop
 shared-slice-read-step c = search rules
@@ -103,7 +103,7 @@ loop-again c =
     )
 
 returns-2 : tie.Need-returns-then-state-eq-ACCEPTING invariant-loop decreases-loop
-unfolding module-automaton
+unfolding module_automaton
 returns-2 c =
     let at = c.before.before in
     let start = at.before.before in
@@ -111,7 +111,7 @@ returns-2 c =
     c.loop-i-test.false c.if-state-eq-ACCEPTING.true
 
 returns-3 : tie.Need-returns-else-state-eq-ACCEPTING invariant-loop decreases-loop
-unfolding module-automaton
+unfolding module_automaton
 returns-3 c =
     let at = c.before.before in
     let start = at.before.before in

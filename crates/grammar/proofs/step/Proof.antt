@@ -7,10 +7,10 @@ use native.Mathlib.Omega.{arith}
 use borrow.Author.Rules.{rules}
 use lib.Dec.{lit<}
 use lib.ListN.{get_or}
-use Rattle.grammar.specs.Table.{module-automaton}
+use Rattle.grammar.specs.Table.{module_automaton}
 use Rattle.grammar.proofs.Passes.{entry_state}
 use Rattle.grammar.proofs.Resumed.{next_inside, next_outside}
-use Rattle.grammar.proofs.States.{module-passes}
+use Rattle.grammar.proofs.States.{module_passes}
 use Rattle.grammar.proofs.step.Statement.{statement}
 use Rattle.grammar.proofs.step.Tie as tie
 
@@ -21,24 +21,24 @@ add-result : tie.Need-overflow_add-result
 add-result c = search rules
 
 element-copy-out-result : tie.Need-bounds-table-row
-unfolding module-automaton
+unfolding module_automaton
 element-copy-out-result c = omega arith
 
 returns : tie.Need-returns-then-column-lt-TERMINALS
-unfolding module-automaton
+unfolding module_automaton
 returns c =
     let start = c.before.before.before in
     let s = start.args.state in
     let k = start.args.class in
     let class = c.if-column-lt-TERMINALS.true in
-    let e = ap (λ (l : List ℕ). get_or l (s * module-automaton.width + k) 0) start.requires.0 in (
-      e ∙ sym (next_inside module-automaton s k class),
-      subst (λ (x : ℕ). x < module-automaton.states) (sym e) (entry_state module-passes s start.requires.1 k class),
+    let e = ap (λ (l : List ℕ). get_or l (s * module_automaton.width + k) 0) start.requires.0 in (
+      e ∙ sym (next_inside module_automaton s k class),
+      subst (λ (x : ℕ). x < module_automaton.states) (sym e) (entry_state module_passes s start.requires.1 k class),
     )
 
 returns-2 : tie.Need-returns-else-column-lt-TERMINALS
-unfolding module-automaton
-returns-2 c = (sym (next_outside module-automaton c.args.state c.args.class c.if-column-lt-TERMINALS.false), lit< tt)
+unfolding module_automaton
+returns-2 c = (sym (next_outside module_automaton c.args.state c.args.class c.if-column-lt-TERMINALS.false), lit< tt)
 
 pub step_spec : {M : Type 1} → statement M
 step_spec = tie.close (tie.spec

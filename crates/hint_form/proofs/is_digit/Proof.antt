@@ -4,13 +4,15 @@ use borrow.Author.Tests.{le-leb, lt-leb}
 use Rattle.hint_form.proofs.is_digit.Statement.{statement}
 use Rattle.hint_form.proofs.is_digit.Tie as tie
 
-returns : tie.Need-returns
+returns : tie.Need-returns-then-b-ge48
 unfolding Rattle.hint_form.specs.Hint.digit
-returns c = simp (le-leb _ _ c.if1.true)
+returns c = simp (le-leb _ _ c.if-b-ge48.true)
 
-returns-2 : tie.Need-returns-2
+returns-2 : tie.Need-returns-else-b-ge48
 unfolding Rattle.hint_form.specs.Hint.digit
-returns-2 c = simp (lt-leb _ _ c.if1.false)
+returns-2 c = simp (lt-leb _ _ c.if-b-ge48.false)
 
 pub is_digit_spec : {M : Type 1} → statement M
-is_digit_spec = tie.close (tie.spec returns returns-2)
+is_digit_spec = tie.close (tie.spec
+    returns
+    returns-2)

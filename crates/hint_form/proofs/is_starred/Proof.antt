@@ -8,7 +8,7 @@ use borrow.Author.Rules.{rules}
 use Rattle.hint_form.proofs.is_starred.Statement.{statement}
 use Rattle.hint_form.proofs.is_starred.Tie as tie
 
-byte-at-requires : tie.Need-byte-at-requires
+byte-at-requires : tie.Need-byte_at-requires
 byte-at-requires c κs = search rules
 
 returns : tie.Need-returns
@@ -16,4 +16,6 @@ unfolding Rattle.hint_form.specs.Hint.starred
 returns c = ap (λ (b : ℕ). eqb b (code "*")) c.byte_at.ensures
 
 pub is_starred_spec : {M : Type 1} → statement M
-is_starred_spec = tie.close (tie.spec byte-at-requires returns)
+is_starred_spec = tie.close (tie.spec
+    byte-at-requires
+    returns)

@@ -11,57 +11,57 @@ use Rattle.buffer.proofs.Writing.{wrote_as, wrote_none}
 use Rattle.hint_integer.proofs.print_magnitude.Statement.{statement}
 use Rattle.hint_integer.proofs.print_magnitude.Tie as tie
 
-enum-known-form : tie.Need-enum-known-form
+enum-known-form : tie.Need-enum_known-form
 enum-known-form c = search rules
 
-print-digits-requires : tie.Need-print-digits-requires
+print-digits-requires : tie.Need-print_digits-requires
 unfolding Rattle.hint_integer.specs.Signed.magnitude
 print-digits-requires c κs =
-    let start = c.before.before.before.before.before in
-    let is = c.before.before.form.given.1 in
+    let start = c in
+    let is = c.in-Base.is in
     let long = ap (λ (f : Form). length (magnitude f start.args.n)) is in
     let usable = subst Usable is start.requires.0 in
     (usable.0, (usable.1, omega (arith, start.requires.1)))
 
-enum-known-form-2 : tie.Need-enum-known-form-2
+enum-known-form-2 : tie.Need-enum_known-form-in-Point-1
 enum-known-form-2 c = search rules
 
-print-pointed-requires : tie.Need-print-pointed-requires
+print-pointed-requires : tie.Need-print_pointed-requires
 unfolding Rattle.hint_integer.specs.Signed.magnitude
 print-pointed-requires c κs =
-    let start = c.before.before.before.before.before in
-    let is = c.before.before.form2.given.1 in
+    let start = c in
+    let is = c.in-Point.is in
     let long = ap (λ (f : Form). length (magnitude f start.args.n)) is in
     omega (arith, start.requires.1)
 
-enum_told : tie.Need-enum-told
+enum_told : tie.Need-enum_told-1
 enum_told c = search rules
 
-same_length : tie.Need-same-length
+same_length : tie.Need-shape_of-out-in-Base
 same_length c = search rules
 
-returns : tie.Need-returns
+returns : tie.Need-returns-in-Base
 unfolding Rattle.hint_integer.specs.Signed.magnitude
 returns c =
-    let is = c.before.before.before.before.before.form.given.1 in
-    let n = c.before.before.before.before.before.before.before.before.args.n in
-    wrote_as (sym (ap (λ (f : Form). magnitude f n) is)) c.before.before.print-digits.ensures
+    let is = c.in-Base.is in
+    let n = c.args.n in
+    wrote_as (sym (ap (λ (f : Form). magnitude f n) is)) c.print_digits.ensures
 
-same-length-2 : tie.Need-same-length-2
+same-length-2 : tie.Need-shape_of-out-in-Point
 same-length-2 c = search rules
 
-returns-2 : tie.Need-returns-2
+returns-2 : tie.Need-returns-in-Point
 unfolding Rattle.hint_integer.specs.Signed.magnitude
 returns-2 c =
-    let is = c.before.before.before.before.before.form2.given.1 in
-    let n = c.before.before.before.before.before.before.before.before.args.n in
-    wrote_as (sym (ap (λ (f : Form). magnitude f n) is)) c.before.before.print-pointed.ensures
+    let is = c.in-Point.is in
+    let n = c.args.n in
+    wrote_as (sym (ap (λ (f : Form). magnitude f n) is)) c.print_pointed.ensures
 
-returns-3 : tie.Need-returns-3
+returns-3 : tie.Need-returns-in-Bad
 unfolding Rattle.hint_integer.specs.Signed.magnitude
 returns-3 c =
-    let a = c.before.before.before.args in
-    let same = ap (λ (f : Form). magnitude f a.n) c.enum_told.given.1 in
+    let a = c.args in
+    let same = ap (λ (f : Form). magnitude f a.n) c.in-Bad.is in
     wrote_as (sym same) (wrote_none a.out.now a.at)
 
 pub print_magnitude_spec : {M : Type 1} → statement M

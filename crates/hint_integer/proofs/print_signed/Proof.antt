@@ -17,63 +17,63 @@ use Rattle.hint_integer.proofs.print_signed.Statement.{statement}
 use Rattle.hint_integer.proofs.print_signed.Tie as tie
 
 -- the digits of the magnitude that was found, and that they are few
-abbrev start : tie.After-magnitude-of → tie.Start
+abbrev start : tie.After-magnitude_of-n → tie.Start
 start d = d.before.before
 
-digits : (d : tie.After-magnitude-of)
+digits : (d : tie.After-magnitude_of-n)
     → let a = (start d).args in
-    magnitude a.form d.magnitude-of.result ≡ magnitude a.form (nat_abs a.value)
-digits d = ap (magnitude (start d).args.form) (d.magnitude-of.ensures ∙ ap nat_abs (to_z-of_z (start d).ranges.value))
+    magnitude a.form d.magnitude_of-n.result ≡ magnitude a.form (nat_abs a.value)
+digits d = ap (magnitude (start d).args.form) (d.magnitude_of-n.ensures ∙ ap nat_abs (to_z-of_z (start d).ranges.value))
 
-digits_few : (d : tie.After-magnitude-of) → length (magnitude (start d).args.form d.magnitude-of.result) ≤ 43
+digits_few : (d : tie.After-magnitude_of-n) → length (magnitude (start d).args.form d.magnitude_of-n.result) ≤ 43
 digits_few d =
     let a = (start d).args in
     let q = (start d).requires in
     let short = magnitude_size a.form (nat_abs a.value) q.0 (magnitude_small a.value q.1.0) in
     omega (arith, ap length (digits d))
 
-magnitude-of-requires : tie.Need-magnitude-of-requires
+magnitude-of-requires : tie.Need-magnitude_of-n-requires
 magnitude-of-requires c κs = search rules
 
-put-requires : tie.Need-put-requires
+put-requires : tie.Need-put-at-requires
 put-requires c κs = search rules
 
-print-magnitude-requires : tie.Need-print-magnitude-requires
+print-magnitude-requires : tie.Need-print_magnitude-requires
 print-magnitude-requires c κs =
-    let d = c.before.before.before.before.before.before in
-    let q = (start d).requires in
-    let put = c.before.before.before.put in
-    (q.0, omega (arith, q.1, digits_few d, put.ensures.next_is, put.auto.0))
+    let d = c in
+    let q = (start d.before.before.before.before.before.before).requires in
+    let put = c.put-at in
+    (q.0, omega (arith, q.1, digits_few d.before.before.before.before.before.before, put.ensures.next_is, put.auto.out))
 
-same_length : tie.Need-same-length
+same_length : tie.Need-shape_of-out-then-value-lt0
 same_length c = search rules
 
-returns : tie.Need-returns
+returns : tie.Need-returns-then-value-lt0
 returns c =
-    let d = c.before.before.before.before.before.before.before.before.before in
-    let a = (start d).args in
-    let same = to_z-of_z (start d).ranges.value in
-    let below = ap (λ (z : ℤ). lt_z z (pos 0)) (sym same) ∙ c.before.before.before.before.before.before.before.before.if1.true in
-    let all = ap (λ (l : List ℕ). code "-" ∷ l) (digits d) ∙ sym (signed_negative a.form a.value below) in
-    let minus = c.before.before.before.before.before.before.put.ensures in
-    wrote_as all (wrote_more (omega (arith, (start d).requires.1)) minus c.before.before.print-magnitude.ensures)
+    let d = c in
+    let a = (start d.before.before.before.before.before.before.before.before.before).args in
+    let same = to_z-of_z (start d.before.before.before.before.before.before.before.before.before).ranges.value in
+    let below = ap (λ (z : ℤ). lt_z z (pos 0)) (sym same) ∙ c.if-value-lt0.true in
+    let all = ap (λ (l : List ℕ). code "-" ∷ l) (digits d.before.before.before.before.before.before.before.before.before) ∙ sym (signed_negative a.form a.value below) in
+    let minus = c.put-at.ensures in
+    wrote_as all (wrote_more (omega (arith, (start d.before.before.before.before.before.before.before.before.before).requires.1)) minus c.print_magnitude.ensures)
 
-print-magnitude-requires-2 : tie.Need-print-magnitude-requires-2
+print-magnitude-requires-2 : tie.Need-print_magnitude-requires-2
 print-magnitude-requires-2 c κs =
-    let d = c.before.before in
-    let q = (start d).requires in
-    (q.0, omega (arith, q.1, digits_few d))
+    let d = c in
+    let q = (start d.before.before).requires in
+    (q.0, omega (arith, q.1, digits_few d.before.before))
 
-same-length-2 : tie.Need-same-length-2
+same-length-2 : tie.Need-shape_of-out
 same-length-2 c = search rules
 
-returns-2 : tie.Need-returns-2
+returns-2 : tie.Need-returns
 returns-2 c =
-    let d = c.before.before.before.before.before in
-    let a = (start d).args in
-    let same = to_z-of_z (start d).ranges.value in
-    let other = ap (λ (z : ℤ). lt_z z (pos 0)) (sym same) ∙ c.before.before.before.before.if1.false in
-    wrote_as (digits d ∙ sym (signed_other a.form a.value other)) c.before.before.print-magnitude2.ensures
+    let d = c in
+    let a = (start d.before.before.before.before.before).args in
+    let same = to_z-of_z (start d.before.before.before.before.before).ranges.value in
+    let other = ap (λ (z : ℤ). lt_z z (pos 0)) (sym same) ∙ c.if-value-lt0.false in
+    wrote_as (digits d.before.before.before.before.before ∙ sym (signed_other a.form a.value other)) c.print_magnitude-2.ensures
 
 pub print_signed_spec : {M : Type 1} → statement M
 print_signed_spec =

@@ -10,105 +10,102 @@ use borrow.Author.Rules.{rules}
 use Rattle.hint_piece.specs.declared.Progress.TheVariants.{To, Fault}
 use Rattle.hint_piece.specs.declared.Progress.{Progress}
 use Rattle.hint_piece.specs.Followed.{Followed, wrote}
-use Rattle.hint_piece.specs.Use.{Outcome, use-text, optional, following, printed}
+use Rattle.hint_piece.specs.Use.{Outcome, use_text, optional, following, printed}
 use Rattle.digit.proofs.Sizes.{Octets, octets_take, octets_drop}
 use Rattle.hint_form.proofs.HintLaws.{longest_small}
 use Rattle.buffer.proofs.Writing.{wrote_as}
-use Rattle.hint_piece.proofs.Bounds.{use-size, octets_size, optional_size}
+use Rattle.hint_piece.proofs.Bounds.{use_size, octets_size, optional_size}
 use Rattle.hint_piece.proofs.Outcomes.{size_of, followed_as, followed_next, followed_joined, followed_fault}
 use Rattle.hint_piece.proofs.print_one.Statement.{statement}
 use Rattle.hint_piece.proofs.print_one.Tie as tie
 
 -- where the function started, and the octets of the use
-abbrev start : tie.After-print-use → tie.Start
+abbrev start : tie.After-print_use → tie.Start
 start d = d.before.before.before.before.before
 
-abbrev octets : tie.After-print-use → List ℕ
+abbrev octets : tie.After-print_use → List ℕ
 octets d = let a = (start d).args in take a.piece.size (drop a.at a.value.now)
 
-octets_long : (d : tie.After-print-use)
+octets_long : (d : tie.After-print_use)
     → let a = (start d).args in
     length (octets d) ≡ min a.piece.size (length a.value.now - a.at)
 octets_long d = let a = (start d).args in octets_size a.piece.size a.at a.value.now
 
 -- the use's text, its bound, and that it was followed with what was answered
-abbrev text : tie.After-print-use → Outcome
-text d = let a = (start d).args in use-text a.piece.format a.at (octets d)
+abbrev text : tie.After-print_use → Outcome
+text d = let a = (start d).args in use_text a.piece.format a.at (octets d)
 
-text_short : (d : tie.After-print-use) → size_of (text d) ≤ 3 * length (octets d)
+text_short : (d : tie.After-print_use) → size_of (text d) ≤ 3 * length (octets d)
 text_short d =
     let a = (start d).args in
     let q = (start d).requires in
     let long = octets_long d in
-    let all : Octets a.value.now = λ (k : ℕ). omega (arith, d.before.before.before.before.shared-slice-known.given k) in
-    use-size a.piece.format a.at (octets d) (omega (arith, q)) (omega (arith, q))
+    let all : Octets a.value.now = λ (k : ℕ). omega (arith, d.shared_slice_known-1.given k) in
+    use_size a.piece.format a.at (octets d) (omega (arith, q)) (omega (arith, q))
     (octets_take a.piece.size (drop a.at a.value.now) (octets_drop a.at a.value.now all))
 
-followed : (d : tie.After-print-use) (r : Progress) → d.print-use.result ≡ r
-    → Followed (text d) (start d).args.pos r (start d).args.out.now d.print-use.new.1.1.1.0
+followed : (d : tie.After-print_use) (r : Progress) → d.print_use.result ≡ r
+    → Followed (text d) (start d).args.pos r (start d).args.out.now d.print_use.new.out
 followed d r e =
     let a = (start d).args in
-    followed_as (ap (use-text a.piece.format a.at) d.before.before.use-octets.ensures) e d.print-use.ensures
+    followed_as (ap (use_text a.piece.format a.at) d.use_octets-octets.ensures) e d.print_use.ensures
 
-use-octets-requires : tie.Need-use-octets-requires
+use-octets-requires : tie.Need-use_octets-octets-requires
 use-octets-requires c κs = search rules
 
-print-use-requires : tie.Need-print-use-requires
+print-use-requires : tie.Need-print_use-requires
 print-use-requires c κs =
-    let first = c.before.before.before.before in
+    let first = c in
     let a = first.args in
     let q = first.requires in
     let long = octets_size a.piece.size a.at a.value.now in
-    let same = ap length c.before.use-octets.ensures in
+    let same = ap length c.use_octets-octets.ensures in
     (omega (arith, q), (omega (arith, q), (omega (arith, q), omega (arith, q))))
 
-enum-known-next : tie.Need-enum-known-next
+enum-known-next : tie.Need-enum_known-next
 enum-known-next c = search rules
 
-add-following-byte : tie.Need-overflow-add-following-byte
+add-following-byte : tie.Need-overflow_add-at
 add-following-byte c =
-    let start = c.before.before.before.before.before.before.before.before.before.before in
+    let start = c in
     omega (arith, start.requires, longest_small start.args.piece.format)
 
-following-byte-requires : tie.Need-following-byte-requires
+following-byte-requires : tie.Need-following_byte-mark-requires
 following-byte-requires c κs = search rules
 
-put-optional-requires : tie.Need-put-optional-requires
+put-optional-requires : tie.Need-put_optional-requires
 put-optional-requires c κs =
-    let d = c.before.before.before.before.before.before.before in
-    let given = c.before.before.before.next.given in
-    let long = octets_long d in
-    let at = followed_next (followed d (To given.0.0) given.1) in
-    let kept = d.print-use.auto.1.1.1.0 in
-    omega (arith, (start d).requires, text_short d, optional_size c.before.following-byte.result)
+    let d = c in
+    let long = octets_long d.before.before.before.before.before in
+    let at = followed_next (followed d.before.before.before.before.before (To c.in-To.next) c.in-To.is) in
+    let kept = d.print_use.auto.out in
+    omega (arith, (start d.before.before.before.before.before).requires, text_short d.before.before.before.before.before, optional_size c.following_byte-mark.result)
 
-enum-known-place : tie.Need-enum-known-place
+enum-known-place : tie.Need-enum_known-place
 enum-known-place c = search rules
 
-same_length : tie.Need-same-length
+same_length : tie.Need-shape_of-out-in-To
 same_length c = search rules
 
-returns : tie.Need-returns
+returns : tie.Need-returns-in-To
 unfolding Rattle.hint_piece.specs.Use.one_use
 returns c =
-    let d = c.before.before.before.before.before.before.before.before.before.before in
-    let given = c.before.before.before.before.before.before.next.given in
-    let long = octets_long d in
-    let byte = ap optional c.before.before.before.before.following-byte.ensures in
-    followed_joined (omega (arith, (start d).requires, text_short d)) (followed d (To given.0.0) given.1)
-    (wrote (wrote_as byte c.before.before.put-optional.ensures))
+    let d = c in
+    let long = octets_long d.before.before.before.before.before.before.before.before in
+    let byte = ap optional c.following_byte-mark.ensures in
+    followed_joined (omega (arith, (start d.before.before.before.before.before.before.before.before).requires, text_short d.before.before.before.before.before.before.before.before)) (followed d.before.before.before.before.before.before.before.before (To c.in-To.next) c.in-To.is)
+    (wrote (wrote_as byte c.put_optional.ensures))
 
-same-length-2 : tie.Need-same-length-2
+same-length-2 : tie.Need-shape_of-out-in-Fault
 same-length-2 c = search rules
 
-returns-2 : tie.Need-returns-2
+returns-2 : tie.Need-returns-in-Fault
 unfolding Rattle.hint_piece.specs.Use.one_use
 returns-2 c =
-    let d = c.before.before.before.before.before in
-    let a = (start d).args in
-    let given = c.before.place.given in
+    let d = c in
+    let a = (start d.before.before.before).args in
     followed_fault (printed (optional (following a.piece a.left a.value.now (a.at + a.piece.size))))
-    (followed d (Fault given.0.0) given.1)
+    (followed d.before.before.before (Fault c.in-Fault.place) c.in-Fault.is)
 
 pub print_one_spec : {M : Type 1} → statement M
 print_one_spec =

@@ -9,23 +9,27 @@ use Rattle.hint_piece.proofs.UsesLaws.{optional_none, optional_some}
 use Rattle.hint_piece.proofs.put_optional.Statement.{statement}
 use Rattle.hint_piece.proofs.put_optional.Tie as tie
 
-returns : tie.Need-returns
+returns : tie.Need-returns-then-b-eq0
 returns c =
-    let a = c.before.before.args in
-    wrote_as (sym (optional_none a.b c.if1.true)) (wrote_none a.out.now a.at)
+    let a = c.args in
+    wrote_as (sym (optional_none a.b c.if-b-eq0.true)) (wrote_none a.out.now a.at)
 
 put-requires : tie.Need-put-requires
 put-requires c κs =
-    let a = c.before.before.before.args in
-    omega (arith, ap length (optional_some a.b c.before.if1.false), c.before.before.before.requires)
+    let a = c.args in
+    omega (arith, ap length (optional_some a.b c.if-b-eq0.false), c.requires)
 
-same_length : tie.Need-same-length
+same_length : tie.Need-shape_of-out
 same_length c = search rules
 
-returns-2 : tie.Need-returns-2
+returns-2 : tie.Need-returns
 returns-2 c =
-    let some = c.before.before.before.before in
-    wrote_as (sym (optional_some some.before.before.args.b some.if1.false)) c.before.before.put.ensures
+    let some = c in
+    wrote_as (sym (optional_some some.args.b some.if-b-eq0.false)) c.put.ensures
 
 pub put_optional_spec : {M : Type 1} → statement M
-put_optional_spec = tie.close (tie.spec returns put-requires same_length returns-2)
+put_optional_spec = tie.close (tie.spec
+    returns
+    put-requires
+    same_length
+    returns-2)

@@ -9,58 +9,58 @@ use borrow.Author.Rules.{rules}
 use Rattle.name_kind.proofs.serves.Statement.{statement}
 use Rattle.name_kind.proofs.serves.Tie as tie
 
-enum_told : tie.Need-enum-told
+enum_told : tie.Need-enum_told-1
 enum_told c = search rules
 
-iso-serves-requires : tie.Need-iso-serves-requires
+iso-serves-requires : tie.Need-iso_serves-requires
 iso-serves-requires c κs = search rules
 
-enum-known-lead : tie.Need-enum-known-lead
+enum-known-lead : tie.Need-enum_known-lead
 enum-known-lead c = search rules
 
-symbol-serves-requires : tie.Need-symbol-serves-requires
+symbol-serves-requires : tie.Need-symbol_serves-requires
 symbol-serves-requires c κs = search rules
 
-enum-known-lead-2 : tie.Need-enum-known-lead-2
+enum-known-lead-2 : tie.Need-enum_known-lead-in-Definition-1
 enum-known-lead-2 c = search rules
 
-definition-at-requires : tie.Need-definition-at-requires
+definition-at-requires : tie.Need-definition_at-requires
 definition-at-requires c κs = search rules
 
-kind-serves-requires : tie.Need-kind-serves-requires
+kind-serves-requires : tie.Need-kind_serves-requires
 kind-serves-requires c κs = search rules
 
-enum-told-2 : tie.Need-enum-told-2
+enum-told-2 : tie.Need-enum_told-in-Nothing
 enum-told-2 c = search rules
 
-nothing-serves-requires : tie.Need-nothing-serves-requires
+nothing-serves-requires : tie.Need-nothing_serves-requires
 nothing-serves-requires c κs = search rules
 
-returns : tie.Need-returns
+returns : tie.Need-returns-in-Iso
 unfolding serves
 returns c =
-    let s = c.before.before.before.before in
-    c.iso_serves.ensures ∙ sym (ap (λ (l : Lead). serves (definitions_in s.args.definitions.now) l s.args.need) c.before.enum_told.given.1)
+    let s = c in
+    c.iso_serves.ensures ∙ sym (ap (λ (l : Lead). serves (definitions_in s.args.definitions.now) l s.args.need) c.in-Iso.is)
 
-returns-2 : tie.Need-returns-2
+returns-2 : tie.Need-returns-in-Import
 unfolding serves
 returns-2 c =
-    let s = c.before.before.before.before.before in
-    c.symbol_serves.ensures ∙ sym (ap (λ (l : Lead). serves (definitions_in s.args.definitions.now) l s.args.need) c.before.before.lead.given.1)
+    let s = c in
+    c.symbol_serves.ensures ∙ sym (ap (λ (l : Lead). serves (definitions_in s.args.definitions.now) l s.args.need) c.in-Import.is)
 
-returns-3 : tie.Need-returns-3
+returns-3 : tie.Need-returns-in-Definition
 unfolding serves
 returns-3 c =
-    let s = c.before.before.before.before.before.before in
+    let s = c in
     c.kind_serves.ensures
-    ∙ ap (λ (d : Defined). kind_serves d.kind s.args.need) c.before.definition-at.ensures
-    ∙ sym (ap (λ (l : Lead). serves (definitions_in s.args.definitions.now) l s.args.need) c.before.before.before.lead2.given.1)
+    ∙ ap (λ (d : Defined). kind_serves d.kind s.args.need) c.definition_at.ensures
+    ∙ sym (ap (λ (l : Lead). serves (definitions_in s.args.definitions.now) l s.args.need) c.in-Definition.is)
 
-returns-4 : tie.Need-returns-4
+returns-4 : tie.Need-returns-in-Nothing
 unfolding serves
 returns-4 c =
-    let s = c.before.before.before.before in
-    c.nothing_serves.ensures ∙ sym (ap (λ (l : Lead). serves (definitions_in s.args.definitions.now) l s.args.need) c.before.enum-told2.given.1)
+    let s = c in
+    c.nothing_serves.ensures ∙ sym (ap (λ (l : Lead). serves (definitions_in s.args.definitions.now) l s.args.need) c.in-Nothing.is)
 
 pub serves_spec : {M : Type 1} → statement M
 serves_spec =

@@ -9,81 +9,81 @@ use borrow.Author.Rules.{rules}
 use Rattle.name_kind.proofs.symbol_serves.Statement.{statement}
 use Rattle.name_kind.proofs.symbol_serves.Tie as tie
 
-sort-at-requires : tie.Need-sort-at-requires
+sort-at-requires : tie.Need-sort_at-sort-requires
 sort-at-requires c κs = search rules
 
-enum_told : tie.Need-enum-told
+enum_told : tie.Need-enum_told-1
 enum_told c = search rules
 
-enum-told-2 : tie.Need-enum-told-2
+enum-told-2 : tie.Need-enum_told-in-Macro
 enum-told-2 c = search rules
 
-is-macro-sort-requires : tie.Need-is-macro-sort-requires
+is-macro-sort-requires : tie.Need-is_macro_sort-requires
 is-macro-sort-requires c κs = search rules
 
-enum-told-3 : tie.Need-enum-told-3
+enum-told-3 : tie.Need-enum_told-in-TypeName
 enum-told-3 c = search rules
 
-is-type-sort-requires : tie.Need-is-type-sort-requires
+is-type-sort-requires : tie.Need-is_type_sort-requires
 is-type-sort-requires c κs = search rules
 
-enum-told-4 : tie.Need-enum-told-4
+enum-told-4 : tie.Need-enum_told-in-ObjectType
 enum-told-4 c = search rules
 
-is-type-sort-requires-2 : tie.Need-is-type-sort-requires-2
+is-type-sort-requires-2 : tie.Need-is_type_sort-requires-in-ObjectType
 is-type-sort-requires-2 c κs = search rules
 
-enum-told-5 : tie.Need-enum-told-5
+enum-told-5 : tie.Need-enum_told-in-Head
 enum-told-5 c = search rules
 
-is-oid-sort-requires : tie.Need-is-oid-sort-requires
+is-oid-sort-requires : tie.Need-is_oid_sort-requires
 is-oid-sort-requires c κs = search rules
 
-enum-told-6 : tie.Need-enum-told-6
+enum-told-6 : tie.Need-enum_told-in-Object
 enum-told-6 c = search rules
 
-enum-told-7 : tie.Need-enum-told-7
+enum-told-7 : tie.Need-enum_told-in-Sequence
 enum-told-7 c = search rules
 
-returns : tie.Need-returns
+returns : tie.Need-returns-in-NoName
 returns c = search rules
 
-returns-2 : tie.Need-returns-2
+returns-2 : tie.Need-returns-in-Macro
 returns-2 c =
-    let s = c.before.before.before.before in
+    let s = c in
     c.is_macro_sort.ensures
-    ∙ ap is_macro_sort c.before.before.before.sort-at.ensures
+    ∙ ap is_macro_sort c.sort_at-sort.ensures
     ∙ macro_sort (what_is s.args.k)
-    ∙ sym (ap (symbol_serves (what_is s.args.k)) c.before.enum-told2.given.1)
+    ∙ sym (ap (symbol_serves (what_is s.args.k)) c.in-Macro.is)
 
-returns-3 : tie.Need-returns-3
+returns-3 : tie.Need-returns-in-TypeName
 returns-3 c =
-    let s = c.before.before.before.before in
+    let s = c in
     c.is_type_sort.ensures
-    ∙ ap is_type_sort c.before.before.before.sort-at.ensures
+    ∙ ap is_type_sort c.sort_at-sort.ensures
     ∙ type_sort (what_is s.args.k)
-    ∙ sym (ap (symbol_serves (what_is s.args.k)) c.before.enum-told3.given.1)
+    ∙ sym (ap (symbol_serves (what_is s.args.k)) c.in-TypeName.is)
 
-returns-4 : tie.Need-returns-4
+returns-4 : tie.Need-returns-in-ObjectType
 returns-4 c =
-    let s = c.before.before.before.before in
-    c.is-type-sort2.ensures
-    ∙ ap is_type_sort c.before.before.before.sort-at.ensures
+    let s = c in
+    c.is_type_sort-in-ObjectType.ensures
+    ∙ ap is_type_sort c.sort_at-sort.ensures
     ∙ type_sort (what_is s.args.k)
-    ∙ sym (ap (symbol_serves (what_is s.args.k)) c.before.enum-told4.given.1)
+    ∙ sym (ap (symbol_serves (what_is s.args.k)) c.in-ObjectType.is)
 
-returns-5 : tie.Need-returns-5
+returns-5 : tie.Need-returns-in-Head
 returns-5 c =
-    let s = c.before.before.before.before in
+    let s = c in
     c.is_oid_sort.ensures
-    ∙ ap is_oid_sort c.before.before.before.sort-at.ensures
+    ∙ ap is_oid_sort c.sort_at-sort.ensures
     ∙ oid_sort (what_is s.args.k)
-    ∙ sym (ap (symbol_serves (what_is s.args.k)) c.before.enum-told5.given.1)
+    ∙ sym (ap (symbol_serves (what_is s.args.k)) c.in-Head.is)
 
-returns-6 : tie.Need-returns-6
+returns-6 : tie.Need-returns-in-Object
 returns-6 c = search rules
 
-returns-7 : tie.Need-returns-7
+returns-7 : tie.Need-returns-in-Sequence
 returns-7 c = search rules
 
 pub symbol_serves_spec : {M : Type 1} → statement M

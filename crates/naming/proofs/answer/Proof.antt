@@ -6,17 +6,21 @@ use borrow.Author.Rules.{rules}
 use Rattle.naming.proofs.answer.Statement.{statement}
 use Rattle.naming.proofs.answer.Tie as tie
 
-enum_told : tie.Need-enum-told
+enum_told : tie.Need-enum_told-1
 enum_told c = search rules
 
-enum-known-judged : tie.Need-enum-known-judged
+enum-known-judged : tie.Need-enum_known-judged
 enum-known-judged c = search rules
 
-returns : tie.Need-returns
-returns c = sym (ap (answer_of c.before.before.args.count) c.enum_told.given.1)
+returns : tie.Need-returns-in-Kept
+returns c = sym (ap (answer_of c.args.count) c.in-Kept.is)
 
-returns-2 : tie.Need-returns-2
-returns-2 c = sym (ap (answer_of c.before.before.before.args.count) c.before.judged.given.1)
+returns-2 : tie.Need-returns-in-Broken
+returns-2 c = sym (ap (answer_of c.args.count) c.in-Broken.is)
 
 pub answer_spec : {M : Type 1} → statement M
-answer_spec = tie.close (tie.spec enum_told enum-known-judged returns returns-2)
+answer_spec = tie.close (tie.spec
+    enum_told
+    enum-known-judged
+    returns
+    returns-2)

@@ -12,7 +12,7 @@ use Rattle.token.specs.Cut.{meanings_in}
 use Rattle.scope.specs.Import.{imports_end}
 use Rattle.scope.specs.Held.{ImportsHeld}
 use Rattle.scope.proofs.Tokens.{classes_are, said_counted, held_said}
-use Rattle.naming.specs.Rules.{not_offered, use-rules, after_count}
+use Rattle.naming.specs.Rules.{not_offered, use_rules, after_count}
 use Rattle.naming.specs.Told.{ImportsFilled, UsesFilled}
 use Rattle.naming.proofs.Named.{names_distinct, all_offered, imports_held, all_values}
 use Rattle.naming.proofs.Reading.{broken_filled}
@@ -21,130 +21,130 @@ use Rattle.naming.proofs.judge_names.Statement.{statement}
 use Rattle.naming.proofs.judge_names.Tie as tie
 
 abbrev First : Type 0
-First = tie.After-judge-introduced
+First = tie.After-judge_introduced-introduced
 
 abbrev Second : Type 0
-Second = tie.After-judge-offers
+Second = tie.After-judge_offers-offers
 
 abbrev Third : Type 0
-Third = tie.After-judge-uses
+Third = tie.After-judge_uses-uses
 
 abbrev start_of : First → tie.Start
 start_of j = j.before.before.before.before.before.before.before.before
 
 abbrev first_of : Second → First
-first_of j = j.before.before.before.before.before.before
+first_of j = j.before.before.before.before.before
 
 abbrev second_of : Third → Second
-second_of j = j.before.before.before.before.before.before
+second_of j = j.before.before.before.before.before
 
 abbrev said_by : First → List Meaning
 said_by j = meanings_in (start_of j).args.text.now
 
 -- each step leaves as many values as there were
-long₂ : (j : Second) → length j.judge-offers.new.1.1.1.1.0 ≡ length (start_of (first_of j)).args.values.now
-long₂ j = j.judge-offers.ensures.0 ∙ (first_of j).judge-introduced.ensures.0
+long₂ : (j : Second) → length j.judge_offers-offers.new.values ≡ length (start_of (first_of j)).args.values.now
+long₂ j = j.judge_offers-offers.ensures.0 ∙ (first_of j).judge_introduced-introduced.ensures.0
 
-long₃ : (j : Third) → length j.judge-uses.new.1.1.1.1.0 ≡ length (start_of (first_of (second_of j))).args.values.now
-long₃ j = j.judge-uses.ensures.0 ∙ long₂ (second_of j)
+long₃ : (j : Third) → length j.judge_uses-uses.new.values ≡ length (start_of (first_of (second_of j))).args.values.now
+long₃ j = j.judge_uses-uses.ensures.0 ∙ long₂ (second_of j)
 
 -- each step that finds its rule kept leaves the rules after it to judge
-after₁ : (j : Second) → judge (after_count (said_by (first_of j))) ≡ judge (not_offered (said_by (first_of j)) ∷ use-rules (said_by (first_of j)))
-after₁ j = kept_next _ _ _ (first_of j).judge-introduced.ensures.1 j.before.before.enum_told.given.1
+after₁ : (j : Second) → judge (after_count (said_by (first_of j))) ≡ judge (not_offered (said_by (first_of j)) ∷ use_rules (said_by (first_of j)))
+after₁ j = kept_next _ _ _ (first_of j).judge_introduced-introduced.ensures.1 j.in-Kept.is
 
-after₂ : (j : Third) → judge (after_count (said_by (first_of (second_of j)))) ≡ judge (use-rules (said_by (first_of (second_of j))))
-after₂ j = after₁ (second_of j) ∙ kept_next _ _ _ (second_of j).judge-offers.ensures.1.0 j.before.before.enum-told3.given.1
+after₂ : (j : Third) → judge (after_count (said_by (first_of (second_of j)))) ≡ judge (use_rules (said_by (first_of (second_of j))))
+after₂ j = after₁ (second_of j) ∙ kept_next _ _ _ (second_of j).judge_offers-offers.ensures.1.0 j.in-Kept-offers.is
 
-judge-introduced-requires : tie.Need-judge-introduced-requires
+judge-introduced-requires : tie.Need-judge_introduced-introduced-requires
 judge-introduced-requires c κs = search rules
 
-enum_told : tie.Need-enum-told
+enum_told : tie.Need-enum_told-1
 enum_told c = search rules
 
-enum-told-2 : tie.Need-enum-told-2
+enum-told-2 : tie.Need-enum_told-in_default
 enum-told-2 c = search rules
 
-same_length : tie.Need-same-length
+same_length : tie.Need-shape_of-values-in_default
 same_length c = search rules
 
-returns : tie.Need-returns
+returns : tie.Need-returns-in_default
 returns c =
-    let j = c.before.before.before.before in
-    let is = j.judge-introduced.ensures.1 in
-    (j.judge-introduced.ensures.0, (broken_first _ _ _ is _ c.enum-told2.given.1, broken_filled _ _ _ _ c.enum-told2.given.1))
+    let j = c in
+    let is = j.judge_introduced-introduced.ensures.1 in
+    (j.judge_introduced-introduced.ensures.0, (broken_first _ _ _ is _ c.in_default.is, broken_filled _ _ _ _ c.in_default.is))
 
-judge-offers-requires : tie.Need-judge-offers-requires
+judge-offers-requires : tie.Need-judge_offers-offers-requires
 judge-offers-requires c κs = search rules
 
-enum-told-3 : tie.Need-enum-told-3
+enum-told-3 : tie.Need-enum_told-in-Kept-offers
 enum-told-3 c = search rules
 
-enum-told-4 : tie.Need-enum-told-4
+enum-told-4 : tie.Need-enum_told-in_default-offers
 enum-told-4 c = search rules
 
-same-length-2 : tie.Need-same-length-2
+same-length-2 : tie.Need-shape_of-values-in_default-offers
 same-length-2 c = search rules
 
-returns-2 : tie.Need-returns-2
+returns-2 : tie.Need-returns-in_default-offers
 returns-2 c =
-    let j = c.before.before.before.before in
-    let is = j.judge-offers.ensures.1.0 in
-    (long₂ j, (broken_first _ _ _ is _ c.enum-told4.given.1 ∙ sym (after₁ j), broken_filled _ _ _ _ c.enum-told4.given.1))
+    let j = c in
+    let is = j.judge_offers-offers.ensures.1.0 in
+    (long₂ j.before.before.before, (broken_first _ _ _ is _ c.in_default-offers.is ∙ sym (after₁ j.before.before.before), broken_filled _ _ _ _ c.in_default-offers.is))
 
-judge-uses-requires : tie.Need-judge-uses-requires
+judge-uses-requires : tie.Need-judge_uses-uses-requires
 judge-uses-requires c κs =
-    let j = c.before.before.before.before.before in
-    let s = start_of (first_of j) in
-    let all = long₂ j ∙ s.pre.1.0 in
-    let cs = classes_are _ _ _ _ s.pre.0 in
-    let filled = subst (λ (x : Judgement). ImportsFilled (meanings_in s.args.text.now) x j.judge-offers.new.1.1.1.1.0) c.before.enum-told3.given.1 j.judge-offers.ensures.1.1 in
-    let offers = all_offered _ (sym c.before.enum-told3.given.1 ∙ j.judge-offers.ensures.1.0) in
-    let imports = imports_held _ _ _ (held_said _ _ _ _ s.pre.0) offers _ (all ∙ ap length cs) filled in
-    (s.pre.0, (all, (subst (λ (l : List ℕ). ImportsHeld (meanings_in s.args.text.now) (take (imports_end l) j.judge-offers.new.1.1.1.1.0)) (sym cs) imports, (s.pre.1.1.0, (s.pre.1.1.1, names_distinct _ (sym j.before.before.enum_told.given.1 ∙ (first_of j).judge-introduced.ensures.1))))))
+    let j = c in
+    let s = start_of (first_of j.before.before.before.before) in
+    let all = long₂ j.before.before.before.before ∙ s.requires.1.0 in
+    let cs = classes_are _ _ _ _ s.requires.0 in
+    let filled = subst (λ (x : Judgement). ImportsFilled (meanings_in s.args.text.now) x j.judge_offers-offers.new.values) c.in-Kept-offers.is j.judge_offers-offers.ensures.1.1 in
+    let offers = all_offered _ (sym c.in-Kept-offers.is ∙ j.judge_offers-offers.ensures.1.0) in
+    let imports = imports_held _ _ _ (held_said _ _ _ _ s.requires.0) offers _ (all ∙ ap length cs) filled in
+    (s.requires.0, (all, (subst (λ (l : List ℕ). ImportsHeld (meanings_in s.args.text.now) (take (imports_end l) j.judge_offers-offers.new.values)) (sym cs) imports, (s.requires.1.1.0, (s.requires.1.1.1, names_distinct _ (sym j.in-Kept.is ∙ (first_of j.before.before.before.before).judge_introduced-introduced.ensures.1))))))
 
-enum-told-5 : tie.Need-enum-told-5
+enum-told-5 : tie.Need-enum_told-in-Kept-uses
 enum-told-5 c = search rules
 
-enum-told-6 : tie.Need-enum-told-6
+enum-told-6 : tie.Need-enum_told-in_default-uses
 enum-told-6 c = search rules
 
-same-length-3 : tie.Need-same-length-3
+same-length-3 : tie.Need-shape_of-values-in_default-uses
 same-length-3 c = search rules
 
-returns-3 : tie.Need-returns-3
+returns-3 : tie.Need-returns-in_default-uses
 returns-3 c =
-    let j = c.before.before.before.before in
-    let is = j.judge-uses.ensures.1.0 in
-    (long₃ j, (is ∙ sym (after₂ j), broken_filled _ _ _ _ c.enum-told6.given.1))
+    let j = c in
+    let is = j.judge_uses-uses.ensures.1.0 in
+    (long₃ j.before.before.before, (is ∙ sym (after₂ j.before.before.before), broken_filled _ _ _ _ c.in_default-uses.is))
 
-fill-numbers-requires : tie.Need-fill-numbers-requires
+fill-numbers-requires : tie.Need-fill_numbers-requires
 fill-numbers-requires c κs =
-    let j = c.before.before.before.before.before in
-    let s = start_of (first_of (second_of j)) in
-    (s.pre.0, long₃ j ∙ s.pre.1.0)
+    let j = c in
+    let s = start_of (first_of (second_of j.before.before.before.before)) in
+    (s.requires.0, long₃ j.before.before.before.before ∙ s.requires.1.0)
 
-same-length-4 : tie.Need-same-length-4
+same-length-4 : tie.Need-shape_of-values
 same-length-4 c = search rules
 
-returns-4 : tie.Need-returns-4
+returns-4 : tie.Need-returns
 returns-4 c =
-    let f = c.before.before in
-    let j₃ = f.before.before.before.before.before.before in
-    let j₂ = second_of j₃ in
+    let f = c in
+    let j₃ = f in
+    let j₂ = second_of j₃.before.before.before.before.before.before.before in
     let j₁ = first_of j₂ in
     let s = start_of j₁ in
     let ms = meanings_in s.args.text.now in
-    let kept₁ = j₂.before.before.enum_told.given.1 in
-    let kept₂ = j₃.before.before.enum-told3.given.1 in
-    let kept₃ = f.before.before.enum-told5.given.1 in
-    let long = f.fill-numbers.ensures.0 ∙ long₃ j₃ in
-    let counted = s.pre.1.0 ∙ sym (said_counted _ _ _ _ s.pre.0) in
-    let values = all_values _ _ _ (held_said _ _ _ _ s.pre.0) _ _ _ (sym kept₁ ∙ j₁.judge-introduced.ensures.1)
-    (all_offered _ (sym kept₂ ∙ j₂.judge-offers.ensures.1.0))
-    (subst (λ (x : Judgement). ImportsFilled (meanings_in s.args.text.now) x j₂.judge-offers.last.1.1.1.1.0) kept₂ j₂.judge-offers.ensures.1.1)
-    (subst (λ (x : Judgement). UsesFilled (meanings_in s.args.text.now) x j₂.judge-offers.last.1.1.1.1.0 j₃.judge-uses.new.1.1.1.1.0) kept₃ j₃.judge-uses.ensures.1.1)
-    f.fill-numbers.ensures.1 (long₃ j₃ ∙ counted) (long ∙ counted) in
-    (long, (sym kept₃ ∙ j₃.judge-uses.ensures.1.0 ∙ sym (after₂ j₃), values))
+    let kept₁ = j₂.in-Kept.is in
+    let kept₂ = j₃.in-Kept-offers.is in
+    let kept₃ = f.in-Kept-uses.is in
+    let long = f.fill_numbers.ensures.0 ∙ long₃ j₃.before.before.before.before.before.before.before in
+    let counted = s.requires.1.0 ∙ sym (said_counted _ _ _ _ s.requires.0) in
+    let values = all_values _ _ _ (held_said _ _ _ _ s.requires.0) _ _ _ (sym kept₁ ∙ j₁.judge_introduced-introduced.ensures.1)
+    (all_offered _ (sym kept₂ ∙ j₂.judge_offers-offers.ensures.1.0))
+    (subst (λ (x : Judgement). ImportsFilled (meanings_in s.args.text.now) x j₂.judge_offers-offers.new.values) kept₂ j₂.judge_offers-offers.ensures.1.1)
+    (subst (λ (x : Judgement). UsesFilled (meanings_in s.args.text.now) x j₂.judge_offers-offers.new.values j₃.judge_uses-uses.new.values) kept₃ j₃.judge_uses-uses.ensures.1.1)
+    f.fill_numbers.ensures.1 (long₃ j₃.before.before.before.before.before.before.before ∙ counted) (long ∙ counted) in
+    (long, (sym kept₃ ∙ j₃.judge_uses-uses.ensures.1.0 ∙ sym (after₂ j₃.before.before.before.before.before.before.before), values))
 
 pub judge_names_spec : {M : Type 1} → statement M
 judge_names_spec =

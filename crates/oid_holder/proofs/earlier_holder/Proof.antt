@@ -9,36 +9,36 @@ use Rattle.oid_holder.specs.Holder.{holds_oid}
 use Rattle.oid_holder.proofs.earlier_holder.Statement.{statement}
 use Rattle.oid_holder.proofs.earlier_holder.Tie as tie
 
-abbrev invariant-loop : tie.invariant-loop
+abbrev invariant-loop : tie.invariant-loop-j
 invariant-loop definitions numbers k end j₀ j = Searched (holds_oid (definitions_in definitions) numbers k.0) 0 end j
 
-abbrev decreases-loop : tie.decreases-loop
+abbrev decreases-loop : tie.decreases-loop-j
 decreases-loop definitions numbers k end j₀ j = end - j
 
-loop-holds : tie.Need-loop-init invariant-loop decreases-loop
+loop-holds : tie.Need-loop-j-init invariant-loop decreases-loop
 loop-holds c = searched_start _ 0 _ (omega arith)
 
-holds-oid-requires : tie.Need-holds-oid-requires invariant-loop decreases-loop
+holds-oid-requires : tie.Need-holds_oid-requires invariant-loop decreases-loop
 holds-oid-requires c κs = tt
 
-returns : tie.Need-returns invariant-loop decreases-loop
+returns : tie.Need-returns-then-holds_oid invariant-loop decreases-loop
 returns c =
-    let t = c.before.before in
-    searched_hit _ _ _ _ t.before.loop.invariant t.loop-test.true (sym c.before.holds_oid.ensures ∙ c.if1.true)
+    let t = c in
+    searched_hit _ _ _ _ t.loop-j.invariant t.loop-j-test.true (sym c.holds_oid.ensures ∙ c.if-holds_oid.true)
 
-add-j : tie.Need-overflow-add-j invariant-loop decreases-loop
-add-j c = omega (arith, c.before.before.loop-test.true)
+add-j : tie.Need-overflow_add-j invariant-loop decreases-loop
+add-j c = omega (arith, c.loop-j-test.true)
 
-loop-less : tie.Need-loop-smaller invariant-loop decreases-loop
-loop-less c = omega (arith, c.before.before.loop-test.true)
+loop-less : tie.Need-loop-j-smaller invariant-loop decreases-loop
+loop-less c = omega (arith, c.loop-j-test.true)
 
-loop-again : tie.Need-loop-preserved invariant-loop decreases-loop
+loop-again : tie.Need-loop-j-preserved invariant-loop decreases-loop
 loop-again c =
-    let t = c.before.before in
-    searched_miss _ _ _ _ t.before.loop.invariant t.loop-test.true (sym c.before.holds_oid.ensures ∙ c.if1.false)
+    let t = c in
+    searched_miss _ _ _ _ t.loop-j.invariant t.loop-j-test.true (sym c.holds_oid.ensures ∙ c.if-holds_oid.false)
 
-returns-2 : tie.Need-returns-2 invariant-loop decreases-loop
-returns-2 c = searched_end _ _ _ _ c.before.loop.invariant c.loop-test.false
+returns-2 : tie.Need-returns invariant-loop decreases-loop
+returns-2 c = searched_end _ _ _ _ c.loop-j.invariant c.loop-j-test.false
 
 pub earlier_holder_spec : {M : Type 1} → statement M
 earlier_holder_spec =

@@ -11,30 +11,30 @@ use borrow.Author.Rules.{rules}
 use Rattle.oid_holder.proofs.holds_oid.Statement.{statement}
 use Rattle.oid_holder.proofs.holds_oid.Tie as tie
 
-definition-at-requires : tie.Need-definition-at-requires
+definition-at-requires : tie.Need-definition_at-d-requires
 definition-at-requires c κs = search rules
 
-is-holder-requires : tie.Need-is-holder-requires
+is-holder-requires : tie.Need-is_holder-requires
 is-holder-requires c κs = search rules
 
-definition-at-requires-2 : tie.Need-definition-at-requires-2
+definition-at-requires-2 : tie.Need-definition_at-requires
 definition-at-requires-2 c κs = search rules
 
-same-oid-requires : tie.Need-same-oid-requires
+same-oid-requires : tie.Need-same_oid-requires
 same-oid-requires c κs = search rules
 
 returns : tie.Need-returns
 returns c =
-    let k = c.before in
-    let h = k.before in
-    let j = h.before in
-    let s = j.before.before.before in
+    let k = c in
+    let h = k in
+    let j = h in
+    let s = j in
     let numbers = s.args.numbers.now in
     let own = oid_in numbers (entry (definitions_in s.args.definitions.now) s.args.k.0) in
-    ap (λ (b : Bool). b && c.same-oid.result) h.is_holder.ensures
-    ∙ ap (λ (b : Bool). is_holder j.definition-at.result && b) c.same-oid.ensures
-    ∙ ap (λ (d : Definition). is_holder j.definition-at.result && same (oid_in numbers j.definition-at.result) (oid_in numbers d)) k.definition-at2.ensures
-    ∙ ap (λ (d : Definition). is_holder d && same (oid_in numbers d) own) j.definition-at.ensures
+    ap (λ (b : Bool). b && c.same_oid.result) h.is_holder.ensures
+    ∙ ap (λ (b : Bool). is_holder j.definition_at-d.result && b) c.same_oid.ensures
+    ∙ ap (λ (d : Definition). is_holder j.definition_at-d.result && same (oid_in numbers j.definition_at-d.result) (oid_in numbers d)) k.definition_at.ensures
+    ∙ ap (λ (d : Definition). is_holder d && same (oid_in numbers d) own) j.definition_at-d.ensures
 
 pub holds_oid_spec : {M : Type 1} → statement M
 holds_oid_spec =

@@ -18,15 +18,15 @@ use Rattle.oid_holder.proofs.Twins.{holds_alike}
 use Rattle.oid_holder.proofs.is_held_before.Statement.{statement}
 use Rattle.oid_holder.proofs.is_held_before.Tie as tie
 
-abbrev invariant-loop : tie.invariant-loop
+abbrev invariant-loop : tie.invariant-loop-at
 invariant-loop definitions numbers k heads links key at₀ at =
     Walking (key_at (definitions_in definitions) numbers) (holds_oid (definitions_in definitions) numbers k.0) key k.0 at
 
-abbrev decreases-loop : tie.decreases-loop
+abbrev decreases-loop : tie.decreases-loop-at
 decreases-loop definitions numbers k heads links key at₀ at = at
 
-abbrev start : tie.In-loop invariant-loop decreases-loop → tie.Start invariant-loop decreases-loop
-start t = t.before.before.before.before.before
+abbrev start : tie.In-loop-at invariant-loop decreases-loop → tie.Start invariant-loop decreases-loop
+start t = t.before.before.before.before.before.before
 
 -- the keys of the definitions, and which hold the OID
 abbrev all : tie.Start invariant-loop decreases-loop → List Definition
@@ -46,57 +46,57 @@ alike : (s : tie.Start invariant-loop decreases-loop) (j : ℕ) → j < s.args.k
 alike s j h e = ap list_key (holds_alike (all s) s.args.numbers.now _ j e) ∙ sym s.requires.1.1
 
 -- the definition that the walk is at
-here : (t : tie.In-loop invariant-loop decreases-loop) → t.before.loop.at ≡ suc (t.before.loop.at - 1)
-here t = omega (arith, t.loop-test.true)
+here : (t : tie.In-loop-at invariant-loop decreases-loop) → t.loop-at.at ≡ suc (t.loop-at.at - 1)
+here t = omega (arith, t.loop-at-test.true)
 
-below : (t : tie.In-loop invariant-loop decreases-loop) → t.before.loop.at - 1 < (start t).args.k.0
-below t = omega (arith, t.loop-test.true, t.before.loop.invariant.inside)
+below : (t : tie.In-loop-at invariant-loop decreases-loop) → t.loop-at.at - 1 < (start t).args.k.0
+below t = omega (arith, t.loop-at-test.true, t.loop-at.invariant.inside)
 
-mul_at : tie.Need-overflow-mul-at invariant-loop decreases-loop
+mul_at : tie.Need-offset_bounds-heads-key invariant-loop decreases-loop
 mul_at c = omega (arith, key_inside c.before.before)
 
-element-copy-out-at : tie.Need-element-copy-out-at invariant-loop decreases-loop
-element-copy-out-at c = key_inside c.before.before
+element-copy-out-at : tie.Need-bounds-heads-key invariant-loop decreases-loop
+element-copy-out-at c = key_inside c.before.before.before
 
-loop-holds : tie.Need-loop-init invariant-loop decreases-loop
+loop-holds : tie.Need-loop-at-init invariant-loop decreases-loop
 loop-holds c =
-    let s = c.before.before.before in
-    walking_start (keys s) (holders s) _ _ (alike s) _ _ s.requires.1.0 (key_inside s) _ refl
+    let s = c in
+    walking_start (keys s.before.before.before.before) (holders s.before.before.before.before) _ _ (alike s.before.before.before.before) _ _ s.requires.1.0 (key_inside s.before.before.before.before) _ refl
 
-sub-j : tie.Need-overflow-sub-j invariant-loop decreases-loop
+sub-j : tie.Need-overflow_sub-j invariant-loop decreases-loop
 sub-j c = search rules
 
-holds-oid-requires : tie.Need-holds-oid-requires invariant-loop decreases-loop
+holds-oid-requires : tie.Need-holds_oid-requires invariant-loop decreases-loop
 holds-oid-requires c κs = tt
 
-returns : tie.Need-returns invariant-loop decreases-loop
+returns : tie.Need-returns-then-holds_oid invariant-loop decreases-loop
 returns c =
-    let t = c.before.before in
-    walking_hit t.before.loop.invariant _ (here t) (sym c.before.holds_oid.ensures ∙ c.if1.true)
+    let t = c in
+    walking_hit t.loop-at.invariant _ (here t.before.before) (sym c.holds_oid.ensures ∙ c.if-holds_oid.true)
 
-mul-at-2 : tie.Need-overflow-mul-at-2 invariant-loop decreases-loop
+mul-at-2 : tie.Need-offset_bounds-links-j invariant-loop decreases-loop
 mul-at-2 c = search rules
 
-element-copy-out-at-2 : tie.Need-element-copy-out-at-2 invariant-loop decreases-loop
+element-copy-out-at-2 : tie.Need-bounds-links-j invariant-loop decreases-loop
 element-copy-out-at-2 c =
-    let t = c.before.before in
-    omega (arith, below t, (start t).requires.0)
+    let t = c in
+    omega (arith, below t.before.before.before, (start t.before.before.before).requires.0)
 
-loop-less : tie.Need-loop-smaller invariant-loop decreases-loop
+loop-less : tie.Need-loop-at-smaller invariant-loop decreases-loop
 loop-less c =
-    let t = c.before.before.before in
-    let s = start t in
-    walking_falls (keys s) (holders s) _ _ (alike s) _ _ s.pre.1.0 _ _ t.before.loop.invariant (here t)
+    let t = c in
+    let s = start t.before.before.before.before in
+    walking_falls (keys s) (holders s) _ _ (alike s) _ _ s.requires.1.0 _ _ t.loop-at.invariant (here t.before.before.before.before)
 
-loop-again : tie.Need-loop-preserved invariant-loop decreases-loop
+loop-again : tie.Need-loop-at-preserved invariant-loop decreases-loop
 loop-again c =
-    let e = c.before in
-    let t = e.before.before in
-    let s = start t in
-    walking_next (keys s) (holders s) _ _ (alike s) _ _ s.pre.1.0 _ _ t.before.loop.invariant (here t) (sym e.before.holds_oid.ensures ∙ e.if1.false) _ refl
+    let e = c in
+    let t = e in
+    let s = start t.before.before.before.before in
+    walking_next (keys s) (holders s) _ _ (alike s) _ _ s.requires.1.0 _ _ t.loop-at.invariant (here t.before.before.before.before) (sym e.holds_oid.ensures ∙ e.if-holds_oid.false) _ refl
 
-returns-2 : tie.Need-returns-2 invariant-loop decreases-loop
-returns-2 c = walking_end c.before.loop.invariant c.loop-test.false
+returns-2 : tie.Need-returns invariant-loop decreases-loop
+returns-2 c = walking_end c.loop-at.invariant c.loop-at-test.false
 
 pub is_held_before_spec : {M : Type 1} → statement M
 is_held_before_spec =

@@ -10,23 +10,27 @@ use borrow.Author.Rules.{rules}
 use Rattle.oid_holder.proofs.same_oid.Statement.{statement}
 use Rattle.oid_holder.proofs.same_oid.Tie as tie
 
-run-of-requires : tie.Need-run-of-requires
+run-of-requires : tie.Need-run_of-requires
 run-of-requires c κs = search rules
 
-run-of-requires-2 : tie.Need-run-of-requires-2
+run-of-requires-2 : tie.Need-run_of-requires-2
 run-of-requires-2 c κs = search rules
 
 same-requires : tie.Need-same-requires
-same-requires c κs = (c.before.run_of.ensures.inside, c.run-of2.ensures.inside)
+same-requires c κs = (c.run_of.ensures.inside, c.run_of-2.ensures.inside)
 
 returns : tie.Need-returns
 returns c =
-    let b = c.before in
-    let a = b.before in
-    let s = a.before.before in
+    let b = c in
+    let a = b in
+    let s = a in
     let numbers = s.args.numbers.now in
-    c.same.ensures ∙ ap (λ (l : List ℕ). same l (run numbers b.run-of2.result.from.0 b.run-of2.result.count)) a.run_of.ensures.held
-    ∙ ap (same (oid_in numbers s.args.a)) b.run-of2.ensures.held
+    c.same.ensures ∙ ap (λ (l : List ℕ). same l (run numbers b.run_of-2.result.from.0 b.run_of-2.result.count)) a.run_of.ensures.held
+    ∙ ap (same (oid_in numbers s.args.a)) b.run_of-2.ensures.held
 
 pub same_oid_spec : {M : Type 1} → statement M
-same_oid_spec = tie.close (tie.spec run-of-requires run-of-requires-2 same-requires returns)
+same_oid_spec = tie.close (tie.spec
+    run-of-requires
+    run-of-requires-2
+    same-requires
+    returns)

@@ -8,28 +8,32 @@ use borrow.Author.Rules.{rules}
 use Rattle.oid_holder.proofs.twin_at.Statement.{statement}
 use Rattle.oid_holder.proofs.twin_at.Tie as tie
 
-definition-at-requires : tie.Need-definition-at-requires
+definition-at-requires : tie.Need-definition_at-own-requires
 definition-at-requires c κs = search rules
 
-earlier-holder-requires : tie.Need-earlier-holder-requires
+earlier-holder-requires : tie.Need-earlier_holder-requires
 earlier-holder-requires c κs = search rules
 
-definition-at-requires-2 : tie.Need-definition-at-requires-2
+definition-at-requires-2 : tie.Need-definition_at-first-requires
 definition-at-requires-2 c κs = search rules
 
 returns : tie.Need-returns
 unfolding held_twice
 returns c =
-    let f = c.before.before in
-    let e = f.before in
-    let k = e.before in
-    let s = k.before.before.before in
+    let f = c in
+    let e = f in
+    let k = e in
+    let s = k in
     let ds = definitions_in s.args.definitions.now in
-    ap (λ (d : Definition). record { number = 15; clause = 0; token = d.name; other = f.definition-at2.result.name }) k.definition-at.ensures
+    ap (λ (d : Definition). record { number = 15; clause = 0; token = d.name; other = f.definition_at-first.result.name }) k.definition_at-own.ensures
     ∙ ap (λ (d : Definition). record { number = 15; clause = 0; token = (entry ds s.args.k.0).name; other = d.name })
-    (f.definition-at2.ensures ∙ ap (entry ds) e.earlier_holder.ensures)
+    (f.definition_at-first.ensures ∙ ap (entry ds) e.earlier_holder.ensures)
 
 pub twin_at_spec : {M : Type 1} → statement M
 twin_at_spec =
     tie.close
-    (tie.spec definition-at-requires earlier-holder-requires definition-at-requires-2 returns)
+    (tie.spec
+    definition-at-requires
+    earlier-holder-requires
+    definition-at-requires-2
+    returns)

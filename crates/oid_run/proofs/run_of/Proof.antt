@@ -9,27 +9,31 @@ use borrow.Author.Rules.{rules}
 use Rattle.oid_run.proofs.run_of.Statement.{statement}
 use Rattle.oid_run.proofs.run_of.Tie as tie
 
-lesser-requires : tie.Need-lesser-requires
+lesser-requires : tie.Need-lesser-from-requires
 lesser-requires c κs = search rules
 
-sub-lesser : tie.Need-overflow-sub-lesser
+sub-lesser : tie.Need-overflow_sub-numbers
 sub-lesser c =
-    let s = c.before.before.before in
-    omega (arith, c.lesser.ensures, lesser_inside s.args.d.start.0 (length s.args.numbers.now))
+    let s = c in
+    omega (arith, c.lesser-from.ensures, lesser_inside s.args.d.start.0 (length s.args.numbers.now))
 
-lesser-requires-2 : tie.Need-lesser-requires-2
+lesser-requires-2 : tie.Need-lesser-count-requires
 lesser-requires-2 c κs = search rules
 
 returns : tie.Need-returns
 returns c =
-    let s = c.before.before.before.before in
+    let s = c in
     let d = s.args.d in
     let ns = s.args.numbers.now in
-    let from = c.before.lesser.result in
+    let from = c.lesser-from.result in
     record {
-      inside = omega (arith, c.before.lesser.ensures, c.lesser2.ensures, lesser_inside d.start.0 (length ns), lesser_inside d.count (length ns - from));
-      held = ap (λ (n : ℕ). take n (drop from ns)) c.lesser2.ensures ∙ part_clipped ns d.start.0 d.count from c.before.lesser.ensures;
+      inside = omega (arith, c.lesser-from.ensures, c.lesser-count.ensures, lesser_inside d.start.0 (length ns), lesser_inside d.count (length ns - from));
+      held = ap (λ (n : ℕ). take n (drop from ns)) c.lesser-count.ensures ∙ part_clipped ns d.start.0 d.count from c.lesser-from.ensures;
     }
 
 pub run_of_spec : {M : Type 1} → statement M
-run_of_spec = tie.close (tie.spec lesser-requires sub-lesser lesser-requires-2 returns)
+run_of_spec = tie.close (tie.spec
+    lesser-requires
+    sub-lesser
+    lesser-requires-2
+    returns)

@@ -19,14 +19,14 @@ entered r = r.before.before.before.before.before.before
 abbrev measured : tie.After-judge-lengths → tie.After-measure
 measured l = l.before.before.before.before
 
-abbrev module-of : tie.Start → Module
-module-of s = named_in s.args.classes.now s.args.values.now s.args.definitions.now
+abbrev module_of : tie.Start → Module
+module_of s = named_in s.args.classes.now s.args.values.now s.args.definitions.now
 
 -- what was said of refusal 12, and of 13 and 14
-rule_12 : (r : tie.After-judge-reached) → r.judge-reached.result ≡ judge_one (unreached (module-of (entered r)))
+rule_12 : (r : tie.After-judge-reached) → r.judge-reached.result ≡ judge_one (unreached (module_of (entered r)))
 rule_12 r = reached_said _ _ _ r.judge-reached.ensures
 
-rules_13_14 : (l : tie.After-judge-lengths) → l.judge-lengths.result ≡ judge (length_rules (module-of (entered (measured l).before.before.before.before)))
+rules_13_14 : (l : tie.After-judge-lengths) → l.judge-lengths.result ≡ judge (length_rules (module_of (entered (measured l).before.before.before.before)))
 rules_13_14 l = lengths_said _ _ _ _ (measured l).measure.ensures l.judge-lengths.ensures
 
 judge-reached-requires : tie.Need-judge-reached-requires

@@ -23,6 +23,6 @@ returns c =
     let first = first_byte a.text.now a.at ∙ sym c.byte_at.ensures in
     let letter = class_there a.text.now a.at n a.end (sym c.requires.digits) c.class_at.ensures in
     elim c.if-byte_at-eq48.branch [
-      then-byte_at-eq48+else-end-at-gt1 w ↦ simp (first, w.if-byte_at-eq48.true, le-ltb 1 n (omega (arith, w.if-end-at-gt1.false)), letter)
+      | then-byte_at-eq48+else-end-at-gt1 w ↦ simp (first, w.if-byte_at-eq48.true, le-ltb 1 n (omega (arith, w.if-end-at-gt1.false)), letter)
       | else-byte_at-eq48 w ↦ simp (first, ne_eqb _ _ w.if-byte_at-eq48.false, letter)
     ]

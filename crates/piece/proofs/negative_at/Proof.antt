@@ -13,7 +13,7 @@ use Rattle.piece.specs.Piece.{largest_negative, misfit, below_zero}
 use Rattle.terminal.specs.Terminal.{negative}
 use Rattle.piece.specs.declared.Found.{Found}
 use Rattle.lexicon.proofs.Places.{first_is, first_not}
-use Rattle.piece.proofs.Decimal.{over_limit, in-limit}
+use Rattle.piece.proofs.Decimal.{over_limit, in_limit}
 use borrow.Author.Rules.{rules}
 use Rattle.piece.proofs.negative_at.Statement.{statement}
 use Rattle.piece.proofs.negative_at.Tie as tie
@@ -78,8 +78,8 @@ returns-4 c =
     let first = digits in
     let run = first.digit_run-run in
     let text = (start_of first.before.before.before.before.before).args.text.now in
-    let in-range = in-limit text _ _ _ _ largest_negative run.ensures.0 run.ensures.1 (omega arith) c.if-run-gt-LARGEST_NEGATIVE.false in
-    simp (nonzero first.before.before.before.before, fine digits.before.before, in-range) (ap (Found.Piece negative) (omega (arith, run.ensures.0)))
+    let in_range = in_limit text _ _ _ _ largest_negative run.ensures.0 run.ensures.1 (omega arith) c.if-run-gt-LARGEST_NEGATIVE.false in
+    simp (nonzero first.before.before.before.before, fine digits.before.before, in_range) (ap (Found.Piece negative) (omega (arith, run.ensures.0)))
 
 pub negative_at_spec : {M : Type 1} → statement M
 negative_at_spec =

@@ -8,7 +8,7 @@ use lib.ListN.{drop}
 use Rattle.piece.specs.Piece.{largest_number, misfit, non_negative}
 use Rattle.terminal.specs.Terminal.{number}
 use Rattle.piece.specs.declared.Found.{Found}
-use Rattle.piece.proofs.Decimal.{over_limit, in-limit}
+use Rattle.piece.proofs.Decimal.{over_limit, in_limit}
 use borrow.Author.Rules.{rules}
 use Rattle.piece.proofs.number_at.Statement.{statement}
 use Rattle.piece.proofs.number_at.Tie as tie
@@ -45,8 +45,8 @@ returns-3 c =
     let digits = c in
     let run = digits.digit_run-run in
     let text = (start_of digits.before.before.before).args.text.now in
-    let in-range = in-limit text _ _ _ _ largest_number run.ensures.0 run.ensures.1 (omega arith) c.if-run-gt-LARGEST_NUMBER.false in
-    simp (fine digits.before.before, in-range) (ap (Found.Piece number) run.ensures.0)
+    let in_range = in_limit text _ _ _ _ largest_number run.ensures.0 run.ensures.1 (omega arith) c.if-run-gt-LARGEST_NUMBER.false in
+    simp (fine digits.before.before, in_range) (ap (Found.Piece number) run.ensures.0)
 
 pub number_at_spec : {M : Type 1} → statement M
 number_at_spec =

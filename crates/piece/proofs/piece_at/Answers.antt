@@ -41,6 +41,6 @@ returns c =
     let no_letter = lt-leb _ _ c.if-class-le-CAPITAL.false in
     let rest = rest_at a.text.now a.at 1 (a.at + 1) refl in
     elim c.if-class-ge-NEWLINE.branch [
-      then-class-ge-NEWLINE+else-class-le-FEED w ↦ simp (asked, no_letter, le-leb _ _ w.if-class-ge-NEWLINE.true, lt-leb _ _ w.if-class-le-FEED.false, rest) c.punctuation_at.ensures
+      | then-class-ge-NEWLINE+else-class-le-FEED w ↦ simp (asked, no_letter, le-leb _ _ w.if-class-ge-NEWLINE.true, lt-leb _ _ w.if-class-le-FEED.false, rest) c.punctuation_at.ensures
       | else-class-ge-NEWLINE w ↦ simp (asked, no_letter, lt-leb _ _ w.if-class-ge-NEWLINE.false, rest) c.punctuation_at.ensures
     ]

@@ -5,18 +5,18 @@ use borrow.Author.Rules.{rules}
 use Rattle.range_list.proofs.first_misplaced.Statement.{statement}
 use Rattle.range_list.proofs.first_misplaced.Tie as tie
 
-first-between-requires : tie.Need-first-between-requires
+first-between-requires : tie.Need-first_between-clear-requires
 first-between-requires c κs = search rules
 
-returns : tie.Need-returns
+returns : tie.Need-returns-then-span-clear
 returns c =
-    let f = c.before.before in
-    at_end _ _ _ _ f.first-between.ensures.0 f.first-between.ensures.1 c.if1.true
+    let f = c in
+    at_end _ _ _ _ f.first_between-clear.ensures.0 f.first_between-clear.ensures.1 c.if-span-clear.true
 
-search-sorted-requires : tie.Need-search-sorted-requires
+search-sorted-requires : tie.Need-search_sorted-requires
 search-sorted-requires c κs = search rules
 
-returns-2 : tie.Need-returns-2
+returns-2 : tie.Need-returns
 returns-2 c = search rules
 
 pub first_misplaced_spec : {M : Type 1} → statement M

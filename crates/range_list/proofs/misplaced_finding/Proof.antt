@@ -6,19 +6,19 @@ use borrow.Author.Rules.{rules}
 use Rattle.range_list.proofs.misplaced_finding.Statement.{statement}
 use Rattle.range_list.proofs.misplaced_finding.Tie as tie
 
-is-backward-requires : tie.Need-is-backward-requires
+is-backward-requires : tie.Need-is_backward-requires
 is-backward-requires c κs = search rules
 
-returns : tie.Need-returns
+returns : tie.Need-returns-then-is_backward
 unfolding misplaced_range
-returns c = rw (sym c.before.is_backward.ensures ∙ c.if1.true)
+returns c = rw (sym c.is_backward.ensures ∙ c.if-is_backward.true)
 
-first-sharing-requires : tie.Need-first-sharing-requires
+first-sharing-requires : tie.Need-first_sharing-requires
 first-sharing-requires c κs = search rules
 
-returns-2 : tie.Need-returns-2
+returns-2 : tie.Need-returns
 unfolding misplaced_range
-returns-2 c = rw (sym c.before.before.is_backward.ensures ∙ c.before.if1.false, ← c.first_sharing.ensures)
+returns-2 c = rw (sym c.is_backward.ensures ∙ c.if-is_backward.false, ← c.first_sharing.ensures)
 
 pub misplaced_finding_spec : {M : Type 1} → statement M
 misplaced_finding_spec =

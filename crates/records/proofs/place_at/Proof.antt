@@ -7,17 +7,21 @@ use borrow.Author.Rules.{rules}
 use Rattle.records.proofs.place_at.Statement.{statement}
 use Rattle.records.proofs.place_at.Tie as tie
 
-mul-result : tie.Need-overflow-mul-result
+mul-result : tie.Need-offset_bounds-places-i
 mul-result c = search rules
 
-shared-slice-read-result : tie.Need-shared-slice-read-result
+shared-slice-read-result : tie.Need-bounds-places-i
 shared-slice-read-result c = search rules
 
-returns : tie.Need-returns
+returns : tie.Need-returns-then-i-places
 returns c = search rules
 
-returns-2 : tie.Need-returns-2
-returns-2 c = sym (get_or-eq_default {A = ℕ} c.before.args.places.now 0 c.if1.false)
+returns-2 : tie.Need-returns
+returns-2 c = sym (get_or-eq_default {A = ℕ} c.args.places.now 0 c.if-i-places.false)
 
 pub place_at_spec : {M : Type 1} → statement M
-place_at_spec = tie.close (tie.spec mul-result shared-slice-read-result returns returns-2)
+place_at_spec = tie.close (tie.spec
+    mul-result
+    shared-slice-read-result
+    returns
+    returns-2)

@@ -5,19 +5,19 @@ use borrow.Author.Rules.{rules}
 use Rattle.records.proofs.record_of.Statement.{statement}
 use Rattle.records.proofs.record_of.Tie as tie
 
-place-at-requires : tie.Need-place-at-requires
+place-at-requires : tie.Need-place_at-offset-requires
 place-at-requires c κs = search rules
 
-syntax-tokens-requires : tie.Need-syntax-tokens-requires
+syntax-tokens-requires : tie.Need-syntax_tokens-requires
 syntax-tokens-requires c κs = search rules
 
-bytes-of-requires : tie.Need-bytes-of-requires
+bytes-of-requires : tie.Need-bytes_of-syntax-requires
 bytes-of-requires c κs = search rules
 
 word-requires : tie.Need-word-requires
 word-requires c κs = search rules
 
-place-at-requires-2 : tie.Need-place-at-requires-2
+place-at-requires-2 : tie.Need-place_at-requires
 place-at-requires-2 c κs = search rules
 
 distance-requires : tie.Need-distance-requires

@@ -16,124 +16,124 @@ use Rattle.records.proofs.Words.{record_long, none_before, before_more, before_l
 use Rattle.records.proofs.write_records.Statement.{statement}
 use Rattle.records.proofs.write_records.Tie as tie
 
-abbrev invariant-loop : tie.invariant-loop
+abbrev invariant-loop : tie.invariant-loop-k
 invariant-loop starts ends definitions records₀ count at₀ k₀ records at k =
     (k ≤ count) × Written (records_before starts ends (definitions_in definitions) k) at records₀ records
 
-abbrev decreases-loop : tie.decreases-loop
+abbrev decreases-loop : tie.decreases-loop-k
 decreases-loop starts ends definitions records₀ count at₀ k₀ records at k = count - k
 
-abbrev start : tie.In-loop invariant-loop decreases-loop → tie.Start invariant-loop decreases-loop
+abbrev start : tie.In-loop-k invariant-loop decreases-loop → tie.Start invariant-loop decreases-loop
 start t = t.before.before.before.before.before.before.before
 
 -- the definitions, the records before the one at hand, and its own
-abbrev defined : tie.In-loop invariant-loop decreases-loop → List Definition
+abbrev defined : tie.In-loop-k invariant-loop decreases-loop → List Definition
 defined t = definitions_in (start t).args.definitions.now
 
-abbrev before : tie.In-loop invariant-loop decreases-loop → List ℕ
-before t = records_before (start t).args.starts.now (start t).args.ends.now (defined t) t.before.loop.k
+abbrev before : tie.In-loop-k invariant-loop decreases-loop → List ℕ
+before t = records_before (start t).args.starts.now (start t).args.ends.now (defined t) t.loop-k.k
 
-abbrev own : tie.In-loop invariant-loop decreases-loop → List ℕ
-own t = record_of (start t).args.starts.now (start t).args.ends.now (entry (defined t) t.before.loop.k)
+abbrev own : tie.In-loop-k invariant-loop decreases-loop → List ℕ
+own t = record_of (start t).args.starts.now (start t).args.ends.now (entry (defined t) t.loop-k.k)
 
 -- there is room for it
-room : (t : tie.In-loop invariant-loop decreases-loop) → length (before t ++ own t) ≤ length (start t).args.records.now
+room : (t : tie.In-loop-k invariant-loop decreases-loop) → length (before t ++ own t) ≤ length (start t).args.records.now
 room t =
     let s = start t in
-    let k = t.before.loop.k in
-    omega (arith, length-append (before t) (own t), before_long s.args.starts.now s.args.ends.now (defined t) k, record_long s.args.starts.now s.args.ends.now (entry (defined t) k), t.loop-test.true, t.before.before.count.ensures, s.pre.0)
+    let k = t.loop-k.k in
+    omega (arith, length-append (before t) (own t), before_long s.args.starts.now s.args.ends.now (defined t) k, record_long s.args.starts.now s.args.ends.now (entry (defined t) k), t.loop-k-test.true, t.count-count.ensures, s.requires.0)
 
-inside : (t : tie.In-loop invariant-loop decreases-loop) → t.before.loop.at ≤ length t.before.loop.records
-inside t = first_inside (before t) (own t) _ _ _ (room t) t.before.loop.invariant.1
+inside : (t : tie.In-loop-k invariant-loop decreases-loop) → t.loop-k.at ≤ length t.loop-k.records
+inside t = first_inside (before t) (own t) _ _ _ (room t) t.loop-k.invariant.1
 
-at_most : (t : tie.In-loop invariant-loop decreases-loop) → t.before.loop.at ≤ length (start t).args.records.now
-at_most t = omega (arith, t.before.loop.invariant.1.counted, room t, length-append (before t) (own t))
+at_most : (t : tie.In-loop-k invariant-loop decreases-loop) → t.loop-k.at ≤ length (start t).args.records.now
+at_most t = omega (arith, t.loop-k.invariant.1.counted, room t, length-append (before t) (own t))
 
-abbrev turn : tie.After-slice-known2 invariant-loop decreases-loop → tie.In-loop invariant-loop decreases-loop
+abbrev turn : tie.After-slice_known-in-loop-k-1 invariant-loop decreases-loop → tie.In-loop-k invariant-loop decreases-loop
 turn c = c.before.before.before.before.before.before
 
 -- the words of the definition at hand
-own_is : (c : tie.After-record-of invariant-loop decreases-loop) → c.record_of.result ≡ own c.before.before
+own_is : (c : tie.After-record_of-words invariant-loop decreases-loop) → c.record_of-words.result ≡ own c.before.before
 own_is c =
     let s = start c.before.before in
-    c.record_of.ensures ∙ ap (record_of s.args.starts.now s.args.ends.now) c.before.definition-at.ensures
+    c.record_of-words.ensures ∙ ap (record_of s.args.starts.now s.args.ends.now) c.definition_at.ensures
 
 -- both lie in the buffer when the rest has come back
-next : (c : tie.After-slice-known2 invariant-loop decreases-loop)
-    → Written (before (turn c) ++ own (turn c)) ((turn c).before.loop.at + c.before.before.write-record.result)
-    (start (turn c)).args.records.now (returned (turn c).before.loop.records (turn c).before.loop.at c.before.before.write-record.new.0)
+next : (c : tie.After-slice_known-in-loop-k-1 invariant-loop decreases-loop)
+    → Written (before (turn c) ++ own (turn c)) ((turn c).loop-k.at + c.write_record-written.result)
+    (start (turn c)).args.records.now (returned (turn c).loop-k.records (turn c).loop-k.at c.write_record-written.new.records)
 next c =
     let t = turn c in
-    written_both (before t) (own t) _ _ _ (room t) t.before.loop.inv.1 _ _ (rw (own_is c.before.before.before.before) at c.before.before.write-record.ensures)
+    written_both (before t) (own t) _ _ _ (room t) t.loop-k.invariant.1 _ _ (rw (own_is c.before.before.before.before) at c.write_record-written.ensures)
 
-count-requires : tie.Need-count-requires invariant-loop decreases-loop
+count-requires : tie.Need-count-count-requires invariant-loop decreases-loop
 count-requires c κs = tt
 
-loop-holds : tie.Need-loop-init invariant-loop decreases-loop
+loop-holds : tie.Need-loop-k-init invariant-loop decreases-loop
 loop-holds c =
-    let s = c.before.before.before.before.before in
+    let s = c in
     (omega arith, written_none _ _ (none_before s.args.starts.now s.args.ends.now (definitions_in s.args.definitions.now)))
 
-definition-at-requires : tie.Need-definition-at-requires invariant-loop decreases-loop
+definition-at-requires : tie.Need-definition_at-requires invariant-loop decreases-loop
 definition-at-requires c κs = tt
 
-record-of-requires : tie.Need-record-of-requires invariant-loop decreases-loop
+record-of-requires : tie.Need-record_of-words-requires invariant-loop decreases-loop
 record-of-requires c κs =
-    let t = c.before in
-    subst Fits (sym c.definition-at.ensures) ((start t).requires.1 t.before.loop.k (omega (arith, t.loop-test.true, t.before.before.count.ensures)))
+    let t = c in
+    subst Fits (sym c.definition_at.ensures) ((start t.before).requires.1 t.loop-k.k (omega (arith, t.loop-k-test.true, t.count-count.ensures)))
 
-mul-rest : tie.Need-overflow-mul-rest invariant-loop decreases-loop
-mul-rest c = omega (arith, at_most c.before.before, (start c.before.before).good.1.1.1.0)
+mul-rest : tie.Need-offset_bounds-records-at invariant-loop decreases-loop
+mul-rest c = omega (arith, at_most c.before.before, (start c.before.before).well_formed.1.1.1.0)
 
-sub-rest : tie.Need-overflow-sub-rest invariant-loop decreases-loop
+sub-rest : tie.Need-slice_bounds-rest-count invariant-loop decreases-loop
 sub-rest c = inside c.before.before
 
-part-rest-start : tie.Need-slice-bounds-rest-start invariant-loop decreases-loop
+part-rest-start : tie.Need-slice_bounds-rest-start invariant-loop decreases-loop
 part-rest-start c = inside c.before.before
 
-part-rest-end : tie.Need-slice-bounds-rest-end invariant-loop decreases-loop
+part-rest-end : tie.Need-slice_bounds-rest-end invariant-loop decreases-loop
 part-rest-end c = search rules
 
-write-record-requires : tie.Need-write-record-requires invariant-loop decreases-loop
+write-record-requires : tie.Need-write_record-written-requires invariant-loop decreases-loop
 write-record-requires c κs =
-    let r = c.before in
-    let t = r.before.before in
-    let s = start t in
-    let long = record_long s.args.starts.now s.args.ends.now (entry (defined t) t.before.loop.k) in
-    (ap length (own_is r) ∙ long, omega (arith, long, second_room (before t) (own t) _ _ _ (room t) t.before.loop.invariant.1))
+    let r = c in
+    let t = r in
+    let s = start t.before.before.before in
+    let long = record_long s.args.starts.now s.args.ends.now (entry (defined t.before.before.before) t.loop-k.k) in
+    (ap length (own_is r.before) ∙ long, omega (arith, long, second_room (before t.before.before.before) (own t.before.before.before) _ _ _ (room t.before.before.before) t.loop-k.invariant.1))
 
-add_at : tie.Need-overflow-add-at invariant-loop decreases-loop
+add_at : tie.Need-overflow_add-at invariant-loop decreases-loop
 add_at c =
     let t = turn c in
-    omega (arith, (next c).counted, room t, (start t).good.1.1.1.0)
+    omega (arith, (next c).counted, room t, (start t).well_formed.1.1.1.0)
 
-add-k : tie.Need-overflow-add-k invariant-loop decreases-loop
-add-k c = omega (arith, (turn c).loop-test.true)
+add-k : tie.Need-overflow_add-k invariant-loop decreases-loop
+add-k c = omega (arith, (turn c).loop-k-test.true)
 
-loop-less : tie.Need-loop-smaller invariant-loop decreases-loop
-loop-less c = omega (arith, (turn c).loop-test.true)
+loop-less : tie.Need-loop-k-smaller invariant-loop decreases-loop
+loop-less c = omega (arith, (turn c).loop-k-test.true)
 
-loop-again : tie.Need-loop-preserved invariant-loop decreases-loop
+loop-again : tie.Need-loop-k-preserved invariant-loop decreases-loop
 loop-again c =
     let t = turn c in
     let s = start t in
-    (omega (arith, t.loop-test.taken), rw (before_more s.args.starts.now s.args.ends.now (defined t) t.before.loop.k) (next c))
+    (omega (arith, t.loop-k-test.true), rw (before_more s.args.starts.now s.args.ends.now (defined t) t.loop-k.k) (next c))
 
-same_length : tie.Need-same-length invariant-loop decreases-loop
+same_length : tie.Need-shape_of-records invariant-loop decreases-loop
 same_length c =
-    let l = c.before in
-    let s = l.before.before.before.before.before.before in
+    let l = c in
+    let s = l in
     let ds = definitions_in s.args.definitions.now in
-    ap length l.loop.invariant.1.held
-    ∙ overlaid_length (records_before s.args.starts.now s.args.ends.now ds l.loop.k) s.args.records.now
-    (omega (arith, before_long s.args.starts.now s.args.ends.now ds l.loop.k, l.loop.invariant.0, l.before.count.ensures, s.requires.0))
+    ap length l.loop-k.invariant.1.held
+    ∙ overlaid_length (records_before s.args.starts.now s.args.ends.now ds l.loop-k.k) s.args.records.now
+    (omega (arith, before_long s.args.starts.now s.args.ends.now ds l.loop-k.k, l.loop-k.invariant.0, l.count-count.ensures, s.requires.0))
 
 returns : tie.Need-returns invariant-loop decreases-loop
 returns c =
-    let l = c.before in
-    let all : l.loop.k ≡ length (definitions_in l.before.before.before.before.before.before.args.definitions.now) =
-    omega (arith, l.loop.invariant.0, c.loop-test.false, l.before.count.ensures) in
-    rw (← all) l.loop.invariant.1
+    let l = c in
+    let all : l.loop-k.k ≡ length (definitions_in l.args.definitions.now) =
+    omega (arith, l.loop-k.invariant.0, c.loop-k-test.false, l.count-count.ensures) in
+    rw (← all) l.loop-k.invariant.1
 
 pub write_records_spec : {M : Type 1} → statement M
 write_records_spec =

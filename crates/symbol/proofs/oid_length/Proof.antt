@@ -13,10 +13,8 @@ use Rattle.symbol.proofs.Symbols.{symbol_numbers, numbers_length}
 use Rattle.symbol.proofs.oid_length.Statement.{statement}
 use Rattle.symbol.proofs.oid_length.Tie as tie
 
-
 start-requires : tie.Need-start-from-requires
 start-requires c κs = search rules
-
 
 add_start : tie.Need-overflow_add-k
 add_start c = search rules

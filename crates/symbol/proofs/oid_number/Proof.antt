@@ -13,7 +13,6 @@ use Rattle.symbol.proofs.Symbols.{symbol_numbers, number_inside, number_at}
 use Rattle.symbol.proofs.oid_number.Statement.{statement}
 use Rattle.symbol.proofs.oid_number.Tie as tie
 
-
 start-requires : tie.Need-start-from-requires
 start-requires c κs = search rules
 

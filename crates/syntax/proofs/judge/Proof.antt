@@ -11,37 +11,31 @@ use Rattle.syntax.proofs.judge.Tie as tie
 recognise-requires : tie.Need-recognise-requires
 recognise-requires c κs = search rules
 
-enum-known-index : tie.Need-enum-known-index
+enum-known-index : tie.Need-enum_known-index
 enum-known-index c = search rules
 
-enum_told : tie.Need-enum-told
+enum_told : tie.Need-enum_told-1
 enum_told c = search rules
 
-returns : tie.Need-returns
-returns c = derived_placed _ _ _ _ _ c.before.before.recognise.ensures.0 c.enum_told.given.1
+returns : tie.Need-returns-in_default
+returns c = derived_placed _ _ _ _ _ c.recognise.ensures.0 c.in_default.is
 
-mul-place-of : tie.Need-overflow-mul-place-of
+mul-place-of : tie.Need-offset_bounds-starts-i
 mul-place-of c = search rules
 
-element-copy-out-place-of : tie.Need-element-copy-out-place-of
+element-copy-out-place-of : tie.Need-bounds-starts-i
 element-copy-out-place-of c = search rules
 
-place-of-requires : tie.Need-place-of-requires
+place-of-requires : tie.Need-place_of-requires
 place-of-requires c κs = search rules
 
-returns-2 : tie.Need-returns-2
+returns-2 : tie.Need-returns-then-i-count
 returns-2 c =
-    let before = c.before.before in
-    let index = before.before.before in
-    let read = index.before.before in
-    ap (λ (start : ℕ). Underived read.before.before.args.count (record { 0 = start })) c.place_of.ensures
-    ∙ token_placed _ _ _ _ _ read.recognise.ensures.0 _ index.index.given.1 before.if1.true
+    ap (λ (start : ℕ). Underived c.args.count (record { 0 = start })) c.place_of.ensures
+    ∙ token_placed _ _ _ _ _ c.recognise.ensures.0 _ c.in-Refused.is c.if-i-count.true
 
-returns-3 : tie.Need-returns-3
-returns-3 c =
-    let index = c.before.before in
-    let read = index.before.before in
-    end_placed _ _ _ _ _ read.recognise.ensures.0 _ index.index.given.1 c.if1.false
+returns-3 : tie.Need-returns
+returns-3 c = end_placed _ _ _ _ _ c.recognise.ensures.0 _ c.in-Refused.is c.if-i-count.false
 
 pub judge_spec : {M : Type 1} → statement M
 judge_spec =

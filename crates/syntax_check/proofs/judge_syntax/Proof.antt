@@ -15,7 +15,7 @@ use borrow.Author.Rules.{rules}
 use Rattle.syntax_check.proofs.judge_syntax.Statement.{statement}
 use Rattle.syntax_check.proofs.judge_syntax.Tie as tie
 
-abbrev start_of : tie.After-judge-all-ranges → tie.Start
+abbrev start_of : tie.After-judge_all_ranges-places → tie.Start
 start_of j = j.before.before.before.before.before.before.before
 
 -- a rule for each definition
@@ -42,77 +42,77 @@ abbrev all_rules : tie.Start → List Rule
 all_rules s = rules_over (spelling_in s.args.text.now s.args.starts.now s.args.ends.now) s.args.classes.now s.args.values.now (definitions_in s.args.definitions.now)
 
 -- what is left to judge where the rules before are kept
-after_places : (c : tie.After-enum-told) → (let s = start_of c.before.before in judge (all_rules s) ≡ judge (from_limits s))
+after_places : (c : tie.In-Kept) → (let s = start_of c.before in judge (all_rules s) ≡ judge (from_limits s))
 unfolding rules_over
 after_places c =
-    let j = c.before.before in
-    let s = start_of j in
-    kept_row (ranges_of s Places) (from_limits s) _ j.judge-all-ranges.ensures c.enum_told.given.1
+    let j = c in
+    let s = start_of j.before in
+    kept_row (ranges_of s Places) (from_limits s) _ j.judge_all_ranges-places.ensures c.in-Kept.is
 
-after_limits : (c : tie.After-enum-told3) → (let s = start_of c.before.before.before.before.before in judge (all_rules s) ≡ judge (from_items s))
+after_limits : (c : tie.In-Kept-limits) → (let s = start_of c.before.before.before in judge (all_rules s) ≡ judge (from_items s))
 after_limits c =
-    let j = c.before.before in
+    let j = c in
     let s = start_of j.before.before.before in
-    after_places j.before ∙ kept_row (ranges_of s Limits) (from_items s) _ j.judge-all-ranges2.ensures c.enum-told3.given.1
+    after_places j.before.before ∙ kept_row (ranges_of s Limits) (from_items s) _ j.judge_all_ranges-limits.ensures c.in-Kept-limits.is
 
-after_items : (c : tie.After-enum-told5)
-    → (let s = start_of c.before.before.before.before.before.before.before.before in judge (all_rules s) ≡ judge (from_conventions s))
+after_items : (c : tie.In-Kept-items)
+    → (let s = start_of c.before.before.before.before.before in judge (all_rules s) ≡ judge (from_conventions s))
 after_items c =
-    let j = c.before.before in
-    let s = start_of j.before.before.before.before.before.before in
-    after_limits j.before ∙ kept_row (items_of s) (from_conventions s) _ j.judge-all-items.ensures c.enum-told5.given.1
+    let j = c in
+    let s = start_of j.before.before.before.before.before in
+    after_limits j.before.before ∙ kept_row (items_of s) (from_conventions s) _ j.judge_all_items-items.ensures c.in-Kept-items.is
 
-judge-all-ranges-requires : tie.Need-judge-all-ranges-requires
+judge-all-ranges-requires : tie.Need-judge_all_ranges-places-requires
 judge-all-ranges-requires c κs = search rules
 
-enum_told : tie.Need-enum-told
+enum_told : tie.Need-enum_told-1
 enum_told c = search rules
 
-enum-told-2 : tie.Need-enum-told-2
+enum-told-2 : tie.Need-enum_told-in_default
 enum-told-2 c = search rules
 
-returns : tie.Need-returns
+returns : tie.Need-returns-in_default
 unfolding rules_over
 returns c =
-    let j = c.before.before in
-    let s = start_of j in
-    broken_row (ranges_of s Places) (from_limits s) _ j.judge-all-ranges.ensures _ c.enum-told2.given.1
+    let j = c in
+    let s = start_of j.before in
+    broken_row (ranges_of s Places) (from_limits s) _ j.judge_all_ranges-places.ensures _ c.in_default.is
 
-judge-all-ranges-requires-2 : tie.Need-judge-all-ranges-requires-2
+judge-all-ranges-requires-2 : tie.Need-judge_all_ranges-limits-requires
 judge-all-ranges-requires-2 c κs = search rules
 
-enum-told-3 : tie.Need-enum-told-3
+enum-told-3 : tie.Need-enum_told-in-Kept-limits
 enum-told-3 c = search rules
 
-enum-told-4 : tie.Need-enum-told-4
+enum-told-4 : tie.Need-enum_told-in_default-limits
 enum-told-4 c = search rules
 
-returns-2 : tie.Need-returns-2
+returns-2 : tie.Need-returns-in_default-limits
 returns-2 c =
-    let j = c.before.before in
+    let j = c in
     let s = start_of j.before.before.before in
-    broken_row (ranges_of s Limits) (from_items s) _ j.judge-all-ranges2.ensures _ c.enum-told4.given.1 ∙ sym (after_places j.before)
+    broken_row (ranges_of s Limits) (from_items s) _ j.judge_all_ranges-limits.ensures _ c.in_default-limits.is ∙ sym (after_places j.before.before)
 
-judge-all-items-requires : tie.Need-judge-all-items-requires
+judge-all-items-requires : tie.Need-judge_all_items-items-requires
 judge-all-items-requires c κs = search rules
 
-enum-told-5 : tie.Need-enum-told-5
+enum-told-5 : tie.Need-enum_told-in-Kept-items
 enum-told-5 c = search rules
 
-enum-told-6 : tie.Need-enum-told-6
+enum-told-6 : tie.Need-enum_told-in_default-items
 enum-told-6 c = search rules
 
-returns-3 : tie.Need-returns-3
+returns-3 : tie.Need-returns-in_default-items
 returns-3 c =
-    let j = c.before.before in
-    let s = start_of j.before.before.before.before.before.before in
-    broken_row (items_of s) (from_conventions s) _ j.judge-all-items.ensures _ c.enum-told6.given.1 ∙ sym (after_limits j.before)
+    let j = c in
+    let s = start_of j.before.before.before.before.before in
+    broken_row (items_of s) (from_conventions s) _ j.judge_all_items-items.ensures _ c.in_default-items.is ∙ sym (after_limits j.before.before)
 
-judge-conventions-requires : tie.Need-judge-conventions-requires
+judge-conventions-requires : tie.Need-judge_conventions-requires
 judge-conventions-requires c κs = search rules
 
-returns-4 : tie.Need-returns-4
-returns-4 c = c.judge-conventions.ensures ∙ judge_alone _ ∙ sym (after_items c.before)
+returns-4 : tie.Need-returns
+returns-4 c = c.judge_conventions.ensures ∙ judge_alone _ ∙ sym (after_items c.before)
 
 pub judge_syntax_spec : {M : Type 1} → statement M
 judge_syntax_spec =

@@ -10,4 +10,5 @@ unfolding is_control
 returns c = refl
 
 pub is_control_spec : {M : Type 1} → statement M
-is_control_spec = tie.close (tie.spec returns)
+is_control_spec = tie.close (tie.spec
+    returns)

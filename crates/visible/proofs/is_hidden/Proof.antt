@@ -5,15 +5,18 @@ use borrow.Author.Rules.{rules}
 use Rattle.visible.proofs.is_hidden.Statement.{statement}
 use Rattle.visible.proofs.is_hidden.Tie as tie
 
-breaks-line-requires : tie.Need-breaks-line-requires
+breaks-line-requires : tie.Need-breaks_line-requires
 breaks-line-requires c κs = search rules
 
-breaks-terminal-requires : tie.Need-breaks-terminal-requires
+breaks-terminal-requires : tie.Need-breaks_terminal-requires
 breaks-terminal-requires c κs = search rules
 
 returns : tie.Need-returns
 unfolding is_hidden
-returns c = simp (c.before.breaks_terminal.ensures, c.before.before.before.breaks_line.ensures)
+returns c = simp (c.breaks_terminal.ensures, c.breaks_line.ensures)
 
 pub is_hidden_spec : {M : Type 1} → statement M
-is_hidden_spec = tie.close (tie.spec breaks-line-requires breaks-terminal-requires returns)
+is_hidden_spec = tie.close (tie.spec
+    breaks-line-requires
+    breaks-terminal-requires
+    returns)

@@ -6,37 +6,37 @@ use borrow.Author.Rules.{rules}
 use Rattle.visible.proofs.is_late_control.Statement.{statement}
 use Rattle.visible.proofs.is_late_control.Tie as tie
 
-byte-at-requires : tie.Need-byte-at-requires
+byte-at-requires : tie.Need-byte_at-b-requires
 byte-at-requires c κs = search rules
 
-returns : tie.Need-returns
+returns : tie.Need-returns-then-b-lt128
 unfolding is_late_control
-returns c = simp (← c.before.byte_at.ensures, lt-ltb _ _ c.if1.true)
+returns c = simp (← c.byte_at-b.ensures, lt-ltb _ _ c.if-b-lt128.true)
 
-returns-2 : tie.Need-returns-2
+returns-2 : tie.Need-returns-then-b-gt159
 unfolding is_late_control
-returns-2 c = simp (← c.before.before.byte_at.ensures, le-ltb _ _ c.before.if1.false, lt-ltb _ _ c.if2.true)
+returns-2 c = simp (← c.byte_at-b.ensures, le-ltb _ _ c.if-b-lt128.false, lt-ltb _ _ c.if-b-gt159.true)
 
-is-inside-requires : tie.Need-is-inside-requires
+is-inside-requires : tie.Need-is_inside-requires
 is-inside-requires c κs = search rules
 
-byte-before-requires : tie.Need-byte-before-requires
+byte-before-requires : tie.Need-byte_before-requires
 byte-before-requires c κs = search rules
 
-returns-3 : tie.Need-returns-3
+returns-3 : tie.Need-returns-then-is_inside
 unfolding is_late_control
 returns-3 c =
-    let here = c.before in
-    let read = here.before.before.before in
+    let here = c in
+    let read = here in
     simp
-    (← read.before.byte_at.ensures, le-ltb _ _ read.if1.false, le-ltb _ _ here.before.before.if2.false, ← here.before.is_inside.ensures, here.if3.true, c.byte_before.ensures)
+    (← read.byte_at-b.ensures, le-ltb _ _ read.if-b-lt128.false, le-ltb _ _ here.if-b-gt159.false, ← here.is_inside.ensures, here.if-is_inside.true, c.byte_before.ensures)
 
-returns-4 : tie.Need-returns-4
+returns-4 : tie.Need-returns
 unfolding is_late_control
 returns-4 c =
-    let read = c.before.before.before in
+    let read = c in
     simp
-    (← read.before.byte_at.ensures, le-ltb _ _ read.if1.false, le-ltb _ _ c.before.before.if2.false, ← c.before.is_inside.ensures, c.if3.false)
+    (← read.byte_at-b.ensures, le-ltb _ _ read.if-b-lt128.false, le-ltb _ _ c.if-b-gt159.false, ← c.is_inside.ensures, c.if-is_inside.false)
 
 pub is_late_control_spec : {M : Type 1} → statement M
 is_late_control_spec =

@@ -12,52 +12,52 @@ use Rattle.visible.specs.Visible.{visible}
 use Rattle.visible.proofs.write_visible.Statement.{statement}
 use Rattle.visible.proofs.write_visible.Tie as tie
 
-abbrev invariant-loop : tie.invariant-loop
+abbrev invariant-loop : tie.invariant-loop-i
 invariant-loop bytes from count manner out₀ next₀ i₀ out next i =
     Wrote (visible manner bytes from i) 0 next out₀ out × (i ≤ count) × (next ≤ 4 * i) × (length out ≡ length out₀)
 
-abbrev decreases-loop : tie.decreases-loop
+abbrev decreases-loop : tie.decreases-loop-i
 decreases-loop bytes from count manner out₀ next₀ i₀ out next i = count - i
 
-loop-holds : tie.Need-loop-init invariant-loop decreases-loop
+loop-holds : tie.Need-loop-i-init invariant-loop decreases-loop
 unfolding visible
-loop-holds c = (wrote_none c.before.before.args.out.now 0, omega arith, omega arith, refl)
+loop-holds c = (wrote_none c.args.out.now 0, omega arith, omega arith, refl)
 
-add-write-seen : tie.Need-overflow-add-write-seen invariant-loop decreases-loop
+add-write-seen : tie.Need-overflow_add-from invariant-loop decreases-loop
 add-write-seen c = search rules
 
-write-seen-requires : tie.Need-write-seen-requires invariant-loop decreases-loop
+write-seen-requires : tie.Need-write_seen-next-requires invariant-loop decreases-loop
 write-seen-requires c κs = search rules
 
-add-i : tie.Need-overflow-add-i invariant-loop decreases-loop
+add-i : tie.Need-overflow_add-i invariant-loop decreases-loop
 add-i c = search rules
 
-loop-less : tie.Need-loop-smaller invariant-loop decreases-loop
+loop-less : tie.Need-loop-i-smaller invariant-loop decreases-loop
 loop-less c = search rules
 
-loop-again : tie.Need-loop-preserved invariant-loop decreases-loop
+loop-again : tie.Need-loop-i-preserved invariant-loop decreases-loop
 unfolding visible
 loop-again c =
-    let w = c.before.before in
-    let turn = w.before.before in
-    let start = turn.before.before.before.before in
-    let v = turn.before.loop.invariant in
-    let p = w.write-seen in (
-      rw (add-one) (wrote_more (omega (arith, start.requires, v.0.next_is, v.1, v.2, turn.loop-test.true)) v.0 p.ensures.0),
+    let w = c in
+    let turn = w in
+    let start = turn in
+    let v = turn.loop-i.invariant in
+    let p = w.write_seen-next in (
+      rw (add-one) (wrote_more (omega (arith, start.requires, v.0.next_is, v.1, v.2, turn.loop-i-test.true)) v.0 p.ensures.0),
       search rules,
       omega (arith, v.2, p.ensures.1),
       search rules,
     )
 
-same_length : tie.Need-same-length invariant-loop decreases-loop
-same_length c = c.before.loop.invariant.3
+same_length : tie.Need-shape_of-out invariant-loop decreases-loop
+same_length c = c.loop-i.invariant.3
 
 returns : tie.Need-returns invariant-loop decreases-loop
 returns c =
-    let a = c.before.before.before.before.args in
-    let v = c.before.loop.invariant in
-    let end : c.before.loop.i ≡ a.count = omega (arith, v.1, c.loop-test.false) in
-    (wrote_as (ap (visible a.manner a.bytes.now a.from) end) v.0, omega (arith, v.2, v.1, v.3, c.before.before.before.before.requires))
+    let a = c.args in
+    let v = c.loop-i.invariant in
+    let end : c.loop-i.i ≡ a.count = omega (arith, v.1, c.loop-i-test.false) in
+    (wrote_as (ap (visible a.manner a.bytes.now a.from) end) v.0, omega (arith, v.2, v.1, v.3, c.requires))
 
 pub write_visible_spec : {M : Type 1} → statement M
 write_visible_spec =

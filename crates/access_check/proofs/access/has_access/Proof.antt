@@ -10,18 +10,21 @@ use borrow.Author.Rules.{rules}
 use Rattle.access_check.proofs.access.has_access.Statement.{statement}
 use Rattle.access_check.proofs.access.has_access.Tie as tie
 
-named-at-requires : tie.Need-named-at-requires
+named-at-requires : tie.Need-named_at-requires
 named-at-requires c κs = search rules
 
-numbered-requires : tie.Need-numbered-requires
+numbered-requires : tie.Need-numbered-d-requires
 numbered-requires c κs = search rules
 
 returns : tie.Need-returns
 unfolding has_access
 returns c =
-    let n = c.before in
-    let s = n.before.before.before.before in
-    ap (λ (d : Definition). eqb d.access s.args.access) (n.numbered.ensures ∙ ap (numbered (definitions_in s.args.definitions.now)) n.before.named_at.ensures)
+    let n = c in
+    let s = n in
+    ap (λ (d : Definition). eqb d.access s.args.access) (n.numbered-d.ensures ∙ ap (numbered (definitions_in s.args.definitions.now)) n.named_at.ensures)
 
 pub has_access_spec : {M : Type 1} → statement M
-has_access_spec = tie.close (tie.spec named-at-requires numbered-requires returns)
+has_access_spec = tie.close (tie.spec
+    named-at-requires
+    numbered-requires
+    returns)

@@ -11,13 +11,16 @@ use Rattle.access_check.proofs.access.is_created_alone.Tie as tie
 numbered-requires : tie.Need-numbered-requires
 numbered-requires c κs = search rules
 
-is-row-requires : tie.Need-is-row-requires
+is-row-requires : tie.Need-is_row-requires
 is-row-requires c κs = search rules
 
 returns : tie.Need-returns
 returns c =
-    let s = c.before.before.before.before in
-    ap (λ (b : Bool). eqb s.args.d.access 5 && not b) (c.is_row.ensures ∙ ap is_row c.before.numbered.ensures)
+    let s = c in
+    ap (λ (b : Bool). eqb s.args.d.access 5 && not b) (c.is_row.ensures ∙ ap is_row c.numbered.ensures)
 
 pub is_created_alone_spec : {M : Type 1} → statement M
-is_created_alone_spec = tie.close (tie.spec numbered-requires is-row-requires returns)
+is_created_alone_spec = tie.close (tie.spec
+    numbered-requires
+    is-row-requires
+    returns)

@@ -3,7 +3,7 @@
 use mathlib.Core.Path.{sym, ap, ◌∙◌}
 use mathlib.Core.Bool.{not}
 use Rattle.module_table.specs.Definition.{definitions_in}
-use Rattle.access_check.specs.Access.{open-table, created_alone, unfit_counter}
+use Rattle.access_check.specs.Access.{open_table, created_alone, unfit_counter}
 use Rattle.object_tree.specs.Words.{is_object}
 use Rattle.access_check.proofs.Faults.{chain_exempt, chain_first, chain_second, chain_third, chain_none}
 use mathlib.Core.Path.{sym, ◌∙◌}
@@ -12,69 +12,69 @@ use borrow.Author.Rules.{rules}
 use Rattle.access_check.proofs.access.own_clause.Statement.{statement}
 use Rattle.access_check.proofs.access.own_clause.Tie as tie
 
-is-object-requires : tie.Need-is-object-requires
+is-object-requires : tie.Need-is_object-requires
 is-object-requires c κs = search rules
 
-returns : tie.Need-returns
+returns : tie.Need-returns-then-not-is_object
 unfolding own_clause
 returns c =
-    let s = c.before.before.before in
+    let s = c in
     let ds = definitions_in s.args.definitions.now in
     let d = s.args.d in
-    chain_exempt (not (is_object d)) (open-table d) (created_alone ds d) (unfit_counter d) 2 3 4 (ap not (sym c.before.is_object.ensures) ∙ c.if1.true)
+    chain_exempt (not (is_object d)) (open_table d) (created_alone ds d) (unfit_counter d) 2 3 4 (ap not (sym c.is_object.ensures) ∙ (ap not c.if-not-is_object.true))
 
-is-open-table-requires : tie.Need-is-open-table-requires
+is-open-table-requires : tie.Need-is_open_table-requires
 is-open-table-requires c κs = search rules
 
-returns-2 : tie.Need-returns-2
+returns-2 : tie.Need-returns-then-is_open_table
 unfolding own_clause
 returns-2 c =
-    let e = c.before.before in
-    let s = e.before.before.before in
+    let e = c in
+    let s = e in
     let ds = definitions_in s.args.definitions.now in
     let d = s.args.d in
-    chain_first (not (is_object d)) (open-table d) (created_alone ds d) (unfit_counter d) 2 3 4 (ap not (sym e.before.is_object.ensures) ∙ e.if1.false) (sym c.before.is-open-table.ensures ∙ c.if2.true)
+    chain_first (not (is_object d)) (open_table d) (created_alone ds d) (unfit_counter d) 2 3 4 (ap not (sym e.is_object.ensures) ∙ (ap not e.if-not-is_object.false)) (sym c.is_open_table.ensures ∙ c.if-is_open_table.true)
 
-is-created-alone-requires : tie.Need-is-created-alone-requires
+is-created-alone-requires : tie.Need-is_created_alone-requires
 is-created-alone-requires c κs = search rules
 
-returns-3 : tie.Need-returns-3
+returns-3 : tie.Need-returns-then-is_created_alone
 unfolding own_clause
 returns-3 c =
-    let f = c.before.before in
-    let e = f.before.before in
-    let s = e.before.before.before in
+    let f = c in
+    let e = f in
+    let s = e in
     let ds = definitions_in s.args.definitions.now in
     let d = s.args.d in
-    chain_second (not (is_object d)) (open-table d) (created_alone ds d) (unfit_counter d) 2 3 4 (ap not (sym e.before.is_object.ensures) ∙ e.if1.false) (sym f.before.is-open-table.ensures ∙ f.if2.false)
-    (sym c.before.is-created-alone.ensures ∙ c.if3.true)
+    chain_second (not (is_object d)) (open_table d) (created_alone ds d) (unfit_counter d) 2 3 4 (ap not (sym e.is_object.ensures) ∙ (ap not e.if-not-is_object.false)) (sym f.is_open_table.ensures ∙ f.if-is_open_table.false)
+    (sym c.is_created_alone.ensures ∙ c.if-is_created_alone.true)
 
-is-unfit-counter-requires : tie.Need-is-unfit-counter-requires
+is-unfit-counter-requires : tie.Need-is_unfit_counter-requires
 is-unfit-counter-requires c κs = search rules
 
-returns-4 : tie.Need-returns-4
+returns-4 : tie.Need-returns-then-is_unfit_counter
 unfolding own_clause
 returns-4 c =
-    let g = c.before.before in
-    let f = g.before.before in
-    let e = f.before.before in
-    let s = e.before.before.before in
+    let g = c in
+    let f = g in
+    let e = f in
+    let s = e in
     let ds = definitions_in s.args.definitions.now in
     let d = s.args.d in
-    chain_third (not (is_object d)) (open-table d) (created_alone ds d) (unfit_counter d) 2 3 4 (ap not (sym e.before.is_object.ensures) ∙ e.if1.false) (sym f.before.is-open-table.ensures ∙ f.if2.false)
-    (sym g.before.is-created-alone.ensures ∙ g.if3.false) (sym c.before.is-unfit-counter.ensures ∙ c.if4.true)
+    chain_third (not (is_object d)) (open_table d) (created_alone ds d) (unfit_counter d) 2 3 4 (ap not (sym e.is_object.ensures) ∙ (ap not e.if-not-is_object.false)) (sym f.is_open_table.ensures ∙ f.if-is_open_table.false)
+    (sym g.is_created_alone.ensures ∙ g.if-is_created_alone.false) (sym c.is_unfit_counter.ensures ∙ c.if-is_unfit_counter.true)
 
-returns-5 : tie.Need-returns-5
+returns-5 : tie.Need-returns
 unfolding own_clause
 returns-5 c =
-    let g = c.before.before in
-    let f = g.before.before in
-    let e = f.before.before in
-    let s = e.before.before.before in
+    let g = c in
+    let f = g in
+    let e = f in
+    let s = e in
     let ds = definitions_in s.args.definitions.now in
     let d = s.args.d in
-    chain_none (not (is_object d)) (open-table d) (created_alone ds d) (unfit_counter d) 2 3 4 (ap not (sym e.before.is_object.ensures) ∙ e.if1.false) (sym f.before.is-open-table.ensures ∙ f.if2.false)
-    (sym g.before.is-created-alone.ensures ∙ g.if3.false) (sym c.before.is-unfit-counter.ensures ∙ c.if4.false)
+    chain_none (not (is_object d)) (open_table d) (created_alone ds d) (unfit_counter d) 2 3 4 (ap not (sym e.is_object.ensures) ∙ (ap not e.if-not-is_object.false)) (sym f.is_open_table.ensures ∙ f.if-is_open_table.false)
+    (sym g.is_created_alone.ensures ∙ g.if-is_created_alone.false) (sym c.is_unfit_counter.ensures ∙ c.if-is_unfit_counter.false)
 
 pub own_clause_spec : {M : Type 1} → statement M
 own_clause_spec =

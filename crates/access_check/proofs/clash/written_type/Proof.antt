@@ -13,50 +13,50 @@ use borrow.Author.Rules.{rules}
 use Rattle.access_check.proofs.clash.written_type.Statement.{statement}
 use Rattle.access_check.proofs.clash.written_type.Tie as tie
 
-abbrev read : tie.After-is-row → tie.After-definition-at
+abbrev read : tie.After-is_row → tie.After-definition_at-d
 read h = h.before.before.before.before
 
 -- the row is the parent of definition k
-row_is : (h : tie.After-is-row) → (let s = (read h).before.before in let ds = definitions_in s.args.definitions.now in h.before.before.before.numbered.result ≡ numbered ds (entry ds s.args.k.0).parent)
+row_is : (h : tie.After-is_row) → (let s = (read h) in let ds = definitions_in s.args.definitions.now in h.numbered-row.result ≡ numbered ds (entry ds s.args.k.0).parent)
 row_is h =
-    let s = (read h).before.before in
+    let s = (read h) in
     let ds = definitions_in s.args.definitions.now in
-    h.before.before.before.numbered.ensures ∙ ap (λ (d : Definition). numbered ds d.parent) (read h).definition-at.ensures
+    h.numbered-row.ensures ∙ ap (λ (d : Definition). numbered ds d.parent) (read h).definition_at-d.ensures
 
 -- what was asked of both
-asked : (h : tie.After-is-row) → (let s = (read h).before.before in let ds = definitions_in s.args.definitions.now in
-    ((h.before.before.is_object.result && eqb (read h).definition-at.result.access 4) && h.is_row.result) ≡ is_written_column ds (entry ds s.args.k.0))
+asked : (h : tie.After-is_row) → (let s = (read h) in let ds = definitions_in s.args.definitions.now in
+    ((h.is_object.result && eqb (read h).definition_at-d.result.access 4) && h.is_row.result) ≡ is_written_column ds (entry ds s.args.k.0))
 asked h =
-    let s = (read h).before.before in
+    let s = (read h) in
     let ds = definitions_in s.args.definitions.now in
-    ap (λ (b : Bool). (b && eqb (read h).definition-at.result.access 4) && h.is_row.result) h.before.before.is_object.ensures
-    ∙ ap (λ (b : Bool). (is_object (read h).definition-at.result && eqb (read h).definition-at.result.access 4) && b) (h.is_row.ensures ∙ ap is_row (row_is h))
-    ∙ ap (λ (d : Definition). (is_object d && eqb d.access 4) && is_row (numbered ds (entry ds s.args.k.0).parent)) (read h).definition-at.ensures
+    ap (λ (b : Bool). (b && eqb (read h).definition_at-d.result.access 4) && h.is_row.result) h.is_object.ensures
+    ∙ ap (λ (b : Bool). (is_object (read h).definition_at-d.result && eqb (read h).definition_at-d.result.access 4) && b) (h.is_row.ensures ∙ ap is_row (row_is h))
+    ∙ ap (λ (d : Definition). (is_object d && eqb d.access 4) && is_row (numbered ds (entry ds s.args.k.0).parent)) (read h).definition_at-d.ensures
 
-definition-at-requires : tie.Need-definition-at-requires
+definition-at-requires : tie.Need-definition_at-d-requires
 definition-at-requires c κs = search rules
 
-numbered-requires : tie.Need-numbered-requires
+numbered-requires : tie.Need-numbered-row-requires
 numbered-requires c κs = search rules
 
-is-object-requires : tie.Need-is-object-requires
+is-object-requires : tie.Need-is_object-requires
 is-object-requires c κs = search rules
 
-is-row-requires : tie.Need-is-row-requires
+is-row-requires : tie.Need-is_row-requires
 is-row-requires c κs = search rules
 
-type-of-requires : tie.Need-type-of-requires
+type-of-requires : tie.Need-type_of-requires
 type-of-requires c κs = search rules
 
-returns : tie.Need-returns
+returns : tie.Need-returns-then-is_object-d
 unfolding written_type
 returns c =
-    let h = c.before.before in
-    rw (sym (asked h) ∙ c.before.if1.true) (c.type_of.ensures ∙ ap type_of (row_is h))
+    let h = c in
+    rw (sym (asked h.before.before) ∙ c.if-is_object-d.true) (c.type_of.ensures ∙ ap type_of (row_is h.before.before))
 
-returns-2 : tie.Need-returns-2
+returns-2 : tie.Need-returns
 unfolding written_type
-returns-2 c = rw (sym (asked c.before) ∙ c.if1.false)
+returns-2 c = rw (sym (asked c.before) ∙ c.if-is_object-d.false)
 
 pub written_type_spec : {M : Type 1} → statement M
 written_type_spec =

@@ -8,36 +8,36 @@ use borrow.Author.Rules.{rules}
 use Rattle.access_check.proofs.fault.clause_at.Statement.{statement}
 use Rattle.access_check.proofs.fault.clause_at.Tie as tie
 
-enum_told : tie.Need-enum-told
+enum_told : tie.Need-enum_told-1
 enum_told c = search rules
 
-definition-at-requires : tie.Need-definition-at-requires
+definition-at-requires : tie.Need-definition_at-requires
 definition-at-requires c κs = search rules
 
-own-clause-requires : tie.Need-own-clause-requires
+own-clause-requires : tie.Need-own_clause-requires
 own-clause-requires c κs = search rules
 
-enum-told-2 : tie.Need-enum-told-2
+enum-told-2 : tie.Need-enum_told-in-Notification
 enum-told-2 c = search rules
 
-notification-clause-requires : tie.Need-notification-clause-requires
+notification-clause-requires : tie.Need-notification_clause-requires
 notification-clause-requires c κs =
-    let s = c.before.before.before.before.before in
-    subst (Granted (definitions_in s.args.definitions.now) s.args.numbers.now) c.enum-told2.given.1 s.requires
+    let s = c in
+    subst (Granted (definitions_in s.args.definitions.now) s.args.numbers.now) c.in-Notification.is s.requires
 
-returns : tie.Need-returns
+returns : tie.Need-returns-in-Access
 returns c =
-    let s = c.before.before.before.before.before.before.before in
+    let s = c in
     let ds = definitions_in s.args.definitions.now in
-    c.own_clause.ensures ∙ ap (own_clause ds) c.before.definition-at.ensures
-    ∙ sym (ap (λ (x : Check). check_clause ds s.args.values.now s.args.numbers.now x s.args.k.0) c.before.before.enum_told.given.1)
+    c.own_clause.ensures ∙ ap (own_clause ds) c.definition_at.ensures
+    ∙ sym (ap (λ (x : Check). check_clause ds s.args.values.now s.args.numbers.now x s.args.k.0) c.in-Access.is)
 
-returns-2 : tie.Need-returns-2
+returns-2 : tie.Need-returns-in-Notification
 returns-2 c =
-    let s = c.before.before.before.before.before.before in
+    let s = c in
     let ds = definitions_in s.args.definitions.now in
     c.notification_clause.ensures
-    ∙ sym (ap (λ (x : Check). check_clause ds s.args.values.now s.args.numbers.now x s.args.k.0) c.before.enum-told2.given.1)
+    ∙ sym (ap (λ (x : Check). check_clause ds s.args.values.now s.args.numbers.now x s.args.k.0) c.in-Notification.is)
 
 pub clause_at_spec : {M : Type 1} → statement M
 clause_at_spec =

@@ -12,46 +12,46 @@ use Rattle.access_check.proofs.Faults.{nonzero_breach, zero_kept}
 use Rattle.access_check.proofs.fault.first_fault.Statement.{statement}
 use Rattle.access_check.proofs.fault.first_fault.Tie as tie
 
-abbrev invariant-loop : tie.invariant-loop
+abbrev invariant-loop : tie.invariant-loop-k
 invariant-loop values definitions numbers check n k₀ k = Asking (λ (j : ℕ). ltb 0 (check_clause (definitions_in definitions) values numbers check j)) 0 n k
 
-abbrev decreases-loop : tie.decreases-loop
+abbrev decreases-loop : tie.decreases-loop-k
 decreases-loop values definitions numbers check n k₀ k = n - k
 
-count-requires : tie.Need-count-requires invariant-loop decreases-loop
+count-requires : tie.Need-count-n-requires invariant-loop decreases-loop
 count-requires c κs = tt
 
-loop-holds : tie.Need-loop-init invariant-loop decreases-loop
+loop-holds : tie.Need-loop-k-init invariant-loop decreases-loop
 loop-holds c = refl
 
-clause-at-requires : tie.Need-clause-at-requires invariant-loop decreases-loop
-clause-at-requires c κs = c.before.before.before.before.before.before.requires
+clause-at-requires : tie.Need-clause_at-requires invariant-loop decreases-loop
+clause-at-requires c κs = c.requires
 
-returns : tie.Need-returns invariant-loop decreases-loop
+returns : tie.Need-returns-then-clause_at-ne0 invariant-loop decreases-loop
 returns c =
-    let t = c.before.before in
-    let l = t.before in
-    let s = l.before.before.before.before.before in
-    first_asked _ _ _ _ l.loop.invariant t.loop-test.true (ap (ltb 0) (sym c.before.clause-at.ensures) ∙ nonzero_breach _ c.if1.true)
-    ∙ ap (first (λ (j : ℕ). ltb 0 (check_clause (definitions_in s.args.definitions.now) s.args.values.now s.args.numbers.now s.args.check j)) 0) l.before.count.ensures
+    let t = c in
+    let l = t in
+    let s = l in
+    first_asked _ _ _ _ l.loop-k.invariant t.loop-k-test.true (ap (ltb 0) (sym c.clause_at.ensures) ∙ nonzero_breach _ c.if-clause_at-ne0.true)
+    ∙ ap (first (λ (j : ℕ). ltb 0 (check_clause (definitions_in s.args.definitions.now) s.args.values.now s.args.numbers.now s.args.check j)) 0) l.count-n.ensures
 
-add-k : tie.Need-overflow-add-k invariant-loop decreases-loop
-add-k c = omega (arith, c.before.before.loop-test.true)
+add-k : tie.Need-overflow_add-k invariant-loop decreases-loop
+add-k c = omega (arith, c.loop-k-test.true)
 
-loop-less : tie.Need-loop-smaller invariant-loop decreases-loop
-loop-less c = omega (arith, c.before.before.loop-test.true)
+loop-less : tie.Need-loop-k-smaller invariant-loop decreases-loop
+loop-less c = omega (arith, c.loop-k-test.true)
 
-loop-again : tie.Need-loop-preserved invariant-loop decreases-loop
+loop-again : tie.Need-loop-k-preserved invariant-loop decreases-loop
 loop-again c =
-    let t = c.before.before in
-    asking_miss _ _ _ _ t.before.loop.invariant t.loop-test.true (ap (ltb 0) (sym c.before.clause-at.ensures) ∙ zero_kept _ c.if1.false)
+    let t = c in
+    asking_miss _ _ _ _ t.loop-k.invariant t.loop-k-test.true (ap (ltb 0) (sym c.clause_at.ensures) ∙ zero_kept _ c.if-clause_at-ne0.false)
 
-returns-2 : tie.Need-returns-2 invariant-loop decreases-loop
+returns-2 : tie.Need-returns invariant-loop decreases-loop
 returns-2 c =
-    let l = c.before in
-    let s = l.before.before.before.before.before in
-    none_asked _ _ _ _ l.loop.invariant c.loop-test.false
-    ∙ ap (first (λ (j : ℕ). ltb 0 (check_clause (definitions_in s.args.definitions.now) s.args.values.now s.args.numbers.now s.args.check j)) 0) l.before.count.ensures
+    let l = c in
+    let s = l in
+    none_asked _ _ _ _ l.loop-k.invariant c.loop-k-test.false
+    ∙ ap (first (λ (j : ℕ). ltb 0 (check_clause (definitions_in s.args.definitions.now) s.args.values.now s.args.numbers.now s.args.check j)) 0) l.count-n.ensures
 
 pub first_fault_spec : {M : Type 1} → statement M
 first_fault_spec =

@@ -11,13 +11,15 @@ use Rattle.access_check.proofs.judge.found.Tie as tie
 abbrev said : ℕ → ℕ → ℕ → Definition → Finding
 said number clause other d = record { number = number; clause = clause; token = d.name; other = record { 0 = other } }
 
-definition-at-requires : tie.Need-definition-at-requires
+definition-at-requires : tie.Need-definition_at-d-requires
 definition-at-requires c κs = search rules
 
 returns : tie.Need-returns
 returns c =
-    let s = c.before.before.before in
-    ap (said s.args.number s.args.clause s.args.other.0) c.before.definition-at.ensures
+    let s = c in
+    ap (said s.args.number s.args.clause s.args.other.0) c.definition_at-d.ensures
 
 pub found_spec : {M : Type 1} → statement M
-found_spec = tie.close (tie.spec definition-at-requires returns)
+found_spec = tie.close (tie.spec
+    definition-at-requires
+    returns)

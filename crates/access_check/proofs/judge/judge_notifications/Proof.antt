@@ -12,41 +12,41 @@ use borrow.Author.Rules.{rules}
 use Rattle.access_check.proofs.judge.judge_notifications.Statement.{statement}
 use Rattle.access_check.proofs.judge.judge_notifications.Tie as tie
 
-count-requires : tie.Need-count-requires
+count-requires : tie.Need-count-n-requires
 count-requires c κs = search rules
 
-first-fault-requires : tie.Need-first-fault-requires
+first-fault-requires : tie.Need-first_fault-fault-requires
 first-fault-requires c κs = search rules
 
-clause-at-requires : tie.Need-clause-at-requires
+clause-at-requires : tie.Need-clause_at-clause-requires
 clause-at-requires c κs = search rules
 
-notification-other-requires : tie.Need-notification-other-requires
+notification-other-requires : tie.Need-notification_other-other-requires
 notification-other-requires c κs = search rules
 
 found-requires : tie.Need-found-requires
 found-requires c κs = search rules
 
-returns : tie.Need-returns
+returns : tie.Need-returns-then-fault-n
 unfolding notification_broken
 returns c =
-    let o = c.before in
-    let a = o.before in
-    let t = a.before in
-    let f = t.before in
-    let s = f.before.before.before.before.before in
+    let o = c in
+    let a = o in
+    let t = a in
+    let f = t in
+    let s = f in
     let ds = definitions_in s.args.definitions.now in
-    first_broken (notification_broken ds s.args.values.now s.args.numbers.now) (length ds) f.first-fault.result refl refl f.first-fault.ensures (omega (arith, t.if1.true, f.before.count.ensures)) _
-    (c.found.ensures ∙ ap (found ds 22 a.clause-at.result f.first-fault.result) o.notification_other.ensures
-    ∙ ap (λ (x : ℕ). found ds 22 x f.first-fault.result (notification_other ds s.args.values.now f.first-fault.result x)) a.clause-at.ensures)
+    first_broken (notification_broken ds s.args.values.now s.args.numbers.now) (length ds) f.first_fault-fault.result refl refl f.first_fault-fault.ensures (omega (arith, t.if-fault-n.true, f.count-n.ensures)) _
+    (c.found.ensures ∙ ap (found ds 22 a.clause_at-clause.result f.first_fault-fault.result) o.notification_other-other.ensures
+    ∙ ap (λ (x : ℕ). found ds 22 x f.first_fault-fault.result (notification_other ds s.args.values.now f.first_fault-fault.result x)) a.clause_at-clause.ensures)
 
-returns-2 : tie.Need-returns-2
+returns-2 : tie.Need-returns
 unfolding notification_broken
 returns-2 c =
-    let f = c.before in
-    let s = f.before.before.before.before.before in
+    let f = c in
+    let s = f in
     let ds = definitions_in s.args.definitions.now in
-    none_broken (notification_broken ds s.args.values.now s.args.numbers.now) (length ds) f.first-fault.result refl refl f.first-fault.ensures (omega (arith, c.if1.false, f.before.count.ensures))
+    none_broken (notification_broken ds s.args.values.now s.args.numbers.now) (length ds) f.first_fault-fault.result refl refl f.first_fault-fault.ensures (omega (arith, c.if-fault-n.false, f.count-n.ensures))
 
 pub judge_notifications_spec : {M : Type 1} → statement M
 judge_notifications_spec =

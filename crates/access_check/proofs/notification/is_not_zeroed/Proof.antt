@@ -7,34 +7,40 @@ use borrow.Author.Rules.{rules}
 use Rattle.access_check.proofs.notification.is_not_zeroed.Statement.{statement}
 use Rattle.access_check.proofs.notification.is_not_zeroed.Tie as tie
 
-run-of-requires : tie.Need-run-of-requires
+run-of-requires : tie.Need-run_of-run-requires
 run-of-requires c κs = search rules
 
-sub_at : tie.Need-overflow-sub-at
+sub_at : tie.Need-overflow_sub-at
 sub_at c =
-    let r = c.before.before in
-    let s = r.before.before in
-    let run = r.run_of.ensures in
-    omega (arith, s.requires, run_long s.args.numbers.now r.run_of.result.from.0 r.run_of.result.count (oid_in s.args.numbers.now s.args.d) run.inside run.held)
+    let r = c in
+    let s = r in
+    let run = r.run_of-run.ensures in
+    omega (arith, s.requires, run_long s.args.numbers.now r.run_of-run.result.from.0 r.run_of-run.result.count (oid_in s.args.numbers.now s.args.d) run.inside run.held)
 
-add_at : tie.Need-overflow-add-at
+add_at : tie.Need-overflow_add-at
 add_at c = search rules
 
-mul-result : tie.Need-overflow-mul-result
+mul-result : tie.Need-offset_bounds-numbers-at
 mul-result c = search rules
 
-shared-slice-read-result : tie.Need-shared-slice-read-result
+shared-slice-read-result : tie.Need-bounds-numbers-at
 shared-slice-read-result c =
-    let r = c.before.before.before.before in
-    let s = r.before.before in
-    let run = r.run_of.ensures in
-    omega (arith, s.requires, run.inside, run_long s.args.numbers.now r.run_of.result.from.0 r.run_of.result.count (oid_in s.args.numbers.now s.args.d) run.inside run.held)
+    let r = c in
+    let s = r in
+    let run = r.run_of-run.ensures in
+    omega (arith, s.requires, run.inside, run_long s.args.numbers.now r.run_of-run.result.from.0 r.run_of-run.result.count (oid_in s.args.numbers.now s.args.d) run.inside run.held)
 
 returns : tie.Need-returns
 returns c =
-    let run = c.before.before.before.before.run_of.ensures in
-    next_to_last _ _ _ _ run.inside run.held c.before.before.before.before.before.before.requires
+    let run = c.run_of-run.ensures in
+    next_to_last _ _ _ _ run.inside run.held c.requires
 
 pub is_not_zeroed_spec : {M : Type 1} → statement M
 is_not_zeroed_spec =
-    tie.close (tie.spec run-of-requires sub_at add_at mul-result shared-slice-read-result returns)
+    tie.close (tie.spec
+    run-of-requires
+    sub_at
+    add_at
+    mul-result
+    shared-slice-read-result
+    returns)

@@ -6,12 +6,14 @@ use borrow.Author.Rules.{rules}
 use Rattle.access_check.proofs.notification.lists_hidden.Statement.{statement}
 use Rattle.access_check.proofs.notification.lists_hidden.Tie as tie
 
-first-with-requires : tie.Need-first-with-requires
+first-with-requires : tie.Need-first_with-requires
 first-with-requires c κs = search rules
 
 returns : tie.Need-returns
 unfolding lists_hidden any
-returns c = rw c.before.first_with.ensures
+returns c = rw c.first_with.ensures
 
 pub lists_hidden_spec : {M : Type 1} → statement M
-lists_hidden_spec = tie.close (tie.spec first-with-requires returns)
+lists_hidden_spec = tie.close (tie.spec
+    first-with-requires
+    returns)

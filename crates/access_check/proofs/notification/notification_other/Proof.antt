@@ -11,26 +11,30 @@ use borrow.Author.Rules.{rules}
 use Rattle.access_check.proofs.notification.notification_other.Statement.{statement}
 use Rattle.access_check.proofs.notification.notification_other.Tie as tie
 
-definition-at-requires : tie.Need-definition-at-requires
+definition-at-requires : tie.Need-definition_at-d-requires
 definition-at-requires c κs = search rules
 
-first-with-requires : tie.Need-first-with-requires
+first-with-requires : tie.Need-first_with-requires
 first-with-requires c κs = search rules
 
-returns : tie.Need-returns
+returns : tie.Need-returns-then-clause-eq2
 unfolding notification_other
 returns c =
-    let d = c.before.before in
-    let s = d.before.before.before in
-    rw (eq-eqb _ 2 c.before.if1.true)
-    (c.first_with.ensures ∙ ap (λ (x : Definition). first_with (definitions_in s.args.definitions.now) s.args.values.now not_accessible x.objects) d.definition-at.ensures)
+    let d = c in
+    let s = d in
+    rw (eq-eqb _ 2 c.if-clause-eq2.true)
+    (c.first_with.ensures ∙ ap (λ (x : Definition). first_with (definitions_in s.args.definitions.now) s.args.values.now not_accessible x.objects) d.definition_at-d.ensures)
 
-returns-2 : tie.Need-returns-2
+returns-2 : tie.Need-returns
 unfolding notification_other
 returns-2 c =
-    let e = c.before in
-    rw (ne_eqb _ 2 e.if1.false) (ap (λ (x : Definition). x.name.0) e.before.definition-at.ensures)
+    let e = c in
+    rw (ne_eqb _ 2 e.if-clause-eq2.false) (ap (λ (x : Definition). x.name.0) e.definition_at-d.ensures)
 
 pub notification_other_spec : {M : Type 1} → statement M
 notification_other_spec =
-    tie.close (tie.spec definition-at-requires first-with-requires returns returns-2)
+    tie.close (tie.spec
+    definition-at-requires
+    first-with-requires
+    returns
+    returns-2)

@@ -13,60 +13,60 @@ use Rattle.clause_table.proofs.row_clause.has_its_row.Statement.{statement}
 use Rattle.clause_table.proofs.row_clause.has_its_row.Tie as tie
 
 -- the type that is read is that of definition k, and has a place
-type_is : (h : tie.After-type-of) → (let s = h.before.before.before.before in h.type_of.result ≡ type_of (entry (definitions_in s.args.definitions.now) s.args.k.0))
-type_is h = h.type_of.ensures ∙ ap type_of h.before.definition-at.ensures
+type_is : (h : tie.After-type_of-number) → (let s = h in h.type_of-number.result ≡ type_of (entry (definitions_in s.args.definitions.now) s.args.k.0))
+type_is h = h.type_of-number.ensures ∙ ap type_of h.definition_at.ensures
 
-type_inside : (h : tie.After-type-of) → h.type_of.result < places
-type_inside h = omega (arith, h.type_of.ensures, type_few h.before.definition-at.result)
+type_inside : (h : tie.After-type_of-number) → h.type_of-number.result < places
+type_inside h = omega (arith, h.type_of-number.ensures, type_few h.definition_at.result)
 
-definition-at-requires : tie.Need-definition-at-requires
+definition-at-requires : tie.Need-definition_at-requires
 definition-at-requires c κs = search rules
 
-type-of-requires : tie.Need-type-of-requires
+type-of-requires : tie.Need-type_of-number-requires
 type-of-requires c κs = search rules
 
-mul-if1 : tie.Need-overflow-mul-if1
+mul-if1 : tie.Need-offset_bounds-counts-number
 mul-if1 c = omega (arith, type_inside c)
 
-element-copy-out-if1 : tie.Need-element-copy-out-if1
-element-copy-out-if1 c = type_inside c
+element-copy-out-if1 : tie.Need-bounds-counts-number
+element-copy-out-if1 c = type_inside c.before
 
-returns : tie.Need-returns
+returns : tie.Need-returns-then-counts-number-ne1
 returns c =
-    let h = c.before.before in
-    let s = h.before.before.before.before in
-    not_one _ s.args.numbers.now _ _ _ s.requires.0 _ (type_is h) c.if1.true
+    let h = c in
+    let s = h in
+    not_one _ s.args.numbers.now _ _ _ s.requires.0 _ (type_is h.before.before.before) c.if-counts-number-ne1.true
 
-mul-t9 : tie.Need-overflow-mul-t9
-mul-t9 c = omega (arith, type_inside c.before.before)
+mul-t9 : tie.Need-offset_bounds-firsts-number
+mul-t9 c = omega (arith, type_inside c.before.before.before)
 
-element-copy-out-t12 : tie.Need-element-copy-out-t12
-element-copy-out-t12 c = type_inside c.before.before
+element-copy-out-t12 : tie.Need-bounds-firsts-number
+element-copy-out-t12 c = type_inside c.before.before.before.before
 
-definition-at-requires-2 : tie.Need-definition-at-requires-2
+definition-at-requires-2 : tie.Need-definition_at-row-requires
 definition-at-requires-2 c κs = search rules
 
-add-if2 : tie.Need-overflow-add-if2
+add-if2 : tie.Need-overflow_add-k
 add-if2 c = search rules
 
-returns-2 : tie.Need-returns-2
+returns-2 : tie.Need-returns-then-row-k
 returns-2 c =
-    let read = c.before.before.before in
-    let e = read.before.before in
-    let h = e.before.before in
-    let s = h.before.before.before.before in
-    other_parent _ s.args.numbers.now _ _ _ s.requires.0 _ (type_is h) e.if1.false _ read.definition-at2.ensures c.if2.true
+    let read = c in
+    let e = read in
+    let h = e in
+    let s = h in
+    other_parent _ s.args.numbers.now _ _ _ s.requires.0 _ (type_is h.before.before.before.before.before.before.before.before.before) e.if-counts-number-ne1.false _ read.definition_at-row.ensures c.if-row-k.true
 
-ends-in-one-requires : tie.Need-ends-in-one-requires
+ends-in-one-requires : tie.Need-ends_in_one-requires
 ends-in-one-requires c κs = search rules
 
-returns-3 : tie.Need-returns-3
+returns-3 : tie.Need-returns
 returns-3 c =
-    let read = c.before.before.before.before in
-    let e = read.before.before in
-    let h = e.before.before in
-    let s = h.before.before.before.before in
-    c.ends_in_one.ensures ∙ own_parent _ s.args.numbers.now _ _ _ s.requires.0 _ (type_is h) e.if1.false _ read.definition-at2.ensures c.before.if2.false
+    let read = c in
+    let e = read in
+    let h = e in
+    let s = h in
+    c.ends_in_one.ensures ∙ own_parent _ s.args.numbers.now _ _ _ s.requires.0 _ (type_is h.before.before.before.before.before.before.before.before.before.before) e.if-counts-number-ne1.false _ read.definition_at-row.ensures c.if-row-k.false
 
 pub has_its_row_spec : {M : Type 1} → statement M
 has_its_row_spec =

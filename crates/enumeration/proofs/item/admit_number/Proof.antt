@@ -9,55 +9,55 @@ use borrow.Author.Rules.{rules}
 use Rattle.enumeration.proofs.item.admit_number.Statement.{statement}
 use Rattle.enumeration.proofs.item.admit_number.Tie as tie
 
-abbrev start_of : tie.After-is-lower → tie.Start
+abbrev start_of : tie.After-is_lower → tie.Start
 start_of n = n.before.before.before.before.before
 
 -- whether the token is a label
-named : (n : tie.After-is-lower) → n.is_lower.result ≡ is_name (start_of n).args.classes.now (start_of n).args.item.token
-named n = n.is_lower.ensures ∙ ap is_lower n.before.class_at.ensures
+named : (n : tie.After-is_lower) → n.is_lower.result ≡ is_name (start_of n).args.classes.now (start_of n).args.item.token
+named n = n.is_lower.ensures ∙ ap is_lower n.class_at.ensures
 
-class-at-requires : tie.Need-class-at-requires
+class-at-requires : tie.Need-class_at-requires
 class-at-requires c κs = search rules
 
-is-lower-requires : tie.Need-is-lower-requires
+is-lower-requires : tie.Need-is_lower-requires
 is-lower-requires c κs = search rules
 
-add-is-outside : tie.Need-overflow-add-is-outside
+add-is-outside : tie.Need-overflow_add-item
 add-is-outside c = search rules
 
-is-outside-requires : tie.Need-is-outside-requires
+is-outside-requires : tie.Need-is_outside-requires
 is-outside-requires c κs = search rules
 
-returns : tie.Need-returns
+returns : tie.Need-returns-then-is_outside
 returns c =
-    let n = c.before.before.before.before in
-    let s = start_of n in
-    (refl, record { is = number_outside s.args.classes.now s.args.values.now s.args.limits _ _ (sym (named n) ∙ c.before.before.before.if1.true) (sym c.before.is_outside.ensures ∙ c.if2.true); ready = λ e. absurd (true_false refl e) })
+    let n = c in
+    let s = start_of n.before.before.before.before in
+    (refl, record { is = number_outside s.args.classes.now s.args.values.now s.args.limits _ _ (sym (named n.before.before.before.before) ∙ c.if-is_lower.true) (sym c.is_outside.ensures ∙ c.if-is_outside.true); ready = λ e. absurd (true_false refl e) })
 
-place-number-requires : tie.Need-place-number-requires
+place-number-requires : tie.Need-place_number-requires
 place-number-requires c κs =
-    let n = c.before.before.before.before.before in
-    let s = start_of n in
-    (s.pre.0, (s.pre.1, sym (named n) ∙ c.before.before.before.before.if1.true))
+    let n = c in
+    let s = start_of n.before.before.before.before.before in
+    (s.requires.0, (s.requires.1, sym (named n.before.before.before.before.before) ∙ c.if-is_lower.true))
 
-same_length : tie.Need-same-length
+same_length : tie.Need-shape_of-links-then-is_lower
 same_length c = search rules
 
-returns-2 : tie.Need-returns-2
+returns-2 : tie.Need-returns-then-is_lower
 returns-2 c =
-    let p = c.before.before in
-    let o = p.before.before in
-    let n = o.before.before.before.before in
-    let s = start_of n in
-    let told = p.place-number.ensures.1 in
-    (p.place-number.ensures.0, record { is = number_found s.args.classes.now s.args.values.now s.args.limits _ _ _ (sym (named n) ∙ o.before.before.before.if1.true) (sym o.before.is_outside.ensures ∙ o.if2.false) told.is; ready = told.ready })
+    let p = c in
+    let o = p in
+    let n = o in
+    let s = start_of n.before.before.before.before.before.before.before.before in
+    let told = p.place_number.ensures.1 in
+    (p.place_number.ensures.0, record { is = number_found s.args.classes.now s.args.values.now s.args.limits _ _ _ (sym (named n.before.before.before.before.before.before.before.before) ∙ o.if-is_lower.true) (sym o.is_outside.ensures ∙ o.if-is_outside.false) told.is; ready = told.ready })
 
-returns-3 : tie.Need-returns-3
+returns-3 : tie.Need-returns
 returns-3 c =
-    let n = c.before in
-    let s = start_of n in
-    let name = sym (named n) ∙ c.if1.false in
-    (refl, record { is = number_none s.args.classes.now s.args.values.now s.args.limits _ _ name; ready = λ e. ready_skip _ _ _ _ _ s.pre.0 name })
+    let n = c in
+    let s = start_of n.before in
+    let name = sym (named n.before) ∙ c.if-is_lower.false in
+    (refl, record { is = number_none s.args.classes.now s.args.values.now s.args.limits _ _ name; ready = λ e. ready_skip _ _ _ _ _ s.requires.0 name })
 
 pub admit_number_spec : {M : Type 1} → statement M
 admit_number_spec =

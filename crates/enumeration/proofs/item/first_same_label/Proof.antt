@@ -10,36 +10,36 @@ use mathlib.Core.Path.{◌≡◌, refl, sym, ◌∙◌}
 use Rattle.enumeration.proofs.item.first_same_label.Statement.{statement}
 use Rattle.enumeration.proofs.item.first_same_label.Tie as tie
 
-abbrev invariant-loop : tie.invariant-loop
+abbrev invariant-loop : tie.invariant-loop-j
 invariant-loop text starts ends classes to j₀ j = first (has_label (spelling_in text starts ends) classes to) j to ≡ first (has_label (spelling_in text starts ends) classes to) j₀ to
 
-abbrev decreases-loop : tie.decreases-loop
+abbrev decreases-loop : tie.decreases-loop-j
 decreases-loop text starts ends classes to j₀ j = to - j
 
-loop-holds : tie.Need-loop-init invariant-loop decreases-loop
+loop-holds : tie.Need-loop-j-init invariant-loop decreases-loop
 loop-holds c = refl
 
-has-label-requires : tie.Need-has-label-requires invariant-loop decreases-loop
+has-label-requires : tie.Need-has_label-requires invariant-loop decreases-loop
 has-label-requires c κs = search rules
 
-returns : tie.Need-returns invariant-loop decreases-loop
+returns : tie.Need-returns-then-has_label invariant-loop decreases-loop
 returns c =
-    let l = c.before.before.before in
-    sym (first_hit _ _ _ c.before.before.loop-test.true (sym c.before.has_label.ensures ∙ c.if1.true)) ∙ l.loop.invariant
+    let l = c in
+    sym (first_hit _ _ _ c.loop-j-test.true (sym c.has_label.ensures ∙ c.if-has_label.true)) ∙ l.loop-j.invariant
 
-add-j : tie.Need-overflow-add-j invariant-loop decreases-loop
+add-j : tie.Need-overflow_add-j invariant-loop decreases-loop
 add-j c = search rules
 
-loop-less : tie.Need-loop-smaller invariant-loop decreases-loop
+loop-less : tie.Need-loop-j-smaller invariant-loop decreases-loop
 loop-less c = search rules
 
-loop-again : tie.Need-loop-preserved invariant-loop decreases-loop
+loop-again : tie.Need-loop-j-preserved invariant-loop decreases-loop
 loop-again c =
-    let l = c.before.before.before in
-    rw (add-one l.loop.j) (sym (first_miss _ _ _ c.before.before.loop-test.true (sym c.before.has_label.ensures ∙ c.if1.false)) ∙ l.loop.invariant)
+    let l = c in
+    rw (add-one l.loop-j.j) (sym (first_miss _ _ _ c.loop-j-test.true (sym c.has_label.ensures ∙ c.if-has_label.false)) ∙ l.loop-j.invariant)
 
-returns-2 : tie.Need-returns-2 invariant-loop decreases-loop
-returns-2 c = sym (first_none _ _ _ c.loop-test.false) ∙ c.before.loop.invariant
+returns-2 : tie.Need-returns invariant-loop decreases-loop
+returns-2 c = sym (first_none _ _ _ c.loop-j-test.false) ∙ c.loop-j.invariant
 
 pub first_same_label_spec : {M : Type 1} → statement M
 first_same_label_spec =

@@ -10,51 +10,51 @@ use Rattle.enumeration.proofs.Placing.{Searching, searching_start, searching_roo
 use Rattle.enumeration.proofs.item.search_labels.Statement.{statement}
 use Rattle.enumeration.proofs.item.search_labels.Tie as tie
 
-abbrev invariant-loop : tie.invariant-loop
+abbrev invariant-loop : tie.invariant-loop-token
 invariant-loop text starts ends classes links₀ base to token₀ links token = Searching (label_again (spelling_in text starts ends) classes base) classes (label_turns (spelling_in text starts ends)) base to links₀ links token
 
-abbrev decreases-loop : tie.decreases-loop
+abbrev decreases-loop : tie.decreases-loop-token
 decreases-loop text starts ends classes links₀ base to token₀ links token = to - token
 
-abbrev start_of : tie.At-loop invariant-loop decreases-loop → tie.Start invariant-loop decreases-loop
+abbrev start_of : tie.At-loop-token invariant-loop decreases-loop → tie.Start invariant-loop decreases-loop
 start_of l = l.before.before.before.before.before.before
 
-loop-holds : tie.Need-loop-init invariant-loop decreases-loop
-loop-holds c = searching_start _ _ _ _ _ _ c.before.before.before.before.before.requires.1
+loop-holds : tie.Need-loop-token-init invariant-loop decreases-loop
+loop-holds c = searching_start _ _ _ _ _ _ c.requires.1
 
-admit-label-requires : tie.Need-admit-label-requires invariant-loop decreases-loop
+admit-label-requires : tie.Need-admit_label-requires invariant-loop decreases-loop
 admit-label-requires c κs =
-    let l = c.before.before in
-    let s = start_of l in
-    let below = c.before.loop-test.true in
-    (l.loop.invariant.ready, (searching_room _ _ _ _ _ _ _ _ l.loop.invariant below s.pre.1, omega (arith, s.pre.0, below)))
+    let l = c in
+    let s = start_of l.before.before in
+    let below = c.loop-token-test.true in
+    (l.loop-token.invariant.ready, (searching_room _ _ _ _ _ _ _ _ l.loop-token.invariant below s.requires.1, omega (arith, s.requires.0, below)))
 
-same_length : tie.Need-same-length invariant-loop decreases-loop
-same_length c = c.before.before.before.admit-label.ensures.0 ∙ c.before.before.before.before.before.before.loop.invariant.long
+same_length : tie.Need-shape_of-links-then-admit_label invariant-loop decreases-loop
+same_length c = c.admit_label.ensures.0 ∙ c.loop-token.invariant.long
 
-returns : tie.Need-returns invariant-loop decreases-loop
+returns : tie.Need-returns-then-admit_label invariant-loop decreases-loop
 returns c =
-    let a = c.before.before.before in
-    let l = a.before.before.before in
-    searching_hit _ _ _ _ _ _ _ _ l.loop.invariant a.before.before.loop-test.true _ _ a.admit-label.ensures.1 c.if1.true
+    let a = c in
+    let l = a in
+    searching_hit _ _ _ _ _ _ _ _ l.loop-token.invariant a.loop-token-test.true _ _ a.admit_label.ensures.1 c.if-admit_label.true
 
-add-token : tie.Need-overflow-add-token invariant-loop decreases-loop
+add-token : tie.Need-overflow_add-token invariant-loop decreases-loop
 add-token c = search rules
 
-loop-less : tie.Need-loop-smaller invariant-loop decreases-loop
+loop-less : tie.Need-loop-token-smaller invariant-loop decreases-loop
 loop-less c = search rules
 
-loop-again : tie.Need-loop-preserved invariant-loop decreases-loop
+loop-again : tie.Need-loop-token-preserved invariant-loop decreases-loop
 loop-again c =
-    let a = c.before.before.before in
-    let l = a.before.before.before in
-    searching_next _ _ _ _ _ _ _ _ l.loop.invariant a.before.before.loop-test.true _ _ a.admit-label.ensures.1 c.if1.false a.admit-label.ensures.0
+    let a = c in
+    let l = a in
+    searching_next _ _ _ _ _ _ _ _ l.loop-token.invariant a.loop-token-test.true _ _ a.admit_label.ensures.1 c.if-admit_label.false a.admit_label.ensures.0
 
-same-length-2 : tie.Need-same-length-2 invariant-loop decreases-loop
-same-length-2 c = c.before.loop.invariant.long
+same-length-2 : tie.Need-shape_of-links invariant-loop decreases-loop
+same-length-2 c = c.loop-token.invariant.long
 
-returns-2 : tie.Need-returns-2 invariant-loop decreases-loop
-returns-2 c = searching_end _ _ _ _ _ _ _ _ c.before.loop.invariant c.loop-test.false
+returns-2 : tie.Need-returns invariant-loop decreases-loop
+returns-2 c = searching_end _ _ _ _ _ _ _ _ c.loop-token.invariant c.loop-token-test.false
 
 pub search_labels_spec : {M : Type 1} → statement M
 search_labels_spec =

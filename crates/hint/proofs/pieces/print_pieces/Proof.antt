@@ -26,7 +26,7 @@ use Rattle.hint.proofs.PrintingLaws.{Turned, print_from, print_start, print_end,
 use Rattle.hint.proofs.pieces.print_pieces.Statement.{statement}
 use Rattle.hint.proofs.pieces.print_pieces.Tie as tie
 
-abbrev invariant-loop : tie.invariant-loop
+abbrev invariant-loop : tie.invariant-loop-at
 invariant-loop hint value out₀ cursor₀ at₀ pos₀ out cursor at pos =
     ((r : Progress) (after : List ℕ) → Followed (print_from value (pieces_from hint cursor) at) pos r out after
     → Followed (printing (pieces_in (read_hint hint)) value) 0 r out₀ after)
@@ -35,121 +35,120 @@ invariant-loop hint value out₀ cursor₀ at₀ pos₀ out cursor at pos =
     × (cursor < length hint)
     × (Readable hint cursor)
 
-abbrev decreases-loop : tie.decreases-loop
+abbrev decreases-loop : tie.decreases-loop-at
 decreases-loop hint value out₀ cursor₀ at₀ pos₀ out cursor at pos = length value - at
 
 -- what a turn knows once it has its piece
-abbrev hint : tie.After-known-told invariant-loop decreases-loop → List ℕ
-hint d = d.before.before.before.before.before.before.before.before.before.args.hint.now
+abbrev hint : tie.In-Whole invariant-loop decreases-loop → List ℕ
+hint d = d.args.hint.now
 
-abbrev value : tie.After-known-told invariant-loop decreases-loop → List ℕ
-value d = d.before.before.before.before.before.before.before.before.before.args.value.now
+abbrev value : tie.In-Whole invariant-loop decreases-loop → List ℕ
+value d = d.args.value.now
 
-abbrev cursor : tie.After-known-told invariant-loop decreases-loop → ℕ
-cursor d = d.before.before.before.before.before.loop.cursor
+abbrev cursor : tie.In-Whole invariant-loop decreases-loop → ℕ
+cursor d = d.loop-at.cursor
 
-abbrev at : tie.After-known-told invariant-loop decreases-loop → ℕ
-at d = d.before.before.before.before.before.loop.at
+abbrev at : tie.In-Whole invariant-loop decreases-loop → ℕ
+at d = d.loop-at.at
 
-abbrev piece : tie.After-known-told invariant-loop decreases-loop → Piece
-piece d = d.before.piece.given.0.0
+abbrev piece : tie.In-Whole invariant-loop decreases-loop → Piece
+piece d = d.in-Whole.piece
 
 -- the piece at the cursor, and the text of its uses
-abbrev named : tie.After-known-told invariant-loop decreases-loop → Piece
+abbrev named : tie.In-Whole invariant-loop decreases-loop → Piece
 named d = piece_at (hint d) (cursor d)
 
-abbrev text : tie.After-known-told invariant-loop decreases-loop → Outcome
+abbrev text : tie.In-Whole invariant-loop decreases-loop → Outcome
 text d = piece_text (named d) (value d) (at d)
 
 -- that piece was found
-there : (d : tie.After-known-told invariant-loop decreases-loop)
+there : (d : tie.In-Whole invariant-loop decreases-loop)
     → (is_piece (hint d) (cursor d) ≡ true)
     × (piece d ≡ named d)
-    × (d.before.piece.given.0.1.0 ≡ piece_end (hint d) (cursor d))
-there d = found_whole _ _ _ _ (sym d.before.piece.given.1 ∙ d.before.before.before.piece_at.ensures)
+    × (d.in-Whole.next ≡ piece_end (hint d) (cursor d))
+there d = found_whole _ _ _ _ (sym d.in-Whole.is ∙ d.piece_at.ensures)
 
-allowed : (d : tie.After-known-told invariant-loop decreases-loop) → Allowed (piece d)
+allowed : (d : tie.In-Whole invariant-loop decreases-loop) → Allowed (piece d)
 allowed d = subst Allowed (sym (there d).1) (piece_allowed (hint d) (cursor d) (there d).0)
 
-below : (d : tie.After-known-told invariant-loop decreases-loop) → at d < length (value d)
-below d = d.before.before.before.before.loop-test.true
+below : (d : tie.In-Whole invariant-loop decreases-loop) → at d < length (value d)
+below d = d.loop-at-test.true
 
-few : (d : tie.After-known-told invariant-loop decreases-loop) → length (value d) ≤ 1024
-few d = d.before.before.before.before.before.before.before.before.before.requires.1.0
+few : (d : tie.In-Whole invariant-loop decreases-loop) → length (value d) ≤ 1024
+few d = d.requires.1.0
 
-octets : (d : tie.After-known-told invariant-loop decreases-loop) → Octets (value d)
-octets d k = omega (arith, d.before.before.before.before.before.before.before.shared-slice-known2.given k)
+octets : (d : tie.In-Whole invariant-loop decreases-loop) → Octets (value d)
+octets d k = omega (arith, d.shared_slice_known-2-1.given k)
 
 -- where the octets of the piece end, as the code has it
-abbrev next_octet : tie.After-repeats-of invariant-loop decreases-loop → ℕ
-next_octet d = d.before.uses_start.result + d.repeats-of.result * (piece d.before.before).size
+abbrev next_octet : tie.After-repeats_of-count invariant-loop decreases-loop → ℕ
+next_octet d = d.uses_start-start.result + d.repeats_of-count.result * (piece d.before.before).size
 
-end : (d : tie.After-repeats-of invariant-loop decreases-loop)
-    → let k = d.before.before in
-    next_octet d ≡ uses_end (piece k) (value k) (at k)
+end : (d : tie.After-repeats_of-count invariant-loop decreases-loop)
+    → let k = d in
+    next_octet d ≡ uses_end (piece k.before.before) (value k.before.before) (at k.before.before)
 end d =
-    let k = d.before.before in
-    ap (λ (n : ℕ). n + d.repeats-of.result * (piece k).size) d.before.uses_start.ensures
-    ∙ ap (λ (n : ℕ). uses_start (piece k) (at k) + n * (piece k).size) d.repeats-of.ensures
-    ∙ uses_end_is (piece k) (value k) (at k)
+    let k = d in
+    ap (λ (n : ℕ). n + d.repeats_of-count.result * (piece k.before.before).size) d.uses_start-start.ensures
+    ∙ ap (λ (n : ℕ). uses_start (piece k.before.before) (at k.before.before) + n * (piece k.before.before).size) d.repeats_of-count.ensures
+    ∙ uses_end_is (piece k.before.before) (value k.before.before) (at k.before.before)
 
 -- the way there is short
-short : (d : tie.After-repeats-of invariant-loop decreases-loop) → d.repeats-of.result * (piece d.before.before).size ≤ 65025
+short : (d : tie.After-repeats_of-count invariant-loop decreases-loop) → d.repeats_of-count.result * (piece d.before.before).size ≤ 65025
 short d =
-    let k = d.before.before in
-    let small : (piece k).size ≤ 255 = omega (arith, allowed k, longest_small (piece k).format) in
+    let k = d in
+    let small : (piece k.before.before).size ≤ 255 = omega (arith, allowed k.before.before, longest_small (piece k.before.before).format) in
     omega (
       arith,
-      ap (λ (n : ℕ). n * (piece k).size) d.repeats-of.ensures,
-      uses_octets_small (piece k) (value k) (at k) (octets k (at k)) small,
+      ap (λ (n : ℕ). n * (piece k.before.before).size) d.repeats_of-count.ensures,
+      uses_octets_small (piece k.before.before) (value k.before.before) (at k.before.before) (octets k.before.before (at k.before.before)) small,
     )
 
 -- the uses of the piece were followed, with what they answered
-followed : (d : tie.After-print-uses invariant-loop decreases-loop) (r : Progress) → d.print-uses.result ≡ r
-    → let k = d.before.before.before.before in
-    let here = k.before.before.before.before.before.loop in
-    Followed (text k) here.pos r here.out d.print-uses.new.1.1.1.1.0
+followed : (d : tie.After-print_uses invariant-loop decreases-loop) (r : Progress) → d.print_uses.result ≡ r
+    → let k = d in
+    let here = k.loop-at in
+    Followed (text k.before.before.before.before) here.pos r here.out d.print_uses.new.out
 followed d r e =
-    let k = d.before.before.before.before in
-    let start = d.before.before.before.uses_start in
-    let count = d.before.before.repeats-of in
+    let k = d in
+    let start = d.uses_start-start in
+    let count = d.repeats_of-count in
     followed_as
-    (ap (λ (n : ℕ). uses n (piece k) (value k) start.result) count.ensures
-    ∙ ap (λ (n : ℕ). uses (repeats (piece k) (value k) (at k)) (piece k) (value k) n) start.ensures
-    ∙ ap (λ (x : Piece). piece_text x (value k) (at k)) (there k).1)
+    (ap (λ (n : ℕ). uses n (piece k.before.before.before.before) (value k.before.before.before.before) start.result) count.ensures
+    ∙ ap (λ (n : ℕ). uses (repeats (piece k.before.before.before.before) (value k.before.before.before.before) (at k.before.before.before.before)) (piece k.before.before.before.before) (value k.before.before.before.before) n) start.ensures
+    ∙ ap (λ (x : Piece). piece_text x (value k.before.before.before.before) (at k.before.before.before.before)) (there k.before.before.before.before).1)
     e
-    d.print-uses.ensures
+    d.print_uses.ensures
 
 -- after a turn, wherever the next one starts
-again : (d : tie.After-struct-known invariant-loop decreases-loop) (next : ℕ)
-    → let printed = d.before.before.before.before.before.before in
-    let k = printed.before.before.before.before in
-    Turned (hint k) (cursor k) next
-    → next < length (hint k)
-    → Readable (hint k) next
-    → invariant-loop (hint k) (value k) k.before.before.before.before.before.before.before.before.before.args.out.now 0 0 0
-    printed.print-uses.new.1.1.1.1.0 next (next_octet printed.before.before) d.before.before.n.given.0.0
+again : (d : tie.After-struct_known-1 invariant-loop decreases-loop) (next : ℕ)
+    → let printed = d in
+    let k = printed in
+    Turned (hint k.before.before.before.before.before.before.before.before) (cursor k.before.before.before.before.before.before.before.before) next
+    → next < length (hint k.before.before.before.before.before.before.before.before)
+    → Readable (hint k.before.before.before.before.before.before.before.before) next
+    → invariant-loop (hint k.before.before.before.before.before.before.before.before) (value k.before.before.before.before.before.before.before.before) k.args.out.now 0 0 0
+    printed.print_uses.new.out next (next_octet printed.before.before.before.before.before.before) d.in-To.n
 again d next turned inside whole =
-    let printed = d.before.before.before.before.before.before in
-    let k = printed.before.before.before.before in
-    let here = k.before.before.before.before.before.loop in
+    let printed = d in
+    let k = printed in
+    let here = k.loop-at in
     let inv = here.invariant in
-    let P : Piece = named k in
-    let given = d.before.before.n.given in
-    let done = followed printed (To given.0.0) given.1 in
-    let room : here.pos + 4 * (length (value k) - here.at) ≤ length here.out = inv.1 in
-    let fits : Allowed P = piece_allowed (hint k) (cursor k) (there k).0 in
-    let size = uses_size P (value k) fits.0 fits.1 (octets k) (repeats P (value k) (at k)) (uses_start P (at k)) in
+    let P : Piece = named k.before.before.before.before.before.before.before.before in
+    let done = followed printed.before.before.before.before (To d.in-To.n) d.in-To.is in
+    let room : here.pos + 4 * (length (value k.before.before.before.before.before.before.before.before) - here.at) ≤ length here.out = inv.1 in
+    let fits : Allowed P = piece_allowed (hint k.before.before.before.before.before.before.before.before) (cursor k.before.before.before.before.before.before.before.before) (there k.before.before.before.before.before.before.before.before).0 in
+    let size = uses_size P (value k.before.before.before.before.before.before.before.before) fits.0 fits.1 (octets k.before.before.before.before.before.before.before.before) (repeats P (value k.before.before.before.before.before.before.before.before) (at k.before.before.before.before.before.before.before.before)) (uses_start P (at k.before.before.before.before.before.before.before.before)) in
     let place = followed_next done in
-    let kept = printed.print-uses.auto.1.1.1.1.0 in
-    let end₁ = end printed.before.before ∙ ap (λ (x : Piece). uses_end x (value k) (at k)) (there k).1 in
-    let near = uses_start_near P (at k) in
-    let rest : List Piece = pieces_from (hint k) next in
-    let is = uses_end_is P (value k) (at k) in
-    let step = print_turn (hint k) (value k) (cursor k) (at k) next inv.3 inv.4 (below k) turned in (
+    let kept = printed.print_uses.auto.out in
+    let end₁ = end printed.before.before.before.before.before.before ∙ ap (λ (x : Piece). uses_end x (value k.before.before.before.before.before.before.before.before) (at k.before.before.before.before.before.before.before.before)) (there k.before.before.before.before.before.before.before.before).1 in
+    let near = uses_start_near P (at k.before.before.before.before.before.before.before.before) in
+    let rest : List Piece = pieces_from (hint k.before.before.before.before.before.before.before.before) next in
+    let is = uses_end_is P (value k.before.before.before.before.before.before.before.before) (at k.before.before.before.before.before.before.before.before) in
+    let step = print_turn (hint k.before.before.before.before.before.before.before.before) (value k.before.before.before.before.before.before.before.before) (cursor k.before.before.before.before.before.before.before.before) (at k.before.before.before.before.before.before.before.before) next inv.3 inv.4 (below k.before.before.before.before.before.before.before.before) turned in (
       λ (r : Progress) (after : List ℕ) f. inv.0 r after
           (followed_as (sym step) refl
-          (followed_joined (omega (arith, size)) done (followed_as (ap (print_from (value k) rest) end₁) refl f))),
+          (followed_joined (omega (arith, size)) done (followed_as (ap (print_from (value k.before.before.before.before.before.before.before.before) rest) end₁) refl f))),
       omega (arith, size),
       kept ∙ inv.2,
       inside,
@@ -157,17 +156,17 @@ again d next turned inside whole =
     )
 
 -- a turn takes an octet at least
-less : (d : tie.After-repeats-of invariant-loop decreases-loop)
-    → let k = d.before.before in
-    length (value k) - next_octet d < length (value k) - at k
+less : (d : tie.After-repeats_of-count invariant-loop decreases-loop)
+    → let k = d in
+    length (value k.before.before) - next_octet d < length (value k.before.before) - at k.before.before
 less d =
-    let k = d.before.before in
-    omega (arith, end d, uses_end_after (piece k) (value k) (at k) (allowed k).0, below k)
+    let k = d in
+    omega (arith, end d, uses_end_after (piece k.before.before) (value k.before.before) (at k.before.before) (allowed k.before.before).0, below k.before.before)
 
-loop-holds : tie.Need-loop-init invariant-loop decreases-loop
+loop-holds : tie.Need-loop-at-init invariant-loop decreases-loop
 loop-holds c =
-    let a = c.before.before.before.args in
-    let q = c.before.before.before.requires in
+    let a = c.args in
+    let q = c.requires in
     let known = hint_pieces a.hint.now q.0 in (
       λ (r : Progress) (after : List ℕ) f.
           let whole = print_start a.value.now (pieces_from a.hint.now 0) in
@@ -178,109 +177,108 @@ loop-holds c =
       known.2,
     )
 
-piece-at-requires : tie.Need-piece-at-requires invariant-loop decreases-loop
-piece-at-requires c κs = c.before.loop.invariant.3
+piece-at-requires : tie.Need-piece_at-requires invariant-loop decreases-loop
+piece-at-requires c κs = c.loop-at.invariant.3
 
-enum-known-piece : tie.Need-enum-known-piece invariant-loop decreases-loop
+enum-known-piece : tie.Need-enum_known-piece invariant-loop decreases-loop
 enum-known-piece c = search rules
 
-enum_told : tie.Need-enum-told invariant-loop decreases-loop
+enum_told : tie.Need-enum_told-1 invariant-loop decreases-loop
 enum_told c = search rules
 
-same_length : tie.Need-same-length invariant-loop decreases-loop
-same_length c = c.before.before.before.before.loop.invariant.2
+same_length : tie.Need-shape_of-out-in_default invariant-loop decreases-loop
+same_length c = c.loop-at.invariant.2
 
-returns : tie.Need-returns invariant-loop decreases-loop
+returns : tie.Need-returns-in_default invariant-loop decreases-loop
 returns c =
-    let h = c.before.before.before.before.before.before.before.before.args.hint.now in
-    let here = c.before.before.before.before.loop in
-    let no = found_nothing h here.cursor (sym c.enum_told.given.1 ∙ c.before.before.piece_at.ensures) in
+    let h = c.args.hint.now in
+    let here = c.loop-at in
+    let no = found_nothing h here.cursor (sym c.in_default.is ∙ c.piece_at.ensures) in
     let yes₁ = piece_there h here.cursor here.invariant.3 here.invariant.4 in
     let z : ◌≡◌ {A = ℕ} 0 1 = cc in
     absurd (omega arith)
 
-uses-start-requires : tie.Need-uses-start-requires invariant-loop decreases-loop
+uses-start-requires : tie.Need-uses_start-start-requires invariant-loop decreases-loop
 uses-start-requires c κs = omega (arith, below c, few c)
 
-repeats-of-requires : tie.Need-repeats-of-requires invariant-loop decreases-loop
+repeats-of-requires : tie.Need-repeats_of-count-requires invariant-loop decreases-loop
 repeats-of-requires c κs = below c.before
 
-print-uses-requires : tie.Need-print-uses-requires invariant-loop decreases-loop
+print-uses-requires : tie.Need-print_uses-requires invariant-loop decreases-loop
 print-uses-requires c κs =
-    let k = c.before.before.before in
-    let start = c.before.before.uses_start.ensures in
-    let near = uses_start_near (piece k) (at k) in
-    let early : c.before.before.uses_start.result ≤ 1024 = omega (arith, few k, below k) in
-    (few k, (early, ((allowed k).0, ((allowed k).1, omega (arith, k.before.before.before.before.before.loop.invariant.1)))))
+    let k = c in
+    let start = c.uses_start-start.ensures in
+    let near = uses_start_near (piece k.before.before.before) (at k.before.before.before) in
+    let early : c.uses_start-start.result ≤ 1024 = omega (arith, few k.before.before.before, below k.before.before.before) in
+    (few k.before.before.before, (early, ((allowed k.before.before.before).0, ((allowed k.before.before.before).1, omega (arith, k.loop-at.invariant.1)))))
 
-enum-known-n : tie.Need-enum-known-n invariant-loop decreases-loop
+enum-known-n : tie.Need-enum_known-n invariant-loop decreases-loop
 enum-known-n c = search rules
 
-enum-known-place : tie.Need-enum-known-place invariant-loop decreases-loop
+enum-known-place : tie.Need-enum_known-place invariant-loop decreases-loop
 enum-known-place c = search rules
 
-same-length-2 : tie.Need-same-length-2 invariant-loop decreases-loop
+same-length-2 : tie.Need-shape_of-out-in-Fault invariant-loop decreases-loop
 same-length-2 c =
-    let d = c.before.before.before.before.before in
-    d.print-uses.auto.1.1.1.1.0 ∙ d.before.before.before.before.before.before.before.before.before.loop.invariant.2
+    let d = c in
+    d.print_uses.auto.out ∙ d.loop-at.invariant.2
 
-returns-2 : tie.Need-returns-2 invariant-loop decreases-loop
+returns-2 : tie.Need-returns-in-Fault invariant-loop decreases-loop
 returns-2 c =
-    let d = c.before.before.before.before.before in
-    let k = d.before.before.before.before in
-    let inv = k.before.before.before.before.before.loop.invariant in
-    let given = c.before.place.given in
-    let turned = turn_either (hint k) (cursor k) inv.3 inv.4 in
-    let step = print_turn (hint k) (value k) (cursor k) (at k) turned.0 inv.3 inv.4 (below k) turned.1 in
-    let rest : Outcome = print_from (value k) (pieces_from (hint k) turned.0) (uses_end (named k) (value k) (at k)) in
-    inv.0 (Fault given.0.0) d.print-uses.new.1.1.1.1.0
-    (followed_as (sym step) refl (followed_fault rest (followed d (Fault given.0.0) given.1)))
+    let d = c in
+    let k = d in
+    let inv = k.loop-at.invariant in
+    let turned = turn_either (hint k.before.before.before.before.before.before.before) (cursor k.before.before.before.before.before.before.before) inv.3 inv.4 in
+    let step = print_turn (hint k.before.before.before.before.before.before.before) (value k.before.before.before.before.before.before.before) (cursor k.before.before.before.before.before.before.before) (at k.before.before.before.before.before.before.before) turned.0 inv.3 inv.4 (below k.before.before.before.before.before.before.before) turned.1 in
+    let rest : Outcome = print_from (value k.before.before.before.before.before.before.before) (pieces_from (hint k.before.before.before.before.before.before.before) turned.0) (uses_end (named k.before.before.before.before.before.before.before) (value k.before.before.before.before.before.before.before) (at k.before.before.before.before.before.before.before)) in
+    inv.0 (Fault c.in-Fault.place) d.print_uses.new.out
+    (followed_as (sym step) refl (followed_fault rest (followed d.before.before.before (Fault c.in-Fault.place) c.in-Fault.is)))
 
-mul_at : tie.Need-overflow-mul-at invariant-loop decreases-loop
-mul_at c = omega (arith, short c.before.before.before.before.before.before.before.before)
+mul_at : tie.Need-overflow_mul-at invariant-loop decreases-loop
+mul_at c = omega (arith, short c.before.before.before.before.before.before)
 
-add_at : tie.Need-overflow-add-at invariant-loop decreases-loop
+add_at : tie.Need-overflow_add-at invariant-loop decreases-loop
 add_at c =
-    let d = c.before.before.before.before.before.before.before.before in
-    let k = d.before.before in
-    let near = uses_start_near (piece k) (at k) in
-    omega (arith, short d, d.before.uses_start.ensures, below k, few k)
+    let d = c in
+    let k = d in
+    let near = uses_start_near (piece k.before.before.before.before.before.before.before.before) (at k.before.before.before.before.before.before.before.before) in
+    omega (arith, short d.before.before.before.before.before.before, d.uses_start-start.ensures, below k.before.before.before.before.before.before.before.before, few k.before.before.before.before.before.before.before.before)
 
-loop-less : tie.Need-loop-smaller invariant-loop decreases-loop
-loop-less c = less c.before.before.before.before.before.before.before.before.before
+loop-less : tie.Need-loop-at-smaller-then-next-hint invariant-loop decreases-loop
+loop-less c = less c.before.before.before.before.before.before.before
 
-loop-again : tie.Need-loop-preserved invariant-loop decreases-loop
+loop-again : tie.Need-loop-at-preserved-then-next-hint invariant-loop decreases-loop
 loop-again c =
-    let k = c.before.before.before.before.before.before.before.before.before.before.before in
-    let inv = k.before.before.before.before.before.loop.invariant in
-    let next = (there k).2 in
-    let inside : piece_end (hint k) (cursor k) < length (hint k) = omega (arith, next, c.if1.true) in
+    let k = c in
+    let inv = k.loop-at.invariant in
+    let next = (there k.before.before.before.before.before.before.before.before.before).2 in
+    let inside : piece_end (hint k.before.before.before.before.before.before.before.before.before) (cursor k.before.before.before.before.before.before.before.before.before) < length (hint k.before.before.before.before.before.before.before.before.before) = omega (arith, next, c.if-next-hint.true) in
     let readable =
-    ap (λ (n : ℕ). stuck_at (cut_from (hint k) n)) next ∙ stuck_step (hint k) (cursor k) inv.3 (there k).0 ∙ inv.4 in
-    again c.before k.before.piece.given.0.1.0
-    (turn_next (hint k) (cursor k) inv.3 inv.4 inside ∙ ap (pieces_from (hint k)) (sym next))
-    c.if1.true
+    ap (λ (n : ℕ). stuck_at (cut_from (hint k.before.before.before.before.before.before.before.before.before) n)) next ∙ stuck_step (hint k.before.before.before.before.before.before.before.before.before) (cursor k.before.before.before.before.before.before.before.before.before) inv.3 (there k.before.before.before.before.before.before.before.before.before).0 ∙ inv.4 in
+    again c.before k.in-Whole.next
+    (turn_next (hint k.before.before.before.before.before.before.before.before.before) (cursor k.before.before.before.before.before.before.before.before.before) inv.3 inv.4 inside ∙ ap (pieces_from (hint k.before.before.before.before.before.before.before.before.before)) (sym next))
+    c.if-next-hint.true
     readable
 
-loop-less-2 : tie.Need-loop-smaller-2 invariant-loop decreases-loop
-loop-less-2 c = less c.before.before.before.before.before.before.before.before.before
+loop-less-2 : tie.Need-loop-at-smaller invariant-loop decreases-loop
+loop-less-2 c = less c.before.before.before.before.before.before.before
 
-loop-again-2 : tie.Need-loop-preserved-2 invariant-loop decreases-loop
+loop-again-2 : tie.Need-loop-at-preserved invariant-loop decreases-loop
 loop-again-2 c =
-    let k = c.before.before.before.before.before.before.before.before.before.before.before in
-    let inv = k.before.before.before.before.before.loop.invariant in
-    let past : length (hint k) ≤ piece_end (hint k) (cursor k) = omega (arith, (there k).2, c.if1.false) in
-    again c.before (cursor k) (turn_last (hint k) (cursor k) inv.3 inv.4 past) inv.3 inv.4
+    let k = c in
+    let inv = k.loop-at.invariant in
+    let past : length (hint k.before.before.before.before.before.before.before.before.before) ≤ piece_end (hint k.before.before.before.before.before.before.before.before.before) (cursor k.before.before.before.before.before.before.before.before.before) = omega (arith, (there k.before.before.before.before.before.before.before.before.before).2, c.if-next-hint.false) in
+    again c.before (cursor k.before.before.before.before.before.before.before.before.before) (turn_last (hint k.before.before.before.before.before.before.before.before.before) (cursor k.before.before.before.before.before.before.before.before.before) inv.3 inv.4 past) inv.3 inv.4
 
-same-length-3 : tie.Need-same-length-3 invariant-loop decreases-loop
-same-length-3 c = c.before.loop.invariant.2
+same-length-3 : tie.Need-shape_of-out invariant-loop decreases-loop
+same-length-3 c = c.loop-at.invariant.2
 
-returns-3 : tie.Need-returns-3 invariant-loop decreases-loop
+returns-3 : tie.Need-returns invariant-loop decreases-loop
 returns-3 c =
-    let a = c.before.before.before.before.before.args in
-    let here = c.before.loop in
+    let a = c.args in
+    let here = c.loop-at in
     let ps : List Piece = pieces_from a.hint.now here.cursor in
-    let end = print_end a.value.now ps here.at (pieces_allowed a.hint.now here.cursor) c.loop-test.false in
+    let end = print_end a.value.now ps here.at (pieces_allowed a.hint.now here.cursor) c.loop-at-test.false in
     here.invariant.0 (To here.pos) here.out (followed_as (sym end) refl (followed_none here.pos here.out))
 
 pub print_pieces_spec : {M : Type 1} → statement M

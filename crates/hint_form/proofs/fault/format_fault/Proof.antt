@@ -10,32 +10,37 @@ use Rattle.hint_form.proofs.fault.format_fault.Statement.{statement}
 use Rattle.hint_form.proofs.fault.format_fault.Tie as tie
 
 -- the greatest length that the byte allows
-longest_is : (d : tie.After-longest-of)
-    → d.longest-of.result ≡ longest (byte_at d.before.before.before.before.args.hint.now d.before.before.before.before.args.place)
-longest_is d = d.longest-of.ensures ∙ ap longest d.before.byte_at.ensures
+longest_is : (d : tie.After-longest_of)
+    → d.longest_of.result ≡ longest (byte_at d.args.hint.now d.args.place)
+longest_is d = d.longest_of.ensures ∙ ap longest d.byte_at.ensures
 
-returns : tie.Need-returns
+returns : tie.Need-returns-then-hint-place
 unfolding format_fault
-returns c = simp (le-leb _ _ c.if1.true)
+returns c = simp (le-leb _ _ c.if-hint-place.true)
 
-byte-at-requires : tie.Need-byte-at-requires
+byte-at-requires : tie.Need-byte_at-requires
 byte-at-requires c κs = search rules
 
-longest-of-requires : tie.Need-longest-of-requires
+longest-of-requires : tie.Need-longest_of-requires
 longest-of-requires c κs = search rules
 
-returns-2 : tie.Need-returns-2
+returns-2 : tie.Need-returns-then-longest_of-eq0
 unfolding format_fault
 returns-2 c =
     let most = longest_is c.before in
-    simp (lt-leb _ _ c.before.before.before.if1.false, eq-eqb _ _ (sym most ∙ c.if2.true))
+    simp (lt-leb _ _ c.if-hint-place.false, eq-eqb _ _ (sym most ∙ c.if-longest_of-eq0.true))
 
-returns-3 : tie.Need-returns-3
+returns-3 : tie.Need-returns
 unfolding format_fault
 returns-3 c =
     let most = longest_is c.before in
-    simp (lt-leb _ _ c.before.before.before.if1.false, ne_eqb _ _ (λ e. c.if2.false (most ∙ e)))
+    simp (lt-leb _ _ c.if-hint-place.false, ne_eqb _ _ (λ e. c.if-longest_of-eq0.false (most ∙ e)))
 
 pub format_fault_spec : {M : Type 1} → statement M
 format_fault_spec =
-    tie.close (tie.spec returns byte-at-requires longest-of-requires returns-2 returns-3)
+    tie.close (tie.spec
+    returns
+    byte-at-requires
+    longest-of-requires
+    returns-2
+    returns-3)

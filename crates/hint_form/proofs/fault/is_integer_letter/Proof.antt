@@ -5,21 +5,25 @@ use Rattle.hint_form.specs.Fault.{integer_letter}
 use Rattle.hint_form.proofs.fault.is_integer_letter.Statement.{statement}
 use Rattle.hint_form.proofs.fault.is_integer_letter.Tie as tie
 
-returns : tie.Need-returns
+returns : tie.Need-returns-then-b-eq120
 unfolding integer_letter
-returns c = simp (eq-eqb _ _ c.if1.true)
+returns c = simp (eq-eqb _ _ c.if-b-eq120.true)
 
-returns-2 : tie.Need-returns-2
+returns-2 : tie.Need-returns-then-b-eq111
 unfolding integer_letter
-returns-2 c = simp (ne_eqb _ _ c.before.if1.false, eq-eqb _ _ c.if2.true)
+returns-2 c = simp (ne_eqb _ _ c.if-b-eq120.false, eq-eqb _ _ c.if-b-eq111.true)
 
-returns-3 : tie.Need-returns-3
+returns-3 : tie.Need-returns-then-b-eq98
 unfolding integer_letter
-returns-3 c = simp (ne_eqb _ _ c.before.before.if1.false, ne_eqb _ _ c.before.if2.false, eq-eqb _ _ c.if3.true)
+returns-3 c = simp (ne_eqb _ _ c.if-b-eq120.false, ne_eqb _ _ c.if-b-eq111.false, eq-eqb _ _ c.if-b-eq98.true)
 
-returns-4 : tie.Need-returns-4
+returns-4 : tie.Need-returns-else-b-eq98
 unfolding integer_letter
-returns-4 c = simp (ne_eqb _ _ c.before.before.if1.false, ne_eqb _ _ c.before.if2.false, ne_eqb _ _ c.if3.false)
+returns-4 c = simp (ne_eqb _ _ c.if-b-eq120.false, ne_eqb _ _ c.if-b-eq111.false, ne_eqb _ _ c.if-b-eq98.false)
 
 pub is_integer_letter_spec : {M : Type 1} → statement M
-is_integer_letter_spec = tie.close (tie.spec returns returns-2 returns-3 returns-4)
+is_integer_letter_spec = tie.close (tie.spec
+    returns
+    returns-2
+    returns-3
+    returns-4)

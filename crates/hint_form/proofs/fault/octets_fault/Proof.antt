@@ -10,44 +10,44 @@ use Rattle.hint_form.proofs.FaultLaws.{sound_short, longer_unsound, none_empty, 
 use Rattle.hint_form.proofs.fault.octets_fault.Statement.{statement}
 use Rattle.hint_form.proofs.fault.octets_fault.Tie as tie
 
-returns : tie.Need-returns
+returns : tie.Need-returns-then-hint-eq0
 unfolding octets_fault
 returns c =
-    let empty = c.if1.true in
+    let empty = c.if-hint-eq0.true in
     (simp (eq-eqb _ _ empty), sym (none_empty _ empty))
 
-pieces-fault-requires : tie.Need-pieces-fault-requires
+pieces-fault-requires : tie.Need-pieces_fault-requires
 pieces-fault-requires c κs = search rules
 
-returns-2 : tie.Need-returns-2
+returns-2 : tie.Need-returns-then-hint-le-LONGEST
 unfolding octets_fault
 returns-2 c =
-    let short = c.before in
-    let some = ne_eqb _ _ short.before.if1.false in
+    let short = c in
+    let some = ne_eqb _ _ short.if-hint-eq0.false in
     let is = c.pieces_fault.ensures in
-    let hint = short.before.before.before.args.hint.now in (
-      simp (some, le-leb _ _ short.if2.true) is,
-      ap is_sound is ∙ sound_short hint (omega (arith, short.before.if1.false)) short.if2.true,
+    let hint = short.args.hint.now in (
+      simp (some, le-leb _ _ short.if-hint-le-LONGEST.true) is,
+      ap is_sound is ∙ sound_short hint (omega (arith, short.if-hint-eq0.false)) short.if-hint-le-LONGEST.true,
     )
 
-slice-aggregate-pieces-fault : tie.Need-slice-aggregate-pieces-fault
+slice-aggregate-pieces-fault : tie.Need-slice_bounds-pieces_fault-end
 slice-aggregate-pieces-fault c =
-    let long = c.before in
-    sym (length-take-le 255 long.before.before.before.args.hint.now (omega (arith, long.if2.false)))
+    let long = c in
+    sym (length-take-le 255 long.args.hint.now (omega (arith, long.if-hint-le-LONGEST.false)))
 
-pieces-fault-requires-2 : tie.Need-pieces-fault-requires-2
+pieces-fault-requires-2 : tie.Need-pieces_fault-requires-2
 pieces-fault-requires-2 c κs = search rules
 
 longer-requires : tie.Need-longer-requires
 longer-requires c κs = search rules
 
-returns-3 : tie.Need-returns-3
+returns-3 : tie.Need-returns
 unfolding octets_fault
 returns-3 c =
-    let long = c.before.before.before in
-    let is = c.longer.ensures ∙ ap longer c.before.pieces-fault2.ensures in (
-      simp (ne_eqb _ _ long.before.if1.false, lt-leb _ _ long.if2.false) is,
-      ap is_sound c.longer.ensures ∙ longer_unsound c.before.pieces-fault2.result ∙ sym (none_long _ long.if2.false),
+    let long = c in
+    let is = c.longer.ensures ∙ ap longer c.pieces_fault-2.ensures in (
+      simp (ne_eqb _ _ long.if-hint-eq0.false, lt-leb _ _ long.if-hint-le-LONGEST.false) is,
+      ap is_sound c.longer.ensures ∙ longer_unsound c.pieces_fault-2.result ∙ sym (none_long _ long.if-hint-le-LONGEST.false),
     )
 
 pub octets_fault_spec : {M : Type 1} → statement M

@@ -7,45 +7,45 @@ use Rattle.hint_form.specs.Fault.{point_fault}
 use Rattle.hint_form.proofs.fault.point_fault.Statement.{statement}
 use Rattle.hint_form.proofs.fault.point_fault.Tie as tie
 
-byte-at-requires : tie.Need-byte-at-requires
+byte-at-requires : tie.Need-byte_at-requires
 byte-at-requires c κs = search rules
 
-returns : tie.Need-returns
+returns : tie.Need-returns-then-byte_at-ne100
 unfolding point_fault
-returns c = simp (ne_eqb _ _ (λ e. c.if1.true (c.before.byte_at.ensures ∙ e)))
+returns c = simp (ne_eqb _ _ (λ e. c.if-byte_at-ne100.true (c.byte_at.ensures ∙ e)))
 
-byte-at-requires-2 : tie.Need-byte-at-requires-2
+byte-at-requires-2 : tie.Need-byte_at-requires-2
 byte-at-requires-2 c κs = search rules
 
-returns-2 : tie.Need-returns-2
+returns-2 : tie.Need-returns-then-byte_at-ne45
 unfolding point_fault
 returns-2 c =
-    let d = c.before.before in
-    simp (eq-eqb _ _ (sym d.before.byte_at.ensures ∙ d.if1.false), ne_eqb _ _ (λ e. c.if2.true (c.before.byte-at2.ensures ∙ e)))
+    let d = c in
+    simp (eq-eqb _ _ (sym d.byte_at.ensures ∙ d.if-byte_at-ne100.false), ne_eqb _ _ (λ e. c.if-byte_at-ne45.true (c.byte_at-2.ensures ∙ e)))
 
-returns-3 : tie.Need-returns-3
+returns-3 : tie.Need-returns-then-hint-eq2
 unfolding point_fault
 returns-3 c =
-    let minus = c.before in
-    let d = minus.before.before in
+    let minus = c in
+    let d = minus in
     simp (
-      eq-eqb _ _ (sym d.before.byte_at.ensures ∙ d.if1.false),
-      eq-eqb _ _ (sym minus.before.byte-at2.ensures ∙ minus.if2.false),
-      eq-eqb _ _ c.if3.true,
+      eq-eqb _ _ (sym d.byte_at.ensures ∙ d.if-byte_at-ne100.false),
+      eq-eqb _ _ (sym minus.byte_at-2.ensures ∙ minus.if-byte_at-ne45.false),
+      eq-eqb _ _ c.if-hint-eq2.true,
     )
 
-places-fault-requires : tie.Need-places-fault-requires
+places-fault-requires : tie.Need-places_fault-requires
 places-fault-requires c κs = search rules
 
-returns-4 : tie.Need-returns-4
+returns-4 : tie.Need-returns
 unfolding point_fault
 returns-4 c =
-    let minus = c.before.before in
-    let d = minus.before.before in
+    let minus = c in
+    let d = minus in
     simp (
-      eq-eqb _ _ (sym d.before.byte_at.ensures ∙ d.if1.false),
-      eq-eqb _ _ (sym minus.before.byte-at2.ensures ∙ minus.if2.false),
-      ne_eqb _ _ c.before.if3.false,
+      eq-eqb _ _ (sym d.byte_at.ensures ∙ d.if-byte_at-ne100.false),
+      eq-eqb _ _ (sym minus.byte_at-2.ensures ∙ minus.if-byte_at-ne45.false),
+      ne_eqb _ _ c.if-hint-eq2.false,
     ) c.places_fault.ensures
 
 pub point_fault_spec : {M : Type 1} → statement M

@@ -5,13 +5,15 @@ use Rattle.name_kind.specs.Clause.{type_clause}
 use Rattle.name_kind.proofs.clause.type_clause.Statement.{statement}
 use Rattle.name_kind.proofs.clause.type_clause.Tie as tie
 
-returns : tie.Need-returns
+returns : tie.Need-returns-then-before-eq-SYNTAX
 unfolding type_clause
-returns c = simp (eq-eqb _ _ c.if1.true)
+returns c = simp (eq-eqb _ _ c.if-before-eq-SYNTAX.true)
 
-returns-2 : tie.Need-returns-2
+returns-2 : tie.Need-returns
 unfolding type_clause
-returns-2 c = simp (ne_eqb _ _ c.if1.false)
+returns-2 c = simp (ne_eqb _ _ c.if-before-eq-SYNTAX.false)
 
 pub type_clause_spec : {M : Type 1} → statement M
-type_clause_spec = tie.close (tie.spec returns returns-2)
+type_clause_spec = tie.close (tie.spec
+    returns
+    returns-2)

@@ -9,35 +9,35 @@ use Rattle.name_kind.specs.Need.{enclosing}
 use Rattle.name_kind.proofs.need.enclosing_at.Statement.{statement}
 use Rattle.name_kind.proofs.need.enclosing_at.Tie as tie
 
-abbrev invariant-loop : tie.invariant-loop
+abbrev invariant-loop : tie.invariant-loop-j
 invariant-loop classes n i word₀ j₀ word j = (j ≤ i) × (word ≡ enclosing (take n classes) j)
 
-abbrev decreases-loop : tie.decreases-loop
+abbrev decreases-loop : tie.decreases-loop-j
 decreases-loop classes n i word₀ j₀ word j = i - j
 
-cast-word : tie.Need-overflow-cast-word invariant-loop decreases-loop
+cast-word : tie.Need-overflow_cast-word invariant-loop decreases-loop
 cast-word c = search rules
 
-loop-holds : tie.Need-loop-init invariant-loop decreases-loop
+loop-holds : tie.Need-loop-j-init invariant-loop decreases-loop
 unfolding enclosing
 loop-holds c = (search rules, refl)
 
-next-enclosing-requires : tie.Need-next-enclosing-requires invariant-loop decreases-loop
+next-enclosing-requires : tie.Need-next_enclosing-word-requires invariant-loop decreases-loop
 next-enclosing-requires c κs = search rules
 
-add-j : tie.Need-overflow-add-j invariant-loop decreases-loop
+add-j : tie.Need-overflow_add-j invariant-loop decreases-loop
 add-j c = search rules
 
-loop-less : tie.Need-loop-smaller invariant-loop decreases-loop
+loop-less : tie.Need-loop-j-smaller invariant-loop decreases-loop
 loop-less c = search rules
 
-loop-again : tie.Need-loop-preserved invariant-loop decreases-loop
-loop-again c = (search rules, c.next-enclosing.ensures)
+loop-again : tie.Need-loop-j-preserved invariant-loop decreases-loop
+loop-again c = (search rules, c.next_enclosing-word.ensures)
 
 returns : tie.Need-returns invariant-loop decreases-loop
 returns c =
-    let loop = c.before.loop in
-    let end : loop.j ≡ c.before.before.before.args.i = omega arith in
+    let loop = c.loop-j in
+    let end : loop.j ≡ c.args.i = omega arith in
     rw (← end) loop.invariant.1
 
 pub enclosing_at_spec : {M : Type 1} → statement M

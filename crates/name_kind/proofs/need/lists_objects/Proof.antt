@@ -5,21 +5,25 @@ use Rattle.name_kind.specs.Need.{lists_objects}
 use Rattle.name_kind.proofs.need.lists_objects.Statement.{statement}
 use Rattle.name_kind.proofs.need.lists_objects.Tie as tie
 
-returns : tie.Need-returns
+returns : tie.Need-returns-then-word-eq-INDEX
 unfolding lists_objects
-returns c = simp (eq-eqb _ _ c.if1.true)
+returns c = simp (eq-eqb _ _ c.if-word-eq-INDEX.true)
 
-returns-2 : tie.Need-returns-2
+returns-2 : tie.Need-returns-then-word-eq-AUGMENTS
 unfolding lists_objects
-returns-2 c = simp (ne_eqb _ _ c.before.if1.false, eq-eqb _ _ c.if2.true)
+returns-2 c = simp (ne_eqb _ _ c.if-word-eq-INDEX.false, eq-eqb _ _ c.if-word-eq-AUGMENTS.true)
 
-returns-3 : tie.Need-returns-3
+returns-3 : tie.Need-returns-then-word-eq-OBJECTS
 unfolding lists_objects
-returns-3 c = simp (ne_eqb _ _ c.before.before.if1.false, ne_eqb _ _ c.before.if2.false, eq-eqb _ _ c.if3.true)
+returns-3 c = simp (ne_eqb _ _ c.if-word-eq-INDEX.false, ne_eqb _ _ c.if-word-eq-AUGMENTS.false, eq-eqb _ _ c.if-word-eq-OBJECTS.true)
 
-returns-4 : tie.Need-returns-4
+returns-4 : tie.Need-returns-else-word-eq-OBJECTS
 unfolding lists_objects
-returns-4 c = simp (ne_eqb _ _ c.before.before.if1.false, ne_eqb _ _ c.before.if2.false, ne_eqb _ _ c.if3.false)
+returns-4 c = simp (ne_eqb _ _ c.if-word-eq-INDEX.false, ne_eqb _ _ c.if-word-eq-AUGMENTS.false, ne_eqb _ _ c.if-word-eq-OBJECTS.false)
 
 pub lists_objects_spec : {M : Type 1} → statement M
-lists_objects_spec = tie.close (tie.spec returns returns-2 returns-3 returns-4)
+lists_objects_spec = tie.close (tie.spec
+    returns
+    returns-2
+    returns-3
+    returns-4)

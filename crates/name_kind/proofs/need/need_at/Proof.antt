@@ -6,59 +6,59 @@ use Rattle.name_kind.specs.Need.{need_at}
 use Rattle.name_kind.proofs.need.need_at.Statement.{statement}
 use Rattle.name_kind.proofs.need.need_at.Tie as tie
 
-class-at-requires : tie.Need-class-at-requires
+class-at-requires : tie.Need-class_at-class-requires
 class-at-requires c κs = search rules
 
-is-macro-requires : tie.Need-is-macro-requires
+is-macro-requires : tie.Need-is_macro-requires
 is-macro-requires c κs = search rules
 
-upper-need-requires : tie.Need-upper-need-requires
+upper-need-requires : tie.Need-upper_need-requires
 upper-need-requires c κs = search rules
 
-is-lower-requires : tie.Need-is-lower-requires
+is-lower-requires : tie.Need-is_lower-requires
 is-lower-requires c κs = search rules
 
-lower-need-requires : tie.Need-lower-need-requires
+lower-need-requires : tie.Need-lower_need-requires
 lower-need-requires c κs = search rules
 
-returns : tie.Need-returns
+returns : tie.Need-returns-then-is_macro
 unfolding need_at
-returns c = rw (← c.before.before.class_at.ensures, ← c.before.is_macro.ensures) (simp c.if1.true)
+returns c = rw (← c.class_at-class.ensures, ← c.is_macro.ensures) (simp c.if-is_macro.true)
 
-returns-2 : tie.Need-returns-2
+returns-2 : tie.Need-returns-then-class-eq-UPPER
 unfolding need_at
 returns-2 c =
-    let macro = c.before.before in
-    rw (← macro.before.before.class_at.ensures, ← macro.before.is_macro.ensures, ← c.upper_need.ensures)
-    (simp (macro.if1.false, eq-eqb _ _ c.before.if2.true))
+    let macro = c in
+    rw (← macro.class_at-class.ensures, ← macro.is_macro.ensures, ← c.upper_need.ensures)
+    (simp (macro.if-is_macro.false, eq-eqb _ _ c.if-class-eq-UPPER.true))
 
-returns-3 : tie.Need-returns-3
+returns-3 : tie.Need-returns-then-is_lower
 unfolding need_at
 returns-3 c =
-    let lower = c.before in
-    let upper = lower.before.before in
-    let macro = upper.before in
-    let start = macro.before.before.before.before in
+    let lower = c in
+    let upper = lower in
+    let macro = upper in
+    let start = macro in
     rw (
-      ← macro.before.before.class_at.ensures,
-      ← macro.before.is_macro.ensures,
-      ← lower.before.is_lower.ensures,
+      ← macro.class_at-class.ensures,
+      ← macro.is_macro.ensures,
+      ← lower.is_lower.ensures,
       ← start.requires.1,
       ← c.lower_need.ensures,
     )
-    (simp (macro.if1.false, ne_eqb _ _ upper.if2.false, lower.if3.true))
+    (simp (macro.if-is_macro.false, ne_eqb _ _ upper.if-class-eq-UPPER.false, lower.if-is_lower.true))
 
-returns-4 : tie.Need-returns-4
+returns-4 : tie.Need-returns-else-is_lower
 unfolding need_at
 returns-4 c =
-    let upper = c.before.before in
-    let macro = upper.before in
+    let upper = c in
+    let macro = upper in
     rw (
-      ← macro.before.before.class_at.ensures,
-      ← macro.before.is_macro.ensures,
-      ← c.before.is_lower.ensures,
+      ← macro.class_at-class.ensures,
+      ← macro.is_macro.ensures,
+      ← c.is_lower.ensures,
     )
-    (simp (macro.if1.false, ne_eqb _ _ upper.if2.false, c.if3.false))
+    (simp (macro.if-is_macro.false, ne_eqb _ _ upper.if-class-eq-UPPER.false, c.if-is_lower.false))
 
 pub need_at_spec : {M : Type 1} → statement M
 need_at_spec =

@@ -25,77 +25,77 @@ inside s = omega (arith, s.requires.1.0.0, starts_long _ _ _ _ s.requires.0)
 here : (s : tie.Start) → Placed s.args.text.now s.args.starts.now s.args.ends.now s.args.i
 here s = placed _ _ _ _ s.requires.0 s.args.i (inside s)
 
-abbrev start_of : tie.After-names-iso → tie.Start
+abbrev start_of : tie.After-names_iso → tie.Start
 start_of c = c.before.before.before.before.before.before.before.before.before
 
-iso_is : (c : tie.After-names-iso) → c.names-iso.result ≡ same (spelled (meanings_in (start_of c).args.text.now) (start_of c).args.i) iso_name
+iso_is : (c : tie.After-names_iso) → c.names_iso.result ≡ same (spelled (meanings_in (start_of c).args.text.now) (start_of c).args.i) iso_name
 iso_is c =
     let s = start_of c in
-    iso_told _ _ _ s.pre.0 s.args.i (inside s) s.pre.1.1.0 _
-    (rw (← c.before.before.before.wide.ensures, ← c.before.wide2.ensures) c.names-iso.ensures)
+    iso_told _ _ _ s.requires.0 s.args.i (inside s) s.requires.1.1.0 _
+    (rw (← c.wide.ensures, ← c.wide-2.ensures) c.names_iso.ensures)
 
 -- a token that stands against another is not new
 again_new : (j : ℕ) → ◌≡◌ {A = Introduced} (Again j) New → ⊥
 again_new j e = let z : ◌≡◌ {A = ℕ} 0 1 = cc in omega arith
 
-mul_wide : tie.Need-overflow-mul-wide
+mul_wide : tie.Need-offset_bounds-starts-i
 mul_wide c = search rules
 
-shared-slice-read-wide : tie.Need-shared-slice-read-wide
+shared-slice-read-wide : tie.Need-bounds-starts-i
 shared-slice-read-wide c = search rules
 
 wide-requires : tie.Need-wide-requires
 wide-requires c κs = search rules
 
-mul-wide-2 : tie.Need-overflow-mul-wide-2
+mul-wide-2 : tie.Need-offset_bounds-ends-i
 mul-wide-2 c = search rules
 
-shared-slice-read-wide-2 : tie.Need-shared-slice-read-wide-2
+shared-slice-read-wide-2 : tie.Need-bounds-ends-i
 shared-slice-read-wide-2 c =
-    let s = c.before.before.before.before.before.before.before in
+    let s = c in
     omega (arith, s.requires.1.0.0, starts_long _ _ _ _ s.requires.0, ends_long _ _ _ _ s.requires.0)
 
 wide-requires-2 : tie.Need-wide-requires-2
 wide-requires-2 c κs = search rules
 
-names-iso-requires : tie.Need-names-iso-requires
+names-iso-requires : tie.Need-names_iso-requires
 names-iso-requires c κs =
-    let s = c.before.before.before.before.before.before.before.before in
-    rw (c.before.before.wide.ensures, c.wide2.ensures) (here s).within
+    let s = c in
+    rw (c.wide.ensures, c.wide-2.ensures) (here s.before.before.before.before.before.before.before.before).within
 
-returns : tie.Need-returns
-returns c = (refl, (inl (sym (iso_is c.before) ∙ c.if1.true, refl), (λ e. absurd (again_new _ e))))
+returns : tie.Need-returns-then-names_iso
+returns c = (refl, (inl (sym (iso_is c.before) ∙ c.if-names_iso.true, refl), (λ e. absurd (again_new _ e))))
 
-admit-requires : tie.Need-admit-requires
+admit-requires : tie.Need-admit-at-requires
 admit-requires c κs =
     let s = start_of c.before.before.before in
-    ((introduces _, s.pre.1.1.1), (here s, (s.pre.1.0.1, s.pre.1.0.2)))
+    ((introduces _, s.requires.1.1.1), (here s, (s.requires.1.0.1, s.requires.1.0.2)))
 
-same_length : tie.Need-same-length
+same_length : tie.Need-shape_of-links-then-at-eq0
 same_length c = search rules
 
-returns-2 : tie.Need-returns-2
+returns-2 : tie.Need-returns-then-at-eq0
 returns-2 c =
-    let a = c.before.before.before in
-    let e = a.before.before.before in
-    let s = start_of e.before in
-    let told = a.admit.ensures.1 (introduces _) s.pre.1.1.1 in
-    (a.admit.ensures.0, ((sym (iso_is e.before) ∙ e.if1.false, told_new _ _ _ s.pre.0 s.args.i (inside s) s.pre.1.1.0 _ _ _ told c.if2.true), (λ z. told.grown c.if2.true s.pre.1.1.0)))
+    let a = c in
+    let e = a in
+    let s = start_of e.before.before.before.before.before.before.before in
+    let told = a.admit-at.ensures.1 (introduces _) s.requires.1.1.1 in
+    (a.admit-at.ensures.0, ((sym (iso_is e.before.before.before.before.before.before.before) ∙ e.if-names_iso.false, told_new _ _ _ s.requires.0 s.args.i (inside s) s.requires.1.1.0 _ _ _ told c.if-at-eq0.true), (λ z. told.grown c.if-at-eq0.true s.requires.1.1.0)))
 
-sub-t9 : tie.Need-overflow-sub-t9
+sub-t9 : tie.Need-overflow_sub-result
 sub-t9 c = search rules
 
-same-length-2 : tie.Need-same-length-2
+same-length-2 : tie.Need-shape_of-links
 same-length-2 c = search rules
 
-returns-3 : tie.Need-returns-3
+returns-3 : tie.Need-returns
 returns-3 c =
-    let a = c.before.before.before in
-    let e = a.before.before.before in
-    let s = start_of e.before in
-    let told = a.admit.ensures.1 (introduces _) s.pre.1.1.1 in
-    let some : a.admit.result ≡ suc (a.admit.result - 1) = omega (arith, c.if2.false) in
-    (a.admit.ensures.0, (inr (told_again _ _ _ s.pre.0 s.args.i (inside s) s.pre.1.1.0 _ _ _ told _ some), (λ z. absurd (again_new _ z))))
+    let a = c in
+    let e = a in
+    let s = start_of e.before.before.before.before.before.before.before in
+    let told = a.admit-at.ensures.1 (introduces _) s.requires.1.1.1 in
+    let some : a.admit-at.result ≡ suc (a.admit-at.result - 1) = omega (arith, c.if-at-eq0.false) in
+    (a.admit-at.ensures.0, (inr (told_again _ _ _ s.requires.0 s.args.i (inside s) s.requires.1.1.0 _ _ _ told _ some), (λ z. absurd (again_new _ z))))
 
 pub introduction_spec : {M : Type 1} → statement M
 introduction_spec =

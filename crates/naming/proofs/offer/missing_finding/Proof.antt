@@ -16,21 +16,24 @@ use Rattle.naming.proofs.offer.missing_finding.Tie as tie
 abbrev said : ℕ → ℕ → ℕ → Finding
 said i clause at = record { number = 10; clause = clause; token = record { 0 = i }; other = record { 0 = at } }
 
-source-requires : tie.Need-source-requires
+source-requires : tie.Need-source-module-requires
 source-requires c κs =
-    let s = c.before.before.before.before in
+    let s = c in
     (few_classes _ _ _ _ s.requires.0, omega (arith, s.requires.1))
 
-offer-clause-requires : tie.Need-offer-clause-requires
+offer-clause-requires : tie.Need-offer_clause-requires
 offer-clause-requires c κs = search rules
 
 returns : tie.Need-returns
 returns c =
-    let m = c.before in
-    let s = m.before.before.before.before.before in
+    let m = c in
+    let s = m in
     let i = s.args.i in
-    ap (λ (x : ℕ). said i x m.source.result) c.offer_clause.ensures
-    ∙ ap (λ (at : ℕ). said i (offer_clause (meanings_in s.args.text.now) at) at) (m.source.ensures ∙ ap (λ (cs : List ℕ). source cs i) (classes_are _ _ _ _ s.requires.0))
+    ap (λ (x : ℕ). said i x m.source-module.result) c.offer_clause.ensures
+    ∙ ap (λ (at : ℕ). said i (offer_clause (meanings_in s.args.text.now) at) at) (m.source-module.ensures ∙ ap (λ (cs : List ℕ). source cs i) (classes_are _ _ _ _ s.requires.0))
 
 pub missing_finding_spec : {M : Type 1} → statement M
-missing_finding_spec = tie.close (tie.spec source-requires offer-clause-requires returns)
+missing_finding_spec = tie.close (tie.spec
+    source-requires
+    offer-clause-requires
+    returns)

@@ -8,36 +8,36 @@ use borrow.Author.Rules.{rules}
 use Rattle.object_tree.proofs.parent.is_parent.Statement.{statement}
 use Rattle.object_tree.proofs.parent.is_parent.Tie as tie
 
-is-object-requires : tie.Need-is-object-requires
+is-object-requires : tie.Need-is_object-requires
 is-object-requires c κs = search rules
 
-returns : tie.Need-returns
-returns c = not_parent _ _ _ (sym c.before.is_object.ensures ∙ not-true _ c.if1.true)
+returns : tie.Need-returns-then-not-is_object
+returns c = not_parent _ _ _ (sym c.is_object.ensures ∙ c.if-not-is_object.true)
 
-is-object-requires-2 : tie.Need-is-object-requires-2
+is-object-requires-2 : tie.Need-is_object-requires-2
 is-object-requires-2 c κs = search rules
 
-returns-2 : tie.Need-returns-2
-returns-2 c = sym (no_child _ _ _ (sym c.before.is-object2.ensures ∙ not-true _ c.if2.true))
+returns-2 : tie.Need-returns-then-not-is_object-2
+returns-2 c = sym (no_child _ _ _ (sym c.is_object-2.ensures ∙ c.if-not-is_object-2.true))
 
-run-of-requires : tie.Need-run-of-requires
+run-of-requires : tie.Need-run_of-requires
 run-of-requires c κs = search rules
 
-run-of-requires-2 : tie.Need-run-of-requires-2
+run-of-requires-2 : tie.Need-run_of-requires-2
 run-of-requires-2 c κs = search rules
 
-is-below-requires : tie.Need-is-below-requires
+is-below-requires : tie.Need-is_below-requires
 is-below-requires c κs = search rules
 
-returns-3 : tie.Need-returns-3
+returns-3 : tie.Need-returns
 returns-3 c =
-    let child = c.before.before.before.before in
-    let parent = child.before.before in
-    let s = parent.before.before in
+    let child = c in
+    let parent = child in
+    let s = parent in
     c.is_below.ensures
-    ∙ below_same c.before.before.run_of.ensures.held c.before.run-of2.ensures.held
-    ∙ parent_below s.args.numbers.now s.args.parent s.args.child (sym parent.is_object.ensures ∙ not-false _ child.before.if1.false)
-    (sym child.is-object2.ensures ∙ not-false _ c.before.before.before.if2.false)
+    ∙ below_same c.run_of.ensures.held c.run_of-2.ensures.held
+    ∙ parent_below s.args.numbers.now s.args.parent s.args.child (sym parent.is_object.ensures ∙ child.if-not-is_object.false)
+    (sym child.is_object-2.ensures ∙ c.if-not-is_object-2.false)
 
 pub is_parent_spec : {M : Type 1} → statement M
 is_parent_spec =

@@ -6,14 +6,17 @@ use borrow.Author.Rules.{rules}
 use Rattle.object_tree.proofs.parent.oid_key.Statement.{statement}
 use Rattle.object_tree.proofs.parent.oid_key.Tie as tie
 
-run-of-requires : tie.Need-run-of-requires
+run-of-requires : tie.Need-run_of-requires
 run-of-requires c κs = search rules
 
-run-key-requires : tie.Need-run-key-requires
+run-key-requires : tie.Need-run_key-requires
 run-key-requires c κs = search rules
 
 returns : tie.Need-returns
-returns c = c.run-key.ensures ∙ ap list_key c.before.run_of.ensures.held
+returns c = c.run_key.ensures ∙ ap list_key c.run_of.ensures.held
 
 pub oid_key_spec : {M : Type 1} → statement M
-oid_key_spec = tie.close (tie.spec run-of-requires run-key-requires returns)
+oid_key_spec = tie.close (tie.spec
+    run-of-requires
+    run-key-requires
+    returns)

@@ -7,19 +7,23 @@ use borrow.Author.Rules.{rules}
 use Rattle.object_tree.proofs.parent.parent_key.Statement.{statement}
 use Rattle.object_tree.proofs.parent.parent_key.Tie as tie
 
-run-of-requires : tie.Need-run-of-requires
+run-of-requires : tie.Need-run_of-run-requires
 run-of-requires c κs = search rules
 
-less-requires : tie.Need-less-requires
+less-requires : tie.Need-less-count-requires
 less-requires c κs = search rules
 
-run-key-requires : tie.Need-run-key-requires
+run-key-requires : tie.Need-run_key-requires
 run-key-requires c κs = search rules
 
 returns : tie.Need-returns
 returns c =
-    let run = c.before.before.before.run_of.ensures in
-    c.run-key.ensures ∙ ap list_key (run_less _ _ _ _ _ run.inside run.held c.before.less.ensures)
+    let run = c.run_of-run.ensures in
+    c.run_key.ensures ∙ ap list_key (run_less _ _ _ _ _ run.inside run.held c.less-count.ensures)
 
 pub parent_key_spec : {M : Type 1} → statement M
-parent_key_spec = tie.close (tie.spec run-of-requires less-requires run-key-requires returns)
+parent_key_spec = tie.close (tie.spec
+    run-of-requires
+    less-requires
+    run-key-requires
+    returns)

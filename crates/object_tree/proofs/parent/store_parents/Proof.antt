@@ -9,59 +9,59 @@ use Rattle.object_tree.specs.Tree.{with_parents_of}
 use Rattle.object_tree.proofs.parent.store_parents.Statement.{statement}
 use Rattle.object_tree.proofs.parent.store_parents.Tie as tie
 
-abbrev invariant-loop : tie.invariant-loop
+abbrev invariant-loop : tie.invariant-loop-k
 invariant-loop definitions₀ parents n k₀ definitions k = (k ≤ n) × Filling (with_parents_of parents) definitions₀ k definitions
 
-abbrev decreases-loop : tie.decreases-loop
+abbrev decreases-loop : tie.decreases-loop-k
 decreases-loop definitions₀ parents n k₀ definitions k = n - k
 
-count-requires : tie.Need-count-requires invariant-loop decreases-loop
+count-requires : tie.Need-count-n-requires invariant-loop decreases-loop
 count-requires c κs = search rules
 
-loop-holds : tie.Need-loop-init invariant-loop decreases-loop
+loop-holds : tie.Need-loop-k-init invariant-loop decreases-loop
 loop-holds c = (omega arith, filling_start _ _)
 
-definition-at-requires : tie.Need-definition-at-requires invariant-loop decreases-loop
+definition-at-requires : tie.Need-definition_at-d-requires invariant-loop decreases-loop
 definition-at-requires c κs = search rules
 
-mul-with-parent : tie.Need-overflow-mul-with-parent invariant-loop decreases-loop
+mul-with-parent : tie.Need-offset_bounds-parents-k invariant-loop decreases-loop
 mul-with-parent c = search rules
 
-element-copy-out-with-parent : tie.Need-element-copy-out-with-parent invariant-loop decreases-loop
+element-copy-out-with-parent : tie.Need-bounds-parents-k invariant-loop decreases-loop
 element-copy-out-with-parent c = search rules
 
-with-parent-requires : tie.Need-with-parent-requires invariant-loop decreases-loop
+with-parent-requires : tie.Need-with_parent-requires invariant-loop decreases-loop
 with-parent-requires c κs = search rules
 
 store-requires : tie.Need-store-requires invariant-loop decreases-loop
 store-requires c κs = search rules
 
-add-k : tie.Need-overflow-add-k invariant-loop decreases-loop
+add-k : tie.Need-overflow_add-k invariant-loop decreases-loop
 add-k c = search rules
 
-loop-less : tie.Need-loop-smaller invariant-loop decreases-loop
+loop-less : tie.Need-loop-k-smaller invariant-loop decreases-loop
 loop-less c = search rules
 
-loop-again : tie.Need-loop-preserved invariant-loop decreases-loop
+loop-again : tie.Need-loop-k-preserved invariant-loop decreases-loop
 loop-again c =
-    let stored = c.before.before in
-    let made = stored.before in
-    let read = made.before.before.before in
-    let t = read.before.before in
-    let l = t.before in
-    let s = l.before.before.before.before in (
-      omega (arith, t.loop-test.true),
-      filling_more _ _ _ _ _ _ l.loop.invariant.1 (omega (arith, t.loop-test.true, l.before.count.ensures)) stored.store.ensures
-          (made.with_parent.ensures ∙ ap (with_parents_of s.args.parents.now l.loop.k) (read.definition-at.ensures ∙ l.loop.invariant.1.left _ (omega arith))),
+    let stored = c in
+    let made = stored in
+    let read = made in
+    let t = read in
+    let l = t in
+    let s = l in (
+      omega (arith, t.loop-k-test.true),
+      filling_more _ _ _ _ _ _ l.loop-k.invariant.1 (omega (arith, t.loop-k-test.true, l.count-n.ensures)) stored.store.ensures
+          (made.with_parent.ensures ∙ ap (with_parents_of s.args.parents.now l.loop-k.k) (read.definition_at-d.ensures ∙ l.loop-k.invariant.1.left _ (omega arith))),
     )
 
-same_length : tie.Need-same-length invariant-loop decreases-loop
+same_length : tie.Need-shape_of-definitions invariant-loop decreases-loop
 same_length c = search rules
 
 returns : tie.Need-returns invariant-loop decreases-loop
 returns c =
-    let l = c.before in
-    filling_end _ _ _ _ l.loop.invariant.1 (omega (arith, c.loop-test.false, l.before.count.ensures))
+    let l = c in
+    filling_end _ _ _ _ l.loop-k.invariant.1 (omega (arith, c.loop-k-test.false, l.count-n.ensures))
 
 pub store_parents_spec : {M : Type 1} → statement M
 store_parents_spec =

@@ -8,38 +8,38 @@ use borrow.Author.Rules.{rules}
 use Rattle.object_tree.proofs.words.number_at.Statement.{statement}
 use Rattle.object_tree.proofs.words.number_at.Tie as tie
 
-lead-at-requires : tie.Need-lead-at-requires
+lead-at-requires : tie.Need-lead_at-requires
 lead-at-requires c κs = search rules
 
-enum_told : tie.Need-enum-told
+enum_told : tie.Need-enum_told-1
 enum_told c = search rules
 
-enum-told-2 : tie.Need-enum-told-2
+enum-told-2 : tie.Need-enum_told-in-Import
 enum-told-2 c = search rules
 
-enum-known-d : tie.Need-enum-known-d
+enum-known-d : tie.Need-enum_known-d
 enum-known-d c = search rules
 
-add-result : tie.Need-overflow-add-result
+add-result : tie.Need-overflow_add-result
 add-result c =
-    let s = c.before.before.before.before.before.before in
-    let lead = c.before.before.before.before.lead_at.ensures in
-    omega (arith, number_few s.args.values.now s.args.i.0, ap definition_number (sym lead ∙ c.before.before.d.given.1))
+    let s = c in
+    let lead = c.lead_at.ensures in
+    omega (arith, number_few s.args.values.now s.args.i.0, ap definition_number (sym lead ∙ c.in-Definition.is))
 
-enum-told-3 : tie.Need-enum-told-3
+enum-told-3 : tie.Need-enum_told-in-Nothing
 enum-told-3 c = search rules
 
-returns : tie.Need-returns
-returns c = sym (ap definition_number (sym c.before.before.lead_at.ensures ∙ c.enum_told.given.1))
+returns : tie.Need-returns-in-Iso
+returns c = sym (ap definition_number (sym c.lead_at.ensures ∙ c.in-Iso.is))
 
-returns-2 : tie.Need-returns-2
-returns-2 c = sym (ap definition_number (sym c.before.before.lead_at.ensures ∙ c.enum-told2.given.1))
+returns-2 : tie.Need-returns-in-Import
+returns-2 c = sym (ap definition_number (sym c.lead_at.ensures ∙ c.in-Import.is))
 
-returns-3 : tie.Need-returns-3
-returns-3 c = sym (ap definition_number (sym c.before.before.before.before.lead_at.ensures ∙ c.before.before.d.given.1))
+returns-3 : tie.Need-returns-in-Definition
+returns-3 c = sym (ap definition_number (sym c.lead_at.ensures ∙ c.in-Definition.is))
 
-returns-4 : tie.Need-returns-4
-returns-4 c = sym (ap definition_number (sym c.before.before.lead_at.ensures ∙ c.enum-told3.given.1))
+returns-4 : tie.Need-returns-in-Nothing
+returns-4 c = sym (ap definition_number (sym c.lead_at.ensures ∙ c.in-Nothing.is))
 
 pub number_at_spec : {M : Type 1} → statement M
 number_at_spec =

@@ -7,14 +7,17 @@ use borrow.Author.Rules.{rules}
 use Rattle.oid_number.proofs.built_in.symbol_length.Statement.{statement}
 use Rattle.oid_number.proofs.built_in.symbol_length.Tie as tie
 
-oid-length-requires : tie.Need-oid-length-requires
+oid-length-requires : tie.Need-oid_length-requires
 oid-length-requires c κs = search rules
 
-returns : tie.Need-returns
+returns : tie.Need-returns-then-k-lt-SYMBOLS
 returns c = search rules
 
-returns-2 : tie.Need-returns-2
-returns-2 c = sym (ap length (past_symbols c.before.args.k c.if1.false))
+returns-2 : tie.Need-returns
+returns-2 c = sym (ap length (past_symbols c.args.k c.if-k-lt-SYMBOLS.false))
 
 pub symbol_length_spec : {M : Type 1} → statement M
-symbol_length_spec = tie.close (tie.spec oid-length-requires returns returns-2)
+symbol_length_spec = tie.close (tie.spec
+    oid-length-requires
+    returns
+    returns-2)

@@ -8,46 +8,46 @@ use Rattle.oid_number.specs.Number.{is_number, number_tokens}
 use Rattle.oid_number.proofs.part.count_parts.Statement.{statement}
 use Rattle.oid_number.proofs.part.count_parts.Tie as tie
 
-abbrev invariant-loop : tie.invariant-loop
+abbrev invariant-loop : tie.invariant-loop-i
 invariant-loop classes to count₀ i₀ count i = Counting (is_number classes) i₀ to i count
 
-abbrev decreases-loop : tie.decreases-loop
+abbrev decreases-loop : tie.decreases-loop-i
 decreases-loop classes to count₀ i₀ count i = to - i
 
-loop-holds : tie.Need-loop-init invariant-loop decreases-loop
+loop-holds : tie.Need-loop-i-init invariant-loop decreases-loop
 loop-holds c = counting_start _ _ _
 
-is-number-requires : tie.Need-is-number-requires invariant-loop decreases-loop
+is-number-requires : tie.Need-is_number-requires invariant-loop decreases-loop
 is-number-requires c κs = tt
 
-add-count : tie.Need-overflow-add-count invariant-loop decreases-loop
-add-count c = omega (arith, c.before.before.loop-test.true, c.before.before.before.loop.invariant.few)
+add-count : tie.Need-overflow_add-count invariant-loop decreases-loop
+add-count c = omega (arith, c.loop-i-test.true, c.loop-i.invariant.few)
 
-add-i : tie.Need-overflow-add-i invariant-loop decreases-loop
-add-i c = omega (arith, c.before.before.loop-test.true)
+add-i : tie.Need-overflow_add-i invariant-loop decreases-loop
+add-i c = omega (arith, c.loop-i-test.true)
 
-loop-less : tie.Need-loop-smaller invariant-loop decreases-loop
-loop-less c = omega (arith, c.before.before.loop-test.true)
+loop-less : tie.Need-loop-i-smaller-then-is_number invariant-loop decreases-loop
+loop-less c = omega (arith, c.loop-i-test.true)
 
-loop-again : tie.Need-loop-preserved invariant-loop decreases-loop
+loop-again : tie.Need-loop-i-preserved-then-is_number invariant-loop decreases-loop
 loop-again c =
-    let t = c.before.before in
-    counting_hit _ _ _ _ _ t.before.loop.invariant t.loop-test.true (sym c.before.is_number.ensures ∙ c.if1.true)
+    let t = c in
+    counting_hit _ _ _ _ _ t.loop-i.invariant t.loop-i-test.true (sym c.is_number.ensures ∙ c.if-is_number.true)
 
-add-i-2 : tie.Need-overflow-add-i-2 invariant-loop decreases-loop
-add-i-2 c = omega (arith, c.before.before.loop-test.true)
+add-i-2 : tie.Need-overflow_add-i-else-is_number invariant-loop decreases-loop
+add-i-2 c = omega (arith, c.loop-i-test.true)
 
-loop-less-2 : tie.Need-loop-smaller-2 invariant-loop decreases-loop
-loop-less-2 c = omega (arith, c.before.before.loop-test.true)
+loop-less-2 : tie.Need-loop-i-smaller invariant-loop decreases-loop
+loop-less-2 c = omega (arith, c.loop-i-test.true)
 
-loop-again-2 : tie.Need-loop-preserved-2 invariant-loop decreases-loop
+loop-again-2 : tie.Need-loop-i-preserved invariant-loop decreases-loop
 loop-again-2 c =
-    let t = c.before.before in
-    counting_miss _ _ _ _ _ t.before.loop.invariant t.loop-test.true (sym c.before.is_number.ensures ∙ c.if1.false)
+    let t = c in
+    counting_miss _ _ _ _ _ t.loop-i.invariant t.loop-i-test.true (sym c.is_number.ensures ∙ c.if-is_number.false)
 
 returns : tie.Need-returns invariant-loop decreases-loop
 unfolding number_tokens
-returns c = counting_end _ _ _ _ _ c.before.loop.invariant c.loop-test.false
+returns c = counting_end _ _ _ _ _ c.loop-i.invariant c.loop-i-test.false
 
 pub count_parts_spec : {M : Type 1} → statement M
 count_parts_spec =

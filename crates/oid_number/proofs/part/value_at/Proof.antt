@@ -6,17 +6,21 @@ use borrow.Author.Rules.{rules}
 use Rattle.oid_number.proofs.part.value_at.Statement.{statement}
 use Rattle.oid_number.proofs.part.value_at.Tie as tie
 
-mul-result : tie.Need-overflow-mul-result
+mul-result : tie.Need-offset_bounds-values-i
 mul-result c = search rules
 
-shared-slice-read-result : tie.Need-shared-slice-read-result
+shared-slice-read-result : tie.Need-bounds-values-i
 shared-slice-read-result c = search rules
 
-returns : tie.Need-returns
+returns : tie.Need-returns-then-i-values
 returns c = search rules
 
-returns-2 : tie.Need-returns-2
-returns-2 c = sym (get_or-eq_default c.before.args.values.now 0 {n = c.before.args.i} c.if1.false)
+returns-2 : tie.Need-returns
+returns-2 c = sym (get_or-eq_default c.args.values.now 0 {n = c.args.i} c.if-i-values.false)
 
 pub value_at_spec : {M : Type 1} → statement M
-value_at_spec = tie.close (tie.spec mul-result shared-slice-read-result returns returns-2)
+value_at_spec = tie.close (tie.spec
+    mul-result
+    shared-slice-read-result
+    returns
+    returns-2)

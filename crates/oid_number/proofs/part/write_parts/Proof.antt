@@ -10,69 +10,69 @@ use Rattle.oid_number.proofs.Parts.{WritingParts, parts_start, parts_length, par
 use Rattle.oid_number.proofs.part.write_parts.Statement.{statement}
 use Rattle.oid_number.proofs.part.write_parts.Tie as tie
 
-abbrev invariant-loop : tie.invariant-loop
+abbrev invariant-loop : tie.invariant-loop-i
 invariant-loop classes values numbers₀ to i₀ count₀ numbers i count =
     WritingParts classes values (record { from = i₀; to = to }) numbers₀ i count numbers
 
-abbrev decreases-loop : tie.decreases-loop
+abbrev decreases-loop : tie.decreases-loop-i
 decreases-loop classes values numbers₀ to i₀ count₀ numbers i count = to - i
 
-abbrev start : tie.In-loop invariant-loop decreases-loop → tie.Start invariant-loop decreases-loop
+abbrev start : tie.In-loop-i invariant-loop decreases-loop → tie.Start invariant-loop decreases-loop
 start t = t.before.before.before.before.before
 
-here : (c : tie.Then1 invariant-loop decreases-loop) → is_number (start c.before.before).args.classes.now c.before.before.before.loop.i ≡ true
-here c = sym c.before.is_number.ensures ∙ c.if1.true
+here : (c : tie.Then-is_number invariant-loop decreases-loop) → is_number (start c.before.before).args.classes.now c.loop-i.i ≡ true
+here c = sym c.is_number.ensures ∙ c.if-is_number.true
 
-room : (c : tie.After-value-at invariant-loop decreases-loop) → c.before.before.before.before.loop.count < length c.before.before.before.before.loop.numbers
+room : (c : tie.After-value_at invariant-loop decreases-loop) → c.loop-i.count < length c.loop-i.numbers
 room c =
-    let t = c.before.before.before in
-    part_room _ _ _ _ _ _ _ (start t).requires t.before.loop.invariant t.loop-test.true (here c.before)
+    let t = c in
+    part_room _ _ _ _ _ _ _ (start t.before.before.before).requires t.loop-i.invariant t.loop-i-test.true (here c.before)
 
-loop-holds : tie.Need-loop-init invariant-loop decreases-loop
+loop-holds : tie.Need-loop-i-init invariant-loop decreases-loop
 loop-holds c = parts_start _ _ _ _
 
-is-number-requires : tie.Need-is-number-requires invariant-loop decreases-loop
+is-number-requires : tie.Need-is_number-requires invariant-loop decreases-loop
 is-number-requires c κs = tt
 
-value-at-requires : tie.Need-value-at-requires invariant-loop decreases-loop
+value-at-requires : tie.Need-value_at-requires invariant-loop decreases-loop
 value-at-requires c κs = tt
 
-mul-numbers : tie.Need-overflow-mul-numbers invariant-loop decreases-loop
+mul-numbers : tie.Need-offset_bounds-numbers-count invariant-loop decreases-loop
 mul-numbers c = omega (arith, room c)
 
-slice-write-numbers : tie.Need-slice-write-numbers invariant-loop decreases-loop
+slice-write-numbers : tie.Need-bounds-numbers-count invariant-loop decreases-loop
 slice-write-numbers c = room c
 
-add-count : tie.Need-overflow-add-count invariant-loop decreases-loop
+add-count : tie.Need-overflow_add-count invariant-loop decreases-loop
 add-count c = omega (arith, room c)
 
-add-i : tie.Need-overflow-add-i invariant-loop decreases-loop
-add-i c = omega (arith, c.before.before.before.loop-test.true)
+add-i : tie.Need-overflow_add-i invariant-loop decreases-loop
+add-i c = omega (arith, c.loop-i-test.true)
 
-loop-less : tie.Need-loop-smaller invariant-loop decreases-loop
-loop-less c = omega (arith, c.before.before.before.loop-test.true)
+loop-less : tie.Need-loop-i-smaller-then-is_number invariant-loop decreases-loop
+loop-less c = omega (arith, c.loop-i-test.true)
 
-loop-again : tie.Need-loop-preserved invariant-loop decreases-loop
+loop-again : tie.Need-loop-i-preserved-then-is_number invariant-loop decreases-loop
 loop-again c =
-    let t = c.before.before.before in
-    parts_more _ _ _ _ _ _ _ (start t).requires t.before.loop.invariant t.loop-test.true (here c.before) _ c.value_at.ensures
+    let t = c in
+    parts_more _ _ _ _ _ _ _ (start t.before.before.before).requires t.loop-i.invariant t.loop-i-test.true (here c.before) _ c.value_at.ensures
 
-add-i-2 : tie.Need-overflow-add-i-2 invariant-loop decreases-loop
-add-i-2 c = omega (arith, c.before.before.loop-test.true)
+add-i-2 : tie.Need-overflow_add-i-else-is_number invariant-loop decreases-loop
+add-i-2 c = omega (arith, c.loop-i-test.true)
 
-loop-less-2 : tie.Need-loop-smaller-2 invariant-loop decreases-loop
-loop-less-2 c = omega (arith, c.before.before.loop-test.true)
+loop-less-2 : tie.Need-loop-i-smaller invariant-loop decreases-loop
+loop-less-2 c = omega (arith, c.loop-i-test.true)
 
-loop-again-2 : tie.Need-loop-preserved-2 invariant-loop decreases-loop
+loop-again-2 : tie.Need-loop-i-preserved invariant-loop decreases-loop
 loop-again-2 c =
-    let t = c.before.before in
-    parts_pass _ _ _ _ _ _ _ (start t).requires t.before.loop.invariant t.loop-test.true (sym c.before.is_number.ensures ∙ c.if1.false)
+    let t = c in
+    parts_pass _ _ _ _ _ _ _ (start t.before.before).requires t.loop-i.invariant t.loop-i-test.true (sym c.is_number.ensures ∙ c.if-is_number.false)
 
-same_length : tie.Need-same-length invariant-loop decreases-loop
-same_length c = parts_length _ _ _ _ _ _ _ c.before.before.before.before.before.requires c.before.loop.invariant
+same_length : tie.Need-shape_of-numbers invariant-loop decreases-loop
+same_length c = parts_length _ _ _ _ _ _ _ c.requires c.loop-i.invariant
 
 returns : tie.Need-returns invariant-loop decreases-loop
-returns c = parts_end _ _ _ _ _ _ _ c.before.before.before.before.before.requires c.before.loop.invariant c.loop-test.false
+returns c = parts_end _ _ _ _ _ _ _ c.requires c.loop-i.invariant c.loop-i-test.false
 
 pub write_parts_spec : {M : Type 1} → statement M
 write_parts_spec =

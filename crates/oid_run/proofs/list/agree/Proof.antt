@@ -6,58 +6,58 @@ use Rattle.lexicon.proofs.Words.{Comparing, last_agrees, last_differs, all_agree
 use Rattle.oid_run.proofs.list.agree.Statement.{statement}
 use Rattle.oid_run.proofs.list.agree.Tie as tie
 
-abbrev invariant-loop : tie.invariant-loop
+abbrev invariant-loop : tie.invariant-loop-k
 invariant-loop numbers n i j k₀ k = Comparing numbers numbers i j n k
 
-abbrev decreases-loop : tie.decreases-loop
+abbrev decreases-loop : tie.decreases-loop-k
 decreases-loop numbers n i j k₀ k = k
 
-loop-holds : tie.Need-loop-init invariant-loop decreases-loop
+loop-holds : tie.Need-loop-k-init invariant-loop decreases-loop
 loop-holds c = (omega arith, refl)
 
-sub-k : tie.Need-overflow-sub-k invariant-loop decreases-loop
+sub-k : tie.Need-overflow_sub-k invariant-loop decreases-loop
 sub-k c = omega arith
 
-add-if1 : tie.Need-overflow-add-if1 invariant-loop decreases-loop
+add-if1 : tie.Need-overflow_add-i invariant-loop decreases-loop
 add-if1 c = omega arith
 
-mul-if1 : tie.Need-overflow-mul-if1 invariant-loop decreases-loop
+mul-if1 : tie.Need-offset_bounds-numbers-i invariant-loop decreases-loop
 mul-if1 c = omega arith
 
-shared-slice-read-if1 : tie.Need-shared-slice-read-if1 invariant-loop decreases-loop
+shared-slice-read-if1 : tie.Need-bounds-numbers-i invariant-loop decreases-loop
 shared-slice-read-if1 c = omega arith
 
-add-if1-2 : tie.Need-overflow-add-if1-2 invariant-loop decreases-loop
+add-if1-2 : tie.Need-overflow_add-j invariant-loop decreases-loop
 add-if1-2 c = omega arith
 
-mul-if1-2 : tie.Need-overflow-mul-if1-2 invariant-loop decreases-loop
+mul-if1-2 : tie.Need-offset_bounds-numbers-j invariant-loop decreases-loop
 mul-if1-2 c = omega arith
 
-shared-slice-read-if1-2 : tie.Need-shared-slice-read-if1-2 invariant-loop decreases-loop
+shared-slice-read-if1-2 : tie.Need-bounds-numbers-j invariant-loop decreases-loop
 shared-slice-read-if1-2 c = omega arith
 
-returns : tie.Need-returns invariant-loop decreases-loop
+returns : tie.Need-returns-then-numbers-i invariant-loop decreases-loop
 returns c =
-    let turn = c.before.before.before in
-    let l = turn.before in
-    let s = l.before in
-    last_differs _ _ _ _ _ _ s.requires.0 s.requires.1 l.loop.invariant turn.loop-test.true c.if1.true
+    let turn = c in
+    let l = turn in
+    let s = l in
+    last_differs _ _ _ _ _ _ s.requires.0 s.requires.1 l.loop-k.invariant turn.loop-k-test.true c.if-numbers-i.true
 
-loop-less : tie.Need-loop-smaller invariant-loop decreases-loop
+loop-less : tie.Need-loop-k-smaller invariant-loop decreases-loop
 loop-less c = omega arith
 
-loop-again : tie.Need-loop-preserved invariant-loop decreases-loop
+loop-again : tie.Need-loop-k-preserved invariant-loop decreases-loop
 loop-again c =
-    let turn = c.before.before.before in
-    let l = turn.before in
-    let s = l.before in
-    last_agrees _ _ _ _ _ _ s.requires.0 s.requires.1 l.loop.invariant turn.loop-test.true c.if1.false
+    let turn = c in
+    let l = turn in
+    let s = l in
+    last_agrees _ _ _ _ _ _ s.requires.0 s.requires.1 l.loop-k.invariant turn.loop-k-test.true c.if-numbers-i.false
 
-returns-2 : tie.Need-returns-2 invariant-loop decreases-loop
+returns-2 : tie.Need-returns invariant-loop decreases-loop
 returns-2 c =
-    let l = c.before in
-    let s = l.before in
-    all_agree _ _ _ _ _ _ s.requires.0 s.requires.1 l.loop.invariant c.loop-test.false
+    let l = c in
+    let s = l in
+    all_agree _ _ _ _ _ _ s.requires.0 s.requires.1 l.loop-k.invariant c.loop-k-test.false
 
 pub agree_spec : {M : Type 1} → statement M
 agree_spec =

@@ -17,16 +17,19 @@ one_less m n some = go (ℕ_discrete n (m + 1))
     go (yes e) = eq-eqb (n - 1) m (omega arith) ∙ sym (eq-eqb n (m + 1) e)
     go (no e) = ne_eqb (n - 1) m (λ q. omega arith) ∙ sym (ne_eqb n (m + 1) e)
 
-returns : tie.Need-returns
+returns : tie.Need-returns-then-b-eq0
 returns c =
-    let s = c.before.before in
+    let s = c in
     sym (ne_eqb s.args.b.count (s.args.a.count + 1) (λ e. omega arith))
 
-sub-result : tie.Need-overflow-sub-result
+sub-result : tie.Need-overflow_sub-result
 sub-result c = search rules
 
-returns-2 : tie.Need-returns-2
-returns-2 c = one_less _ _ c.before.before.if1.false
+returns-2 : tie.Need-returns
+returns-2 c = one_less _ _ c.if-b-eq0.false
 
 pub is_one_longer_spec : {M : Type 1} → statement M
-is_one_longer_spec = tie.close (tie.spec returns sub-result returns-2)
+is_one_longer_spec = tie.close (tie.spec
+    returns
+    sub-result
+    returns-2)

@@ -7,19 +7,22 @@ use Rattle.oid_run.proofs.Runs.{other_length}
 use Rattle.oid_run.proofs.list.same.Statement.{statement}
 use Rattle.oid_run.proofs.list.same.Tie as tie
 
-returns : tie.Need-returns
+returns : tie.Need-returns-then-b-a
 returns c =
-    let s = c.before.before.before.before in
+    let s = c in
     sym (other_length _ _ _ _ _ s.requires.0 s.requires.1 (λ e. omega arith))
 
 agree-requires : tie.Need-agree-requires
 agree-requires c κs = search rules
 
-returns-2 : tie.Need-returns-2
+returns-2 : tie.Need-returns
 returns-2 c =
-    let s = c.before.before.before.before.before in
+    let s = c in
     let even : s.args.b.count ≡ s.args.a.count = omega arith in
     rw even c.agree.ensures
 
 pub same_spec : {M : Type 1} → statement M
-same_spec = tie.close (tie.spec returns agree-requires returns-2)
+same_spec = tie.close (tie.spec
+    returns
+    agree-requires
+    returns-2)

@@ -65,8 +65,8 @@ abbrev name_length_claims : ℕ → name-length-lts.Claims
 name_length_claims t = (symbol-length-reads.Asked, symbol-length-reads.Learnt, definition_length_below t, definition-length.Post)
 
 -- the module that the heads are followed in
-abbrev module-of : {t : ℕ} → definition-length-lts.Start (definition_length_claims t) (definition_length_at t) definition-length.Post → Module
-module-of s = named_in s.args.classes.now s.args.values.now s.args.definitions.now
+abbrev module_of : {t : ℕ} → definition-length-lts.Start (definition_length_claims t) (definition_length_at t) definition-length.Post → Module
+module_of s = named_in s.args.classes.now s.args.values.now s.args.definitions.now
 
 abbrev entered : {t : ℕ} → name-length-lts.Start (name_length_claims t) (name_length_at t) name-length.Post → Module
 entered s = named_in s.args.classes.now s.args.values.now s.args.definitions.now
@@ -78,12 +78,12 @@ counted s l = length (name_numbers (resolved_oid (entered s)) l)
 -- the head's numbers and the parts
 added : (t : ℕ) (c : definition-length-lts.After-count-parts (definition_length_claims t) (definition_length_at t) definition-length.Post)
     → c.before.name-length.result + c.count-parts.result
-    ≡ length (resolved_oid (module-of c.before.before.before.before.before.before.before.before.before.before) c.before.before.before.before.before.before.before.before.before.before.args.d.0)
+    ≡ length (resolved_oid (module_of c.before.before.before.before.before.before.before.before.before.before) c.before.before.before.before.before.before.before.before.before.before.args.d.0)
 added t c =
     let h = c.before.before in
     let r = h.before.before.before.before in
     let s = r.before.before.before.before in
-    step_length (module-of s) s.args.left s.args.d s.requires.1.1 _ r.definition-at.ensures _ h.head_of.ensures _ _ c.before.name-length.ensures c.count-parts.ensures
+    step_length (module_of s) s.args.left s.args.d s.requires.1.1 _ r.definition-at.ensures _ h.head_of.ensures _ _ c.before.name-length.ensures c.count-parts.ensures
 
 definition_length_definition_at_requires :
     (t : ℕ) → definition-length-lts.Need-definition-at-requires (definition_length_claims t) (definition_length_at t) definition-length.Post
@@ -93,13 +93,13 @@ definition_length_returns : (t : ℕ) → definition-length-lts.Need-returns (de
 definition_length_returns t c =
     let r = c.before.before in
     let s = r.before.before.before.before in
-    known_length (module-of s) s.args.left s.args.d s.requires.1.1 _ r.definition-at.ensures _ s.requires.1.0 c.if1.true
+    known_length (module_of s) s.args.left s.args.d s.requires.1.1 _ r.definition-at.ensures _ s.requires.1.0 c.if1.true
 
 definition_length_returns_2 : (t : ℕ) → definition-length-lts.Need-returns-2 (definition_length_claims t) (definition_length_at t) definition-length.Post
 definition_length_returns_2 t c =
     let r = c.before.before.before in
     let s = r.before.before.before.before in
-    absurd (reached_some (module-of s) s.args.left s.args.d s.requires.1.1 _ r.definition-at.ensures c.if2.true)
+    absurd (reached_some (module_of s) s.args.left s.args.d s.requires.1.1 _ r.definition-at.ensures c.if2.true)
 
 definition_length_head_of_requires : (t : ℕ) → definition-length-lts.Need-head-of-requires (definition_length_claims t) (definition_length_at t) definition-length.Post
 definition_length_head_of_requires t c κs = search rules
@@ -112,7 +112,7 @@ definition_length_name_length_requires t c κs =
     let r = c.before.before.before.before in
     let s = r.before.before.before.before in (
       omega (arith, s.requires.0, c.before.if2.false),
-      (s.requires.1.0, head_reached (module-of s) s.args.left s.args.d s.requires.1.1 _ r.definition-at.ensures _ c.head_of.ensures),
+      (s.requires.1.0, head_reached (module_of s) s.args.left s.args.d s.requires.1.1 _ r.definition-at.ensures _ c.head_of.ensures),
     )
 
 definition_length_count_parts_requires : (t : ℕ) → definition-length-lts.Need-count-parts-requires (definition_length_claims t) (definition_length_at t) definition-length.Post
@@ -122,7 +122,7 @@ definition_length_add_result : (t : ℕ) → definition-length-lts.Need-overflow
 definition_length_add_result t c =
     let r = c.before.before.before.before.before.before in
     let s = r.before.before.before.before in
-    omega (arith, added t c, oid_few (module-of s) s.requires.1.0.short s.requires.1.0.few s.args.d.0)
+    omega (arith, added t c, oid_few (module_of s) s.requires.1.0.short s.requires.1.0.few s.args.d.0)
 
 definition_length_returns_3 : (t : ℕ) → definition-length-lts.Need-returns-3 (definition_length_claims t) (definition_length_at t) definition-length.Post
 definition_length_returns_3 t c = added t c

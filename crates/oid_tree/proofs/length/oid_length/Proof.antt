@@ -10,8 +10,8 @@ use Rattle.oid_tree.proofs.length.oid_length.Statement.{statement}
 use Rattle.oid_tree.proofs.length.oid_length.Tie as tie
 
 -- the module that the heads are followed in
-abbrev module-of : tie.Start → Module
-module-of s = named_in s.args.classes.now s.args.values.now s.args.definitions.now
+abbrev module_of : tie.Start → Module
+module_of s = named_in s.args.classes.now s.args.values.now s.args.definitions.now
 
 definition-at-requires : tie.Need-definition-at-requires
 definition-at-requires c κs = tt
@@ -30,8 +30,8 @@ definition-length-requires c κs =
     let s = r.before.before.before.before in
     let value = sym (v.has_value.ensures ∙ ap has_value r.definition-at.ensures) ∙ c.before.if1.true in (
       s.requires.0,
-      ap (λ (n : ℕ). reached_in (module-of s) n (name_of s.args.k.0)) c.count.ensures
-          ∙ s.requires.1 s.args.k.0 (value_inside (module-of s) s.args.k.0 value) value,
+      ap (λ (n : ℕ). reached_in (module_of s) n (name_of s.args.k.0)) c.count.ensures
+          ∙ s.requires.1 s.args.k.0 (value_inside (module_of s) s.args.k.0 value) value,
     )
 
 returns : tie.Need-returns
@@ -42,7 +42,7 @@ returns-2 c =
     let v = c.before in
     let r = v.before in
     let s = r.before.before.before.before in
-    sym (ap length (oid_none (module-of s) s.args.k.0 (sym (v.has_value.ensures ∙ ap has_value r.definition-at.ensures) ∙ c.if1.false)))
+    sym (ap length (oid_none (module_of s) s.args.k.0 (sym (v.has_value.ensures ∙ ap has_value r.definition-at.ensures) ∙ c.if1.false)))
 
 pub oid_length_spec : {M : Type 1} → statement M
 oid_length_spec =

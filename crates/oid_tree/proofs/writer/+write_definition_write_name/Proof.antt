@@ -68,8 +68,8 @@ abbrev write_name_claims : ℕ → write-name-lts.Claims
 write_name_claims t = (write-iso-reads.Asked, write-iso-reads.Learnt, write-symbol-reads.Asked, write-symbol-reads.Learnt, write_definition_below t, write-definition.Post)
 
 -- the module that the heads are followed in
-abbrev module-of : {t : ℕ} → write-definition-lts.Start (write_definition_claims t) (write_definition_at t) write-definition.Post → Module
-module-of s = named_in s.args.classes.now s.args.values.now s.args.definitions.now
+abbrev module_of : {t : ℕ} → write-definition-lts.Start (write_definition_claims t) (write_definition_at t) write-definition.Post → Module
+module_of s = named_in s.args.classes.now s.args.values.now s.args.definitions.now
 
 abbrev entered : {t : ℕ} → write-name-lts.Start (write_name_claims t) (write_name_at t) write-name.Post → Module
 entered s = named_in s.args.classes.now s.args.values.now s.args.definitions.now
@@ -90,16 +90,16 @@ module _ {t : ℕ} where
 
   -- the numbers of the head's name, and of the parts
   abbrev head_numbers : After-head t → List ℕ
-  head_numbers h = name_numbers (resolved_oid (module-of (start h))) h.head_of.result
+  head_numbers h = name_numbers (resolved_oid (module_of (start h))) h.head_of.result
 
   abbrev own_numbers : After-head t → List ℕ
   own_numbers h = parts_in (start h).args.classes.now (start h).args.values.now h.before.before.definition-at.result.oid
 
   -- the two are the definition's
-  both : (h : After-head t) → resolved_oid (module-of (start h)) (start h).args.d.0 ≡ head_numbers h ++ own_numbers h
+  both : (h : After-head t) → resolved_oid (module_of (start h)) (start h).args.d.0 ≡ head_numbers h ++ own_numbers h
   both h =
       let s = start h in
-      own_step (module-of s) s.args.left s.args.d s.pre.1.0 _ h.before.before.definition-at.ensures _ h.head_of.ensures
+      own_step (module_of s) s.args.left s.args.d s.pre.1.0 _ h.before.before.definition-at.ensures _ h.head_of.ensures
 
   both_room : (h : After-head t) → length (head_numbers h ++ own_numbers h) ≤ length (start h).args.numbers.now
   both_room h = omega (arith, ap length (both h), (start h).requires.1.1)
@@ -127,7 +127,7 @@ write_definition_returns : (t : ℕ) → write-definition-lts.Need-returns (writ
 write_definition_returns t c =
     let r = c.before in
     let s = r.before.before.before.before.before in
-    absurd (reached_some (module-of s) s.args.left s.args.d s.requires.1.0 _ r.definition-at.ensures c.if1.true)
+    absurd (reached_some (module_of s) s.args.left s.args.d s.requires.1.0 _ r.definition-at.ensures c.if1.true)
 
 write_definition_head_of_requires : (t : ℕ) → write-definition-lts.Need-head-of-requires (write_definition_claims t) (write_definition_at t) write-definition.Post
 write_definition_head_of_requires t c κs = search rules
@@ -141,7 +141,7 @@ write_definition_write_name_requires t c κs =
     let s = start h in (
       omega (arith, h.before.if1.false, s.pre.0),
       (
-        head_reached (module-of s) s.args.left s.args.d s.pre.1.0 _ h.before.before.definition-at.ensures _ h.head_of.ensures,
+        head_reached (module_of s) s.args.left s.args.d s.pre.1.0 _ h.before.before.definition-at.ensures _ h.head_of.ensures,
         omega (arith, length-append (head_numbers h) (own_numbers h), both_room h),
       ),
     )

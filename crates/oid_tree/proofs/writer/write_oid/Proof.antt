@@ -20,8 +20,8 @@ abbrev start : tie.After-definition-at → tie.Start
 start r = r.before.before.before.before.before
 
 -- the module that the heads are followed in
-abbrev module-of : tie.Start → Module
-module-of s = named_in s.args.classes.now s.args.values.now s.args.definitions.now
+abbrev module_of : tie.Start → Module
+module_of s = named_in s.args.classes.now s.args.values.now s.args.definitions.now
 
 -- the definition has an OID value
 value : (h : tie.After-head-of) → has_value h.before.before.before.definition-at.result ≡ true
@@ -29,24 +29,24 @@ value h = sym h.before.before.has_value.ensures ∙ not-false _ h.before.if1.fal
 
 -- its heads can be followed
 followed : (h : tie.After-head-of)
-    → (reaches (module-of (start h.before.before.before)) (start h.before.before.before).args.k.0 ≡ true)
-    × (h.before.before.before.definition-at.result.start.0 + length (resolved_oid (module-of (start h.before.before.before)) (start h.before.before.before).args.k.0) ≤ length (start h.before.before.before).args.numbers.now)
+    → (reaches (module_of (start h.before.before.before)) (start h.before.before.before).args.k.0 ≡ true)
+    × (h.before.before.before.definition-at.result.start.0 + length (resolved_oid (module_of (start h.before.before.before)) (start h.before.before.before).args.k.0) ≤ length (start h.before.before.before).args.numbers.now)
 followed h =
     let r = h.before.before.before in
     let s = start r in
-    let m = module-of s in (
+    let m = module_of s in (
       own_reached m s.pre.0 s.pre.1.0 s.args.k _ r.definition-at.ensures (value h),
       own_room m s.pre.0 s.pre.1.0 s.args.k _ r.definition-at.ensures (value h) _ s.pre.1.1.0,
     )
 
 -- and what is laid at its start is laid behind the numbers before it
 laid : (h : tie.After-head-of) (after : List ℕ)
-    → after ≡ laid_at h.before.before.before.definition-at.result.start.0 (resolved_oid (module-of (start h.before.before.before)) (start h.before.before.before).args.k.0) (start h.before.before.before).args.numbers.now
-    → after ≡ laid_at (first_number (module-of (start h.before.before.before)) (start h.before.before.before).args.k.0) (resolved_oid (module-of (start h.before.before.before)) (start h.before.before.before).args.k.0) (start h.before.before.before).args.numbers.now
+    → after ≡ laid_at h.before.before.before.definition-at.result.start.0 (resolved_oid (module_of (start h.before.before.before)) (start h.before.before.before).args.k.0) (start h.before.before.before).args.numbers.now
+    → after ≡ laid_at (first_number (module_of (start h.before.before.before)) (start h.before.before.before).args.k.0) (resolved_oid (module_of (start h.before.before.before)) (start h.before.before.before).args.k.0) (start h.before.before.before).args.numbers.now
 laid h after is =
     let r = h.before.before.before in
     let s = start r in
-    let m = module-of s in
+    let m = module_of s in
     is
     ∙ ap (λ (n : ℕ). laid_at n (resolved_oid m s.args.k.0) s.args.numbers.now)
     (own_start m s.pre.0 s.pre.1.0 s.args.k _ r.definition-at.ensures (value h))
@@ -62,7 +62,7 @@ returns c =
     let v = c.before in
     let r = v.before in
     let s = start r in
-    laid_none (first_number (module-of s) s.args.k.0) (resolved_oid (module-of s) s.args.k.0) _ (oid_none (module-of s) s.args.k.0 (sym (v.has_value.ensures ∙ ap has_value r.definition-at.ensures) ∙ not-true _ c.if1.true))
+    laid_none (first_number (module_of s) s.args.k.0) (resolved_oid (module_of s) s.args.k.0) _ (oid_none (module_of s) s.args.k.0 (sym (v.has_value.ensures ∙ ap has_value r.definition-at.ensures) ∙ not-true _ c.if1.true))
 
 head-of-requires : tie.Need-head-of-requires
 head-of-requires c κs = search rules
@@ -91,7 +91,7 @@ write-behind-requires c κs =
     let h = e.before.before in
     let r = h.before.before.before in
     let s = start r in
-    let m = module-of s in (
+    let m = module_of s in (
       head_apart m s.pre.0 s.pre.1.0 s.args.k _ r.definition-at.ensures (value h) _ h.head_of.ensures _ e.head.given.1 t.if2.true _ c.definition-at2.ensures,
       parts_room m s.pre.0 s.pre.1.0 s.args.k _ r.definition-at.ensures (value h) _ h.head_of.ensures _ e.head.given.1 t.if2.true _ c.definition-at2.ensures _ s.pre.1.1.0,
     )
@@ -109,7 +109,7 @@ returns-3 c =
     let r = h.before.before.before in
     let s = start r in
     w.write-behind.ensures
-    ∙ behind_laid (module-of s) s.pre.0 s.pre.1.0 s.args.k _ r.definition-at.ensures (value h) _ h.head_of.ensures _ e.head.given.1 t.if2.true _ d.definition-at2.ensures _ s.pre.1.1.1
+    ∙ behind_laid (module_of s) s.pre.0 s.pre.1.0 s.args.k _ r.definition-at.ensures (value h) _ h.head_of.ensures _ e.head.given.1 t.if2.true _ d.definition-at2.ensures _ s.pre.1.1.1
 
 write-followed-requires-2 : tie.Need-write-followed-requires-2
 write-followed-requires-2 c κs = followed c.before.before.before.before.before.before.before

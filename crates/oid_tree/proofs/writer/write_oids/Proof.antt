@@ -26,15 +26,15 @@ abbrev start : tie.At-loop invariant-loop decreases-loop → tie.Start invariant
 start l = l.before.before.before.before.before.before
 
 -- the module that the heads are followed in
-abbrev module-of : tie.Start invariant-loop decreases-loop → Module
-module-of s = named_in s.args.classes.now s.args.values.now s.args.definitions.now
+abbrev module_of : tie.Start invariant-loop decreases-loop → Module
+module_of s = named_in s.args.classes.now s.args.values.now s.args.definitions.now
 
 as_long : (l : tie.At-loop invariant-loop decreases-loop) → length l.loop.numbers ≡ length (start l).args.numbers.now
 as_long l =
     let s = start l in
     ap length l.loop.invariant.0
-    ∙ overlaid_length (numbers_before (module-of s) l.loop.k) s.args.numbers.now
-    (omega (arith, s.pre.1.1, before_grows (module-of s) l.loop.k (count_of (module-of s)) (omega (arith, l.loop.invariant.1, l.before.count.ensures))))
+    ∙ overlaid_length (numbers_before (module_of s) l.loop.k) s.args.numbers.now
+    (omega (arith, s.pre.1.1, before_grows (module_of s) l.loop.k (count_of (module_of s)) (omega (arith, l.loop.invariant.1, l.before.count.ensures))))
 
 count-requires : tie.Need-count-requires invariant-loop decreases-loop
 count-requires c κs = tt
@@ -51,8 +51,8 @@ write-oid-requires c κs =
       (
         s.pre.1.0,
         (
-          omega (arith, as_long t.before, s.pre.1.1, before_grows (module-of s) (t.before.loop.k + 1) (count_of (module-of s)) (omega (arith, t.loop-test.true, t.before.before.count.ensures))),
-          overlaid_first (numbers_before (module-of s) t.before.loop.k) s.args.numbers.now _ t.before.loop.invariant.0,
+          omega (arith, as_long t.before, s.pre.1.1, before_grows (module_of s) (t.before.loop.k + 1) (count_of (module_of s)) (omega (arith, t.loop-test.true, t.before.before.count.ensures))),
+          overlaid_first (numbers_before (module_of s) t.before.loop.k) s.args.numbers.now _ t.before.loop.invariant.0,
         ),
       ),
     )
@@ -68,8 +68,8 @@ loop-again c =
     let w = c.before.before in
     let t = w.before.before in
     let s = start t.before in (
-      w.write-oid.ensures ∙ overlaid_more (numbers_before (module-of s) t.before.loop.k) (resolved_oid (module-of s) t.before.loop.k) s.args.numbers.now _ _ t.before.loop.invariant.0 refl
-          ∙ ap (λ (l : List ℕ). overlaid l s.args.numbers.now) (sym (before_more (module-of s) t.before.loop.k)),
+      w.write-oid.ensures ∙ overlaid_more (numbers_before (module_of s) t.before.loop.k) (resolved_oid (module_of s) t.before.loop.k) s.args.numbers.now _ _ t.before.loop.invariant.0 refl
+          ∙ ap (λ (l : List ℕ). overlaid l s.args.numbers.now) (sym (before_more (module_of s) t.before.loop.k)),
       omega (arith, t.loop-test.true),
     )
 
@@ -80,8 +80,8 @@ returns : tie.Need-returns invariant-loop decreases-loop
 returns c =
     let l = c.before in
     let s = start l in
-    let all : l.loop.k ≡ count_of (module-of s) = omega (arith, c.loop-test.false, l.loop.invariant.1, l.before.count.ensures) in
-    l.loop.invariant.0 ∙ ap (λ (n : ℕ). overlaid (numbers_before (module-of s) n) s.args.numbers.now) all
+    let all : l.loop.k ≡ count_of (module_of s) = omega (arith, c.loop-test.false, l.loop.invariant.1, l.before.count.ensures) in
+    l.loop.invariant.0 ∙ ap (λ (n : ℕ). overlaid (numbers_before (module_of s) n) s.args.numbers.now) all
 
 pub write_oids_spec : {M : Type 1} → statement M
 write_oids_spec =

@@ -33,27 +33,27 @@ loop-less c = omega arith
 abbrev text_of : tie.At-loop-i invariant-loop decreases-loop → List ℕ
 text_of l = l.args.text.now
 
-abbrev in-run : tie.At-loop-i invariant-loop decreases-loop → ℕ → ℕ → Bool
-in-run l = belongs_to l.args.run
+abbrev in_run : tie.At-loop-i invariant-loop decreases-loop → ℕ → ℕ → Bool
+in_run l = belongs_to l.args.run
 
 loop-again : tie.Need-loop-i-preserved invariant-loop decreases-loop
 loop-again c =
     let turn = c in
     let l = turn in
     let answer = sym c.belongs.ensures ∙ c.if-belongs.true in
-    reached_more (in-run l.before.before.before) (text_of l.before.before.before) _ _ l.loop-i.invariant turn.loop-i-test.true answer
+    reached_more (in_run l.before.before.before) (text_of l.before.before.before) _ _ l.loop-i.invariant turn.loop-i-test.true answer
 
 returns : tie.Need-returns-else-belongs invariant-loop decreases-loop
 returns c =
     let turn = c in
     let l = turn in
     let answer = sym c.belongs.ensures ∙ c.if-belongs.false in
-    reached_stop (in-run l.before.before.before) (text_of l.before.before.before) _ _ l.loop-i.invariant turn.loop-i-test.true answer
+    reached_stop (in_run l.before.before.before) (text_of l.before.before.before) _ _ l.loop-i.invariant turn.loop-i-test.true answer
 
 returns-2 : tie.Need-returns invariant-loop decreases-loop
 returns-2 c =
     let l = c in
-    reached_end (in-run l.before) (text_of l.before) _ _ l.loop-i.invariant c.loop-i-test.false
+    reached_end (in_run l.before) (text_of l.before) _ _ l.loop-i.invariant c.loop-i-test.false
 
 pub run_end_spec : {M : Type 1} → statement M
 run_end_spec =

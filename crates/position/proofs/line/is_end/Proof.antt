@@ -5,7 +5,7 @@ use borrow.Author.Rules.{rules}
 use Rattle.position.proofs.line.is_end.Statement.{statement}
 use Rattle.position.proofs.line.is_end.Tie as tie
 
-byte-at-requires : tie.Need-byte-at-requires
+byte-at-requires : tie.Need-byte_at-requires
 byte-at-requires c κs = search rules
 
 returns : tie.Need-returns
@@ -13,4 +13,6 @@ unfolding is_end
 returns c = simp c.byte_at.ensures
 
 pub is_end_spec : {M : Type 1} → statement M
-is_end_spec = tie.close (tie.spec byte-at-requires returns)
+is_end_spec = tie.close (tie.spec
+    byte-at-requires
+    returns)

@@ -9,64 +9,64 @@ use borrow.Author.Rules.{rules}
 use Rattle.position.proofs.line.locate.Statement.{statement}
 use Rattle.position.proofs.line.locate.Tie as tie
 
-abbrev invariant-loop : tie.invariant-loop
+abbrev invariant-loop : tie.invariant-loop-i
 invariant-loop text place line₀ start₀ i₀ line start i = (i ≤ place) × (line ≤ i + 1) × (start ≤ i) × (line ≡ line_at text i) × (start ≡ start_at text i)
 
-abbrev decreases-loop : tie.decreases-loop
+abbrev decreases-loop : tie.decreases-loop-i
 decreases-loop text place line₀ start₀ i₀ line start i = place - i
 
-loop-holds : tie.Need-loop-init invariant-loop decreases-loop
+loop-holds : tie.Need-loop-i-init invariant-loop decreases-loop
 unfolding line_at start_at
 loop-holds c = (search rules, search rules, search rules, refl, refl)
 
-is-end-requires : tie.Need-is-end-requires invariant-loop decreases-loop
+is-end-requires : tie.Need-is_end-requires invariant-loop decreases-loop
 is-end-requires c κs = search rules
 
-add-line : tie.Need-overflow-add-line invariant-loop decreases-loop
+add-line : tie.Need-overflow_add-line invariant-loop decreases-loop
 add-line c = search rules
 
-add-i : tie.Need-overflow-add-i invariant-loop decreases-loop
+add-i : tie.Need-overflow_add-i invariant-loop decreases-loop
 add-i c = search rules
 
-loop-less : tie.Need-loop-smaller invariant-loop decreases-loop
+loop-less : tie.Need-loop-i-smaller-then-is_end invariant-loop decreases-loop
 loop-less c = search rules
 
-loop-again : tie.Need-loop-preserved invariant-loop decreases-loop
+loop-again : tie.Need-loop-i-preserved-then-is_end invariant-loop decreases-loop
 loop-again c =
-    let here = c.before.before.before in
-    let text = here.before.before.args.text.now in
-    let ends = sym c.before.is_end.ensures ∙ c.if1.true in (
+    let here = c in
+    let text = here.args.text.now in
+    let ends = sym c.is_end.ensures ∙ c.if-is_end.true in (
       search rules,
       search rules,
       search rules,
-      ap (λ (n : ℕ). n + 1) here.loop.invariant.3 ∙ sym (line_more text here.loop.i ends),
-      sym (start_more text here.loop.i ends),
+      ap (λ (n : ℕ). n + 1) here.loop-i.invariant.3 ∙ sym (line_more text here.loop-i.i ends),
+      sym (start_more text here.loop-i.i ends),
     )
 
-add-i-2 : tie.Need-overflow-add-i-2 invariant-loop decreases-loop
+add-i-2 : tie.Need-overflow_add-i-else-is_end invariant-loop decreases-loop
 add-i-2 c = search rules
 
-loop-less-2 : tie.Need-loop-smaller-2 invariant-loop decreases-loop
+loop-less-2 : tie.Need-loop-i-smaller invariant-loop decreases-loop
 loop-less-2 c = search rules
 
-loop-again-2 : tie.Need-loop-preserved-2 invariant-loop decreases-loop
+loop-again-2 : tie.Need-loop-i-preserved invariant-loop decreases-loop
 loop-again-2 c =
-    let here = c.before.before.before in
-    let text = here.before.before.args.text.now in
-    let goes_on = sym c.before.is_end.ensures ∙ c.if1.false in (
+    let here = c in
+    let text = here.args.text.now in
+    let goes_on = sym c.is_end.ensures ∙ c.if-is_end.false in (
       search rules,
       search rules,
       search rules,
-      here.loop.invariant.3 ∙ sym (line_same text here.loop.i goes_on),
-      here.loop.invariant.4 ∙ sym (start_same text here.loop.i goes_on),
+      here.loop-i.invariant.3 ∙ sym (line_same text here.loop-i.i goes_on),
+      here.loop-i.invariant.4 ∙ sym (start_same text here.loop-i.i goes_on),
     )
 
 returns : tie.Need-returns invariant-loop decreases-loop
 returns c =
-    let here = c.before in
-    let text = here.before.before.args.text.now in
-    let end : here.loop.i ≡ here.before.before.args.place = omega arith in
-    (here.loop.invariant.3 ∙ ap (line_at text) end, (here.loop.invariant.4 ∙ ap (start_at text) end, omega arith))
+    let here = c in
+    let text = here.args.text.now in
+    let end : here.loop-i.i ≡ here.args.place = omega arith in
+    (here.loop-i.invariant.3 ∙ ap (line_at text) end, (here.loop-i.invariant.4 ∙ ap (start_at text) end, omega arith))
 
 pub locate_spec : {M : Type 1} → statement M
 locate_spec =

@@ -7,31 +7,37 @@ use borrow.Author.Rules.{rules}
 use Rattle.position.proofs.line.without_return.Statement.{statement}
 use Rattle.position.proofs.line.without_return.Tie as tie
 
-sub-byte-at : tie.Need-overflow-sub-byte-at
+sub-byte-at : tie.Need-overflow_sub-end
 sub-byte-at c = search rules
 
-byte-at-requires : tie.Need-byte-at-requires
+byte-at-requires : tie.Need-byte_at-requires
 byte-at-requires c κs = search rules
 
-sub-result : tie.Need-overflow-sub-result
+sub-result : tie.Need-overflow_sub-result
 sub-result c = search rules
 
-returns : tie.Need-returns
+returns : tie.Need-returns-then-byte_at-eq-CARRIAGE_RETURN
 unfolding without_return
 returns c =
-    let read = c.before in
-    (simp (lt-ltb _ _ read.before.if1.true, ← read.byte_at.ensures, eq-eqb _ _ c.if2.true), (omega arith, omega arith))
+    let read = c in
+    (simp (lt-ltb _ _ read.if-place-end.true, ← read.byte_at.ensures, eq-eqb _ _ c.if-byte_at-eq-CARRIAGE_RETURN.true), (omega arith, omega arith))
 
-returns-2 : tie.Need-returns-2
+returns-2 : tie.Need-returns-else-byte_at-eq-CARRIAGE_RETURN
 unfolding without_return
 returns-2 c =
-    let read = c.before in
-    (simp (lt-ltb _ _ read.before.if1.true, ← read.byte_at.ensures, ne_eqb _ _ c.if2.false), (omega arith, omega arith))
+    let read = c in
+    (simp (lt-ltb _ _ read.if-place-end.true, ← read.byte_at.ensures, ne_eqb _ _ c.if-byte_at-eq-CARRIAGE_RETURN.false), (omega arith, omega arith))
 
-returns-3 : tie.Need-returns-3
+returns-3 : tie.Need-returns-else-place-end
 unfolding without_return
-returns-3 c = (simp (le-ltb _ _ c.if1.false), (omega arith, omega arith))
+returns-3 c = (simp (le-ltb _ _ c.if-place-end.false), (omega arith, omega arith))
 
 pub without_return_spec : {M : Type 1} → statement M
 without_return_spec =
-    tie.close (tie.spec sub-byte-at byte-at-requires sub-result returns returns-2 returns-3)
+    tie.close (tie.spec
+    sub-byte-at
+    byte-at-requires
+    sub-result
+    returns
+    returns-2
+    returns-3)

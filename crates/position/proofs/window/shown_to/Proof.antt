@@ -8,34 +8,41 @@ use borrow.Author.Rules.{rules}
 use Rattle.position.proofs.window.shown_to.Statement.{statement}
 use Rattle.position.proofs.window.shown_to.Tie as tie
 
-line-end-requires : tie.Need-line-end-requires
+line-end-requires : tie.Need-line_end-end-requires
 line-end-requires c κs = search rules
 
-sub-if1 : tie.Need-overflow-sub-if1
+sub-if1 : tie.Need-overflow_sub-end
 sub-if1 c = search rules
 
-returns : tie.Need-returns
+returns : tie.Need-returns-then-end-place-le-REACH
 unfolding shown_to
 returns c =
-    let found = c.before.line_end.ensures in
-    (simp (← found.0, le-leb _ _ c.if1.true), (omega arith, omega arith))
+    let found = c.line_end-end.ensures in
+    (simp (← found.0, le-leb _ _ c.if-end-place-le-REACH.true), (omega arith, omega arith))
 
-add-first-start : tie.Need-overflow-add-first-start
+add-first-start : tie.Need-overflow_add-place
 add-first-start c = search rules
 
-sub-first-start : tie.Need-overflow-sub-first-start
+sub-first-start : tie.Need-overflow_sub-place
 sub-first-start c = search rules
 
-first-start-requires : tie.Need-first-start-requires
+first-start-requires : tie.Need-first_start-requires
 first-start-requires c κs = search rules
 
-returns-2 : tie.Need-returns-2
+returns-2 : tie.Need-returns
 unfolding shown_to
 returns-2 c =
-    let found = c.before.before.line_end.ensures in
-    (c.first_start.ensures.0 ∙ simp (← found.0, lt-leb _ _ c.before.if1.false), (omega arith, omega arith))
+    let found = c.line_end-end.ensures in
+    (c.first_start.ensures.0 ∙ simp (← found.0, lt-leb _ _ c.if-end-place-le-REACH.false), (omega arith, omega arith))
 
 pub shown_to_spec : {M : Type 1} → statement M
 shown_to_spec =
     tie.close
-    (tie.spec line-end-requires sub-if1 returns add-first-start sub-first-start first-start-requires returns-2)
+    (tie.spec
+    line-end-requires
+    sub-if1
+    returns
+    add-first-start
+    sub-first-start
+    first-start-requires
+    returns-2)

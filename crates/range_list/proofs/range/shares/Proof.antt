@@ -14,25 +14,25 @@ grouped true true false s = refl
 grouped true false r s = refl
 grouped false q r s = refl
 
-is-below-requires : tie.Need-is-below-requires
+is-below-requires : tie.Need-is_below-i_right-requires
 is-below-requires c κs = search rules
 
-is-below-requires-2 : tie.Need-is-below-requires-2
+is-below-requires-2 : tie.Need-is_below-j_right-requires
 is-below-requires-2 c κs = search rules
 
-is-below-requires-3 : tie.Need-is-below-requires-3
+is-below-requires-3 : tie.Need-is_below-requires
 is-below-requires-3 c κs = search rules
 
-is-below-requires-4 : tie.Need-is-below-requires-4
+is-below-requires-4 : tie.Need-is_below-requires-2
 is-below-requires-4 c κs = search rules
 
 returns : tie.Need-returns
 unfolding shares
 returns c =
-    let third = c.before in
-    let second = third.before in
-    rw (← second.before.is_below.ensures, ← second.is-below2.ensures, ← third.is-below3.ensures, ← c.is-below4.ensures)
-    (grouped (not second.before.is_below.result) (not second.is-below2.result) (not third.is-below3.result) (not c.is-below4.result))
+    let third = c in
+    let second = third in
+    rw (← second.is_below-i_right.ensures, ← second.is_below-j_right.ensures, ← third.is_below.ensures, ← c.is_below-2.ensures)
+    (grouped (not second.is_below-i_right.result) (not second.is_below-j_right.result) (not third.is_below.result) (not c.is_below-2.result))
 
 pub shares_spec : {M : Type 1} → statement M
 shares_spec =

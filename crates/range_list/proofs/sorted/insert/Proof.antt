@@ -8,64 +8,64 @@ use borrow.Author.Rules.{rules}
 use Rattle.range_list.proofs.sorted.insert.Statement.{statement}
 use Rattle.range_list.proofs.sorted.insert.Tie as tie
 
-abbrev invariant-loop : tie.invariant-loop
+abbrev invariant-loop : tie.invariant-loop-k
 invariant-loop order₀ count at token k₀ order k = Moving order₀ count at k order
 
-abbrev decreases-loop : tie.decreases-loop
+abbrev decreases-loop : tie.decreases-loop-k
 decreases-loop order₀ count at token k₀ order k = k - at
 
-abbrev start : tie.At-loop invariant-loop decreases-loop → tie.Start invariant-loop decreases-loop
+abbrev start : tie.At-loop-k invariant-loop decreases-loop → tie.Start invariant-loop decreases-loop
 start l = l.before
 
 -- the entry that is written is inside
-inside : (t : tie.In-loop invariant-loop decreases-loop) → t.before.loop.k < length t.before.loop.order
-inside t = omega (arith, t.before.loop.invariant.inside.1, t.before.loop.invariant.long, (start t.before).pre.1)
+inside : (t : tie.In-loop-k invariant-loop decreases-loop) → t.loop-k.k < length t.loop-k.order
+inside t = omega (arith, t.loop-k.invariant.inside.1, t.loop-k.invariant.long, (start t.before).requires.1)
 
-loop-holds : tie.Need-loop-init invariant-loop decreases-loop
+loop-holds : tie.Need-loop-k-init invariant-loop decreases-loop
 loop-holds c = moving_start _ _ _ c.requires.0 c.requires.1
 
-sub_order : tie.Need-overflow-sub-order invariant-loop decreases-loop
-sub_order c = omega (arith, c.loop-test.true)
+sub_order : tie.Need-overflow_sub-order invariant-loop decreases-loop
+sub_order c = omega (arith, c.loop-k-test.true)
 
-mul-order : tie.Need-overflow-mul-order invariant-loop decreases-loop
-mul-order c = omega (arith, c.loop-test.true, c.before.loop.invariant.inside.1, (start c.before).pre.1, (start c.before).good.0.0)
+mul-order : tie.Need-offset_bounds-order-k invariant-loop decreases-loop
+mul-order c = omega (arith, c.loop-k-test.true, c.loop-k.invariant.inside.1, (start c.before).requires.1, (start c.before).well_formed.0.0)
 
-slice-read-order : tie.Need-slice-read-order invariant-loop decreases-loop
+slice-read-order : tie.Need-bounds-order-k invariant-loop decreases-loop
 slice-read-order c = omega (arith, inside c.before)
 
-mul-order-2 : tie.Need-overflow-mul-order-2 invariant-loop decreases-loop
-mul-order-2 c = omega (arith, inside c.before, (start c.before.before).good.0.0)
+mul-order-2 : tie.Need-offset_bounds-order-k-in-loop-k invariant-loop decreases-loop
+mul-order-2 c = omega (arith, inside c.before, (start c.before.before).well_formed.0.0)
 
-slice-write-order : tie.Need-slice-write-order invariant-loop decreases-loop
+slice-write-order : tie.Need-bounds-order-k-in-loop-k invariant-loop decreases-loop
 slice-write-order c = omega (arith, inside c.before)
 
-sub-k : tie.Need-overflow-sub-k invariant-loop decreases-loop
+sub-k : tie.Need-overflow_sub-k invariant-loop decreases-loop
 sub-k c = search rules
 
-loop-less : tie.Need-loop-smaller invariant-loop decreases-loop
-loop-less c = omega (arith, c.before.loop-test.true)
+loop-less : tie.Need-loop-k-smaller invariant-loop decreases-loop
+loop-less c = omega (arith, c.loop-k-test.true)
 
-loop-again : tie.Need-loop-preserved invariant-loop decreases-loop
+loop-again : tie.Need-loop-k-preserved invariant-loop decreases-loop
 loop-again c =
-    let l = c.before.before in
-    moving_next _ _ _ (start l).requires.0 (start l).requires.1 _ _ l.loop.invariant c.before.loop-test.true
+    let l = c in
+    moving_next _ _ _ (start l.before.before).requires.0 (start l.before.before).requires.1 _ _ l.loop-k.invariant c.loop-k-test.true
 
-cast-order : tie.Need-overflow-cast-order invariant-loop decreases-loop
-cast-order c = omega (arith, (start c.before).pre.2)
+cast-order : tie.Need-overflow_cast-order invariant-loop decreases-loop
+cast-order c = omega (arith, (start c.before).requires.2)
 
-mul-order-3 : tie.Need-overflow-mul-order-3 invariant-loop decreases-loop
+mul-order-3 : tie.Need-offset_bounds-order-at invariant-loop decreases-loop
 mul-order-3 c = search rules
 
-slice-write-order-2 : tie.Need-slice-write-order-2 invariant-loop decreases-loop
-slice-write-order-2 c = omega (arith, c.before.loop.invariant.long, (start c.before).pre.0, (start c.before).pre.1)
+slice-write-order-2 : tie.Need-bounds-order-at invariant-loop decreases-loop
+slice-write-order-2 c = omega (arith, c.loop-k.invariant.long, (start c.before).requires.0, (start c.before).requires.1)
 
-same_length : tie.Need-same-length invariant-loop decreases-loop
-same_length c = simp length-set c.before.loop.invariant.long
+same_length : tie.Need-shape_of-order invariant-loop decreases-loop
+same_length c = simp length-set c.loop-k.invariant.long
 
 returns : tie.Need-returns invariant-loop decreases-loop
 returns c =
-    let l = c.before in
-    (simp length-set l.loop.invariant.long, moving_end _ _ _ (start l).requires.0 (start l).requires.1 _ _ l.loop.invariant c.loop-test.false _)
+    let l = c in
+    (simp length-set l.loop-k.invariant.long, moving_end _ _ _ (start l.before).requires.0 (start l.before).requires.1 _ _ l.loop-k.invariant c.loop-k-test.false _)
 
 pub insert_spec : {M : Type 1} → statement M
 insert_spec =

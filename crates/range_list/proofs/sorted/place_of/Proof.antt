@@ -10,72 +10,72 @@ use borrow.Author.Rules.{rules}
 use Rattle.range_list.proofs.sorted.place_of.Statement.{statement}
 use Rattle.range_list.proofs.sorted.place_of.Tie as tie
 
-abbrev invariant-loop : tie.invariant-loop
+abbrev invariant-loop : tie.invariant-loop-low
 invariant-loop classes values order count token low₀ high₀ low high = Halving classes values count order token low high
 
-abbrev decreases-loop : tie.decreases-loop
+abbrev decreases-loop : tie.decreases-loop-low
 decreases-loop classes values order count token low₀ high₀ low high = high - low
 
-abbrev start : tie.At-loop invariant-loop decreases-loop → tie.Start invariant-loop decreases-loop
+abbrev start : tie.At-loop-low invariant-loop decreases-loop → tie.Start invariant-loop decreases-loop
 start l = l.before.before.before.before
 
-abbrev middle : tie.In-loop invariant-loop decreases-loop → ℕ
-middle t = t.before.loop.low + (t.before.loop.high - t.before.loop.low) / 2
+abbrev middle : tie.In-loop-low invariant-loop decreases-loop → ℕ
+middle t = t.loop-low.low + (t.loop-low.high - t.loop-low.low) / 2
 
 -- what the test says of the range in the middle
-below_is : (b : tie.After-is-below invariant-loop decreases-loop) → (let t = b.before.before.before in let s = start t.before in
-    b.is_below.result ≡ is_below s.args.classes.now s.args.values.now (range_at s.args.order.now (middle t)) s.args.token)
+below_is : (b : tie.After-is_below invariant-loop decreases-loop) → (let t = b in let s = start t.before.before.before.before in
+    b.is_below.result ≡ is_below s.args.classes.now s.args.values.now (range_at s.args.order.now (middle t.before.before.before)) s.args.token)
 below_is b =
-    let t = b.before.before.before in
-    let s = start t.before in
-    b.is_below.ensures ∙ ap (λ (i : ℕ). is_below s.args.classes.now s.args.values.now i s.args.token) b.before.wide-u16.ensures
+    let t = b in
+    let s = start t.before.before.before.before in
+    b.is_below.ensures ∙ ap (λ (i : ℕ). is_below s.args.classes.now s.args.values.now i s.args.token) b.wide_u16.ensures
 
-loop-holds : tie.Need-loop-init invariant-loop decreases-loop
+loop-holds : tie.Need-loop-low-init invariant-loop decreases-loop
 loop-holds c = halving_start _ _ _ _ _
 
-sub-middle : tie.Need-overflow-sub-middle invariant-loop decreases-loop
+sub-middle : tie.Need-overflow_sub-middle invariant-loop decreases-loop
 sub-middle c = search rules
 
-add-middle : tie.Need-overflow-add-middle invariant-loop decreases-loop
-add-middle c = omega (arith, c.loop-test.true, c.before.loop.invariant.inside.1, (start c.before).pre.1.0)
+add-middle : tie.Need-overflow_add-middle invariant-loop decreases-loop
+add-middle c = omega (arith, c.loop-low-test.true, c.loop-low.invariant.inside.1, (start c.before).requires.1.0)
 
-mul-wide-u16 : tie.Need-overflow-mul-wide-u16 invariant-loop decreases-loop
-mul-wide-u16 c = omega (arith, c.loop-test.true, c.before.loop.invariant.inside.1, (start c.before).pre.1.0)
+mul-wide-u16 : tie.Need-offset_bounds-order-middle invariant-loop decreases-loop
+mul-wide-u16 c = omega (arith, c.loop-low-test.true, c.loop-low.invariant.inside.1, (start c.before).requires.1.0)
 
-shared-slice-read-wide-u16 : tie.Need-shared-slice-read-wide-u16 invariant-loop decreases-loop
-shared-slice-read-wide-u16 c = omega (arith, c.before.loop-test.true, c.before.before.loop.invariant.inside.1, (start c.before.before).pre.1.1)
+shared-slice-read-wide-u16 : tie.Need-bounds-order-middle invariant-loop decreases-loop
+shared-slice-read-wide-u16 c = omega (arith, c.loop-low-test.true, c.loop-low.invariant.inside.1, (start c.before.before).requires.1.1)
 
-wide-u16-requires : tie.Need-wide-u16-requires invariant-loop decreases-loop
+wide-u16-requires : tie.Need-wide_u16-requires invariant-loop decreases-loop
 wide-u16-requires c κs = search rules
 
-is-below-requires : tie.Need-is-below-requires invariant-loop decreases-loop
+is-below-requires : tie.Need-is_below-requires invariant-loop decreases-loop
 is-below-requires c κs =
-    let t = c.before.before in
-    omega (arith, c.wide-u16.ensures, t.loop-test.true, (start t.before).pre.0.small (middle t) (omega (arith, t.loop-test.true, t.before.loop.invariant.inside.1)))
+    let t = c in
+    omega (arith, c.wide_u16.ensures, t.loop-low-test.true, (start t.before.before.before).requires.0.small (middle t.before.before) (omega (arith, t.loop-low-test.true, t.loop-low.invariant.inside.1)))
 
-add_low : tie.Need-overflow-add-low invariant-loop decreases-loop
-add_low c = omega (arith, c.before.before.before.before.loop-test.true, c.before.before.before.before.before.loop.invariant.inside.1, (start c.before.before.before.before.before).pre.1.0)
+add_low : tie.Need-overflow_add-low invariant-loop decreases-loop
+add_low c = omega (arith, c.loop-low-test.true, c.loop-low.invariant.inside.1, (start c.before.before.before.before.before).requires.1.0)
 
-loop-less : tie.Need-loop-smaller invariant-loop decreases-loop
-loop-less c = omega (arith, c.before.before.before.before.loop-test.true)
+loop-less : tie.Need-loop-low-smaller-then-is_below invariant-loop decreases-loop
+loop-less c = omega (arith, c.loop-low-test.true)
 
-loop-again : tie.Need-loop-preserved invariant-loop decreases-loop
+loop-again : tie.Need-loop-low-preserved-then-is_below invariant-loop decreases-loop
 loop-again c =
-    let t = c.before.before.before.before in
-    let l = t.before in
-    halving_up _ _ _ _ _ (start l).requires.0 _ _ (middle t) l.loop.invariant (omega (arith, t.loop-test.true)) (omega (arith, t.loop-test.true)) (sym (below_is c.before) ∙ c.if1.true)
+    let t = c in
+    let l = t in
+    halving_up _ _ _ _ _ (start l.before.before.before.before.before).requires.0 _ _ (middle t.before.before.before.before) l.loop-low.invariant (omega (arith, t.loop-low-test.true)) (omega (arith, t.loop-low-test.true)) (sym (below_is c.before) ∙ c.if-is_below.true)
 
-loop-less-2 : tie.Need-loop-smaller-2 invariant-loop decreases-loop
-loop-less-2 c = omega (arith, c.before.before.before.before.loop-test.true)
+loop-less-2 : tie.Need-loop-low-smaller invariant-loop decreases-loop
+loop-less-2 c = omega (arith, c.loop-low-test.true)
 
-loop-again-2 : tie.Need-loop-preserved-2 invariant-loop decreases-loop
+loop-again-2 : tie.Need-loop-low-preserved invariant-loop decreases-loop
 loop-again-2 c =
-    let t = c.before.before.before.before in
-    let l = t.before in
-    halving_down _ _ _ _ _ (start l).requires.0 _ _ (middle t) l.loop.invariant (omega (arith, t.loop-test.true)) (omega (arith, t.loop-test.true)) (sym (below_is c.before) ∙ c.if1.false)
+    let t = c in
+    let l = t in
+    halving_down _ _ _ _ _ (start l.before.before.before.before.before).requires.0 _ _ (middle t.before.before.before.before) l.loop-low.invariant (omega (arith, t.loop-low-test.true)) (omega (arith, t.loop-low-test.true)) (sym (below_is c.before) ∙ c.if-is_below.false)
 
 returns : tie.Need-returns invariant-loop decreases-loop
-returns c = halving_end _ _ _ _ _ _ _ c.before.loop.invariant c.loop-test.false
+returns c = halving_end _ _ _ _ _ _ _ c.loop-low.invariant c.loop-low-test.false
 
 pub place_of_spec : {M : Type 1} → statement M
 place_of_spec =

@@ -14,69 +14,69 @@ use borrow.Author.Rules.{rules}
 use Rattle.range_list.proofs.sorted.search_in.Statement.{statement}
 use Rattle.range_list.proofs.sorted.search_in.Tie as tie
 
-abbrev invariant-loop : tie.invariant-loop
+abbrev invariant-loop : tie.invariant-loop-token
 invariant-loop classes values order₀ from to count₀ token₀ order count token =
     Gathered classes values from token count order
     × (length order ≡ length order₀)
     × (first (is_misplaced classes values from) token to ≡ first (is_misplaced classes values from) from to)
 
-abbrev decreases-loop : tie.decreases-loop
+abbrev decreases-loop : tie.decreases-loop-token
 decreases-loop classes values order₀ from to count₀ token₀ order count token = to - token
 
-abbrev start : tie.At-loop invariant-loop decreases-loop → tie.Start invariant-loop decreases-loop
+abbrev start : tie.At-loop-token invariant-loop decreases-loop → tie.Start invariant-loop decreases-loop
 start l = l.before.before.before.before
 
-abbrev inside : tie.After-known-told invariant-loop decreases-loop → tie.In-loop invariant-loop decreases-loop
-inside c = c.before.before.before.before.before.before.before
+abbrev inside : tie.In-Among invariant-loop decreases-loop → tie.In-loop-token invariant-loop decreases-loop
+inside c = c.before.before.before.before.before
 
-loop-holds : tie.Need-loop-init invariant-loop decreases-loop
+loop-holds : tie.Need-loop-token-init invariant-loop decreases-loop
 loop-holds c = (gathered_start _ _ _ _, refl, refl)
 
-admit-requires : tie.Need-admit-requires invariant-loop decreases-loop
+admit-requires : tie.Need-admit-admission-requires invariant-loop decreases-loop
 admit-requires c κs =
-    let t = c.before in
-    let i = t.before.loop.invariant in
-    let s = start t.before in
-    (i.0, (omega (arith, t.loop-test.true, i.0.few, i.0.after, i.1, s.pre.1), omega (arith, t.loop-test.true, s.pre.0)))
+    let t = c in
+    let i = t.loop-token.invariant in
+    let s = start t.before.before in
+    (i.0, (omega (arith, t.loop-token-test.true, i.0.few, i.0.after, i.1, s.requires.1), omega (arith, t.loop-token-test.true, s.requires.0)))
 
-enum-known-admission : tie.Need-enum-known-admission invariant-loop decreases-loop
+enum-known-admission : tie.Need-enum_known-admission invariant-loop decreases-loop
 enum-known-admission c = search rules
 
-enum_told : tie.Need-enum-told invariant-loop decreases-loop
+enum_told : tie.Need-enum_told-1 invariant-loop decreases-loop
 enum_told c = search rules
 
-same_length : tie.Need-same-length invariant-loop decreases-loop
+same_length : tie.Need-shape_of-order-in_default invariant-loop decreases-loop
 same_length c =
-    let a = c.before.before.before.before in
-    a.admit.ensures.0 ∙ a.before.before.before.loop.invariant.1
+    let a = c in
+    a.admit-admission.ensures.0 ∙ a.loop-token.invariant.1
 
-returns : tie.Need-returns invariant-loop decreases-loop
+returns : tie.Need-returns-in_default invariant-loop decreases-loop
 returns c =
-    let a = c.before.before.before.before in
-    let t = a.before.before in
-    sym (first_hit _ _ _ t.loop-test.true (rw c.enum_told.given.1 at a.admit.ensures.1)) ∙ t.before.loop.invariant.2
+    let a = c in
+    let t = a in
+    sym (first_hit _ _ _ t.loop-token-test.true (rw c.in_default.is at a.admit-admission.ensures.1)) ∙ t.loop-token.invariant.2
 
-add-token : tie.Need-overflow-add-token invariant-loop decreases-loop
-add-token c = omega (arith, (inside c).loop-test.true, (start (inside c).before).pre.0)
+add-token : tie.Need-overflow_add-token invariant-loop decreases-loop
+add-token c = omega (arith, (inside c).loop-token-test.true, (start (inside c).before).requires.0)
 
-loop-less : tie.Need-loop-smaller invariant-loop decreases-loop
-loop-less c = omega (arith, (inside c).loop-test.true)
+loop-less : tie.Need-loop-token-smaller invariant-loop decreases-loop
+loop-less c = omega (arith, (inside c).loop-token-test.true)
 
-loop-again : tie.Need-loop-preserved invariant-loop decreases-loop
+loop-again : tie.Need-loop-token-preserved invariant-loop decreases-loop
 loop-again c =
-    let a = c.before.before.before.before.before in
+    let a = c in
     let t = inside c in
-    let told = rw c.before.admission.given.1 at a.admit.ensures.1 in (
+    let told = rw c.in-Among.is at a.admit-admission.ensures.1 in (
       told.1,
-      a.admit.ensures.0 ∙ t.before.loop.inv.1,
-      rw (add-one t.before.loop.token) (sym (first_miss _ _ _ t.loop-test.taken told.0) ∙ t.before.loop.inv.2),
+      a.admit-admission.ensures.0 ∙ t.loop-token.invariant.1,
+      rw (add-one t.loop-token.token) (sym (first_miss _ _ _ t.loop-token-test.true told.0) ∙ t.loop-token.invariant.2),
     )
 
-same-length-2 : tie.Need-same-length-2 invariant-loop decreases-loop
-same-length-2 c = c.before.loop.invariant.1
+same-length-2 : tie.Need-shape_of-order invariant-loop decreases-loop
+same-length-2 c = c.loop-token.invariant.1
 
-returns-2 : tie.Need-returns-2 invariant-loop decreases-loop
-returns-2 c = sym (first_none _ _ _ c.loop-test.false) ∙ c.before.loop.invariant.2
+returns-2 : tie.Need-returns invariant-loop decreases-loop
+returns-2 c = sym (first_none _ _ _ c.loop-token-test.false) ∙ c.loop-token.invariant.2
 
 pub search_in_spec : {M : Type 1} → statement M
 search_in_spec =

@@ -26,7 +26,7 @@ use Rattle.oid_tree.specs.Stage.{with_oids}
 use Rattle.records.specs.Record.{records_before, AllFit}
 use Rattle.oid_holder.specs.Holder.{held_twice}
 use Rattle.syntax_check.specs.Refusal.{rules_over}
-use Rattle.reader.specs.Reading.{numbered, classed, module-of, rules, records_of}
+use Rattle.reader.specs.Reading.{numbered, classed, module_of, rules, records_of}
 use Rattle.reader.proofs.Counting as counting
 use Rattle.reader.proofs.Derived as derived
 use Rattle.reader.proofs.Fitting as fitting
@@ -183,25 +183,25 @@ objects_judged j =
     stages.objects_judged (ms (named k)) (names_kept k) (oids_kept e) (twins_kept y.before.before) (sym (syntaxes_judged y) ∙ (syntaxes_told j).enum-told6.given.1) _
     (derived.objects_found _ _ _ _ (start (named k)).pre.0 _ _ (values_are k) (holds k).2 _ _ _ _ o.collect-oids.ensures e.enum-told2.given.1 _ u.numbers-used.ensures _ _ y.judge-syntaxes.ensures _ _ j.judge-objects.ensures)
 
-module-held : (j : tie.After-judge-objects) → definitions_in j.judge-objects.last.1.0 ≡ (module-of (ms (named_of (syntaxed j)))).definitions
-module-held j =
+module_held : (j : tie.After-judge-objects) → definitions_in j.judge-objects.last.1.0 ≡ (module_of (ms (named_of (syntaxed j)))).definitions
+module_held j =
     let y = syntaxed j in
     let u = (twinned y).before.before.before in
     let e = u.before.before in
     let o = after_oids e in
     let k = after_names o in
-    derived.module-held _ _ _ _ (start (named k)).pre.0 _ _ (values_are k) (holds k).2 _ _ _ _ o.collect-oids.ensures e.enum-told2.given.1 _ u.numbers-used.ensures _ _ y.judge-syntaxes.ensures _ _ j.judge-objects.ensures
+    derived.module_held _ _ _ _ (start (named k)).pre.0 _ _ (values_are k) (holds k).2 _ _ _ _ o.collect-oids.ensures e.enum-told2.given.1 _ u.numbers-used.ensures _ _ y.judge-syntaxes.ensures _ _ j.judge-objects.ensures
 
 -- ---- what is left
 
 records_held : (j : tie.After-judge-objects) →
     overlaid (records_before (start (named_of (syntaxed j))).args.starts.now (start (named_of (syntaxed j))).args.ends.now (definitions_in j.judge-objects.last.1.0) (length (definitions_in j.judge-objects.last.1.0))) (start (named_of (syntaxed j))).args.records.now
-    ≡ overlaid (records_of (tokens (named_of (syntaxed j))) (module-of (ms (named_of (syntaxed j))))) (start (named_of (syntaxed j))).args.records.now
+    ≡ overlaid (records_of (tokens (named_of (syntaxed j))) (module_of (ms (named_of (syntaxed j))))) (start (named_of (syntaxed j))).args.records.now
 records_held j =
     let s = start (named_of (syntaxed j)) in
-    λ i. overlaid (records_before (s.pre.0.starts_held i) (s.pre.0.ends_held i) (module-held j i) (length (module-held j i))) s.args.records.now
+    λ i. overlaid (records_before (s.pre.0.starts_held i) (s.pre.0.ends_held i) (module_held j i) (length (module_held j i))) s.args.records.now
 
-numbers_held : (j : tie.After-judge-objects) → (oided (syntaxed j)).collect-oids.last.1.1.1.0 ≡ overlaid (module-of (ms (named_of (syntaxed j)))).numbers (start (named_of (syntaxed j))).args.numbers.now
+numbers_held : (j : tie.After-judge-objects) → (oided (syntaxed j)).collect-oids.last.1.1.1.0 ≡ overlaid (module_of (ms (named_of (syntaxed j)))).numbers (start (named_of (syntaxed j))).args.numbers.now
 unfolding with_oids
 numbers_held j =
     let o = oided (syntaxed j) in
@@ -406,8 +406,8 @@ write-records-requires c κs =
     let n = named k in
     let s = start n in
     let e = (twinned y).before.before.before.before.before in (
-      omega (arith, ap length (module-held j), counting.module-counted (ms n), (holds k).1, few k, s.pre.1.0),
-      subst AllFit (sym (module-held j))
+      omega (arith, ap length (module_held j), counting.module_counted (ms n), (holds k).1, few k, s.pre.1.0),
+      subst AllFit (sym (module_held j))
           (fitting.all_fit (ms n) (λ i. subst (λ (cs : List ℕ). get_or cs i 0 < 256) (classes_are _ _ _ _ s.pre.0) (omega (arith, n.before.before.before.before.before.before.before.before.before.shared-slice-known2.given i))) (omega (arith, numbers_few e, derived.numbers_long _ _ _ _ s.pre.0 _ _ (values_are k) (holds k).2 _ _ _ _ o.collect-oids.ensures e.enum-told2.given.1))),
     )
 
@@ -423,7 +423,7 @@ returns-6 c =
     let j = e.before.before.before.before in
     let k = after_names (oided (syntaxed j)) in
     let all = sym (objects_judged j) ∙ e.enum-told8.given.1 in
-    (derived.answer_kept (tokens (named k)) _ all _ ((holds k).1 ∙ sym (counting.module-counted (ms (named k)))), derived.laid_kept (tokens (named k)) _ all _ _ _ _ (c.before.before.before.write-records.ensures.held ∙ records_held j) (numbers_held j))
+    (derived.answer_kept (tokens (named k)) _ all _ ((holds k).1 ∙ sym (counting.module_counted (ms (named k)))), derived.laid_kept (tokens (named k)) _ all _ _ _ _ (c.before.before.before.write-records.ensures.held ∙ records_held j) (numbers_held j))
 
 pub read_derived_spec : {M : Type 1} → statement M
 read_derived_spec =

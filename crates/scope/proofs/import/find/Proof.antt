@@ -15,8 +15,10 @@ find-requires c κs = search rules
 
 returns : tie.Need-returns
 returns c =
-    let a = c.before.before.args in
+    let a = c.args in
     c.find.ensures ∙ ap (λ (cs : List ℕ). find cs a.class a.a (length a.classes.now)) (take-length a.classes.now)
 
 pub find_spec : {M : Type 1} → statement M
-find_spec = tie.close (tie.spec find-requires returns)
+find_spec = tie.close (tie.spec
+    find-requires
+    returns)

@@ -9,7 +9,7 @@ use Rattle.token.specs.Cut.{meanings_in}
 use Rattle.scope.specs.Token.{classes_of}
 use Rattle.scope.specs.Import.{source}
 use Rattle.scope.proofs.Tokens.{classes_are, starts_long, ends_long, said_counted, few_classes, named_is}
-use Rattle.scope.proofs.Imports.{no_symbol_offered, module-offered, no_module_offered}
+use Rattle.scope.proofs.Imports.{no_symbol_offered, module_offered, no_module_offered}
 use Rattle.scope.proofs.import.is_offered.Statement.{statement}
 use Rattle.scope.proofs.import.is_offered.Tie as tie
 
@@ -20,38 +20,38 @@ said_by s = meanings_in s.args.text.now
 behind : (s : tie.Start) (at : ℕ) → at ≡ source s.args.classes.now s.args.i.0 → at ≡ source (classes_of (said_by s)) s.args.i.0
 behind s at is = rw (← classes_are _ _ _ _ s.requires.0) is
 
-returns : tie.Need-returns
+returns : tie.Need-returns-then-k-ge-SYMBOLS
 returns c =
-    let s = c.before.before.before.before.before in
-    no_symbol_offered (said_by s) s.args.i.0 _ s.requires.1.1 c.if1.true
+    let s = c in
+    no_symbol_offered (said_by s.before.before.before.before.before) s.args.i.0 _ s.requires.1.1 c.if-k-ge-SYMBOLS.true
 
-source-requires : tie.Need-source-requires
+source-requires : tie.Need-source-module-requires
 source-requires c κs =
-    let s = c.before.before.before.before.before in
+    let s = c in
     (few_classes _ _ _ _ s.requires.0, omega (arith, s.requires.1.0))
 
-returns-2 : tie.Need-returns-2
+returns-2 : tie.Need-returns-then-classes-module
 returns-2 c =
-    let s = c.before.before.before.before.before.before.before in
-    no_module_offered (said_by s) s.args.i.0 _ s.requires.1.1 c.before.before.if1.false
-    _ (behind s _ c.before.source.ensures) (omega (arith, c.if2.true, said_counted _ _ _ _ s.requires.0))
+    let s = c in
+    no_module_offered (said_by s.before.before.before.before.before.before.before) s.args.i.0 _ s.requires.1.1 c.if-k-ge-SYMBOLS.false
+    _ (behind s.before.before.before.before.before.before.before _ c.source-module.ensures) (omega (arith, c.if-classes-module.true, said_counted _ _ _ _ s.requires.0))
 
-name-at-requires : tie.Need-name-at-requires
+name-at-requires : tie.Need-name_at-name-requires
 name-at-requires c κs =
-    let s = c.before.before.before.before.before.before.before in
-    (c.if2.false, omega (arith, c.if2.false, starts_long _ _ _ _ s.requires.0), omega (arith, c.if2.false, ends_long _ _ _ _ s.requires.0))
+    let s = c in
+    (c.if-classes-module.false, omega (arith, c.if-classes-module.false, starts_long _ _ _ _ s.requires.0), omega (arith, c.if-classes-module.false, ends_long _ _ _ _ s.requires.0))
 
-names-source-requires : tie.Need-names-source-requires
+names-source-requires : tie.Need-names_source-requires
 names-source-requires c κs =
-    let s = c.before.before.before.before.before.before.before.before in
-    ((named_is _ _ _ _ s.requires.0 _ c.before.if2.false _ c.name_at.ensures).0, c.before.before.before.if1.false)
+    let s = c in
+    ((named_is _ _ _ _ s.requires.0 _ c.if-classes-module.false _ c.name_at-name.ensures).0, c.if-k-ge-SYMBOLS.false)
 
-returns-3 : tie.Need-returns-3
+returns-3 : tie.Need-returns
 returns-3 c =
-    let s = c.before.before.before.before.before.before.before.before.before in
-    let name = (named_is _ _ _ _ s.requires.0 _ c.before.before.if2.false _ c.before.name_at.ensures).1 in
-    module-offered (said_by s) s.args.i.0 _ s.requires.1.1 c.before.before.before.before.if1.false
-    _ (behind s _ c.before.before.before.source.ensures) _ (rw name c.names-source.ensures)
+    let s = c in
+    let name = (named_is _ _ _ _ s.requires.0 _ c.if-classes-module.false _ c.name_at-name.ensures).1 in
+    module_offered (said_by s.before.before.before.before.before.before.before.before.before) s.args.i.0 _ s.requires.1.1 c.if-k-ge-SYMBOLS.false
+    _ (behind s.before.before.before.before.before.before.before.before.before _ c.source-module.ensures) _ (rw name c.names_source.ensures)
 
 pub is_offered_spec : {M : Type 1} → statement M
 is_offered_spec =

@@ -29,43 +29,43 @@ start_of c = c.before.before.before.before.before.before.before.before.before.be
 
 -- the token that was read is the definition's name
 token_is : (c : tie.After-wide) → c.wide.result ≡ name_of (start_of c)
-token_is c = let s = start_of c in c.wide.ensures ∙ s.pre.1.0.token _ s.pre.1.1.0
+token_is c = let s = start_of c in c.wide.ensures ∙ s.requires.1.0.token _ s.requires.1.1.0
 
-mul_at : tie.Need-overflow-mul-at
+mul_at : tie.Need-overflow_mul-at
 mul_at c = search rules
 
-mul-if1 : tie.Need-overflow-mul-if1
+mul-if1 : tie.Need-offset_bounds-names-at
 mul-if1 c = search rules
 
-shared-slice-read-if1 : tie.Need-shared-slice-read-if1
+shared-slice-read-if1 : tie.Need-bounds-names-at
 shared-slice-read-if1 c = search rules
 
-returns : tie.Need-returns
+returns : tie.Need-returns-then-names-at
 returns c =
-    let s = c.before.before.before.before.before.before.before.before in
-    other_tag _ _ (λ e. c.if1.true (s.requires.1.0.tag _ s.requires.1.1.0 ∙ e ∙ sym s.requires.1.1.1.tagged))
+    let s = c in
+    other_tag _ _ (λ e. c.if-names-at.true (s.requires.1.0.tag _ s.requires.1.1.0 ∙ e ∙ sym s.requires.1.1.1.tagged))
 
-add_wide : tie.Need-overflow-add-wide
+add_wide : tie.Need-overflow_add-at
 add_wide c = search rules
 
-mul_wide : tie.Need-overflow-mul-wide
+mul_wide : tie.Need-offset_bounds-names-at-2
 mul_wide c = search rules
 
-shared-slice-read-wide : tie.Need-shared-slice-read-wide
+shared-slice-read-wide : tie.Need-bounds-names-at-2
 shared-slice-read-wide c = search rules
 
 wide-requires : tie.Need-wide-requires
 wide-requires c κs = search rules
 
-is-named-requires : tie.Need-is-named-requires
+is-named-requires : tie.Need-is_named-requires
 is-named-requires c κs =
     let s = start_of c in
-    (rw (token_is c) (placed _ _ _ _ s.pre.0 _ (inside s)), s.pre.1.1.1.within)
+    (rw (token_is c) (placed _ _ _ _ s.requires.0 _ (inside s)), s.requires.1.1.1.within)
 
-returns-2 : tie.Need-returns-2
+returns-2 : tie.Need-returns
 returns-2 c =
     let s = start_of c.before in
-    compared _ _ _ s.pre.0 _ (inside s) (named s) _ _ (rw (token_is c.before) at c.is_named.ensures)
+    compared _ _ _ s.requires.0 _ (inside s) (named s) _ _ (rw (token_is c.before) at c.is_named.ensures)
 
 pub defines_name_spec : {M : Type 1} → statement M
 defines_name_spec =

@@ -18,34 +18,39 @@ use Rattle.scope.proofs.lookup.find_definition.Tie as tie
 all : (s : tie.Start) → length s.args.names.now / name_words ≡ length (definitions (classes_of (meanings_in s.args.text.now)))
 all s = omega (arith, s.requires.1.0.counted)
 
-abbrev start_of : tie.After-end-near → tie.Start
+abbrev start_of : tie.After-end_near-to → tie.Start
 start_of c = c.before.before.before.before.before.before.before.before
 
-end-near-requires : tie.Need-end-near-requires
+end-near-requires : tie.Need-end_near-to-requires
 end-near-requires c κs = search rules
 
-search-in-requires : tie.Need-search-in-requires
+search-in-requires : tie.Need-search_in-k-requires
 search-in-requires c κs =
     let s = start_of c in
-    (s.pre.0, (s.pre.1.0, (s.pre.1.1.1, (c.end-near.ensures.0, omega (arith, c.end-near.ensures.1, all s)))))
+    (s.requires.0, (s.requires.1.0, (s.requires.1.1.1, (c.end_near-to.ensures.0, omega (arith, c.end_near-to.ensures.1, all s)))))
 
-returns : tie.Need-returns
+returns : tie.Need-returns-then-k-to
 returns c =
-    let k = c.before.before in
-    let e = k.before in
-    let s = start_of e in
-    only_defined (meanings_in s.args.text.now) s.pre.1.1.0 _ _ _ _ k.search-in.ensures c.if2.true e.end-near.ensures.0
-    (omega (arith, e.end-near.ensures.1, all s))
+    let k = c in
+    let e = k in
+    let s = start_of e.before.before.before in
+    only_defined (meanings_in s.args.text.now) s.requires.1.1.0 _ _ _ _ k.search_in-k.ensures c.if-k-to.true e.end_near-to.ensures.0
+    (omega (arith, e.end_near-to.ensures.1, all s))
 
-search-in-requires-2 : tie.Need-search-in-requires-2
+search-in-requires-2 : tie.Need-search_in-requires
 search-in-requires-2 c κs =
-    let s = c.before.before.before.before.before.before.before in
-    (s.requires.0, (s.requires.1.0, (s.requires.1.1.1, (omega arith, omega (arith, all s)))))
+    let s = c in
+    (s.requires.0, (s.requires.1.0, (s.requires.1.1.1, (omega arith, omega (arith, all s.before.before.before.before.before.before.before)))))
 
-returns-2 : tie.Need-returns-2
-returns-2 c = c.search-in2.ensures ∙ ap (first _ 0) (all c.before.before.before.before.before.before.before.before)
+returns-2 : tie.Need-returns
+returns-2 c = c.search_in.ensures ∙ ap (first _ 0) (all c.before.before.before.before.before.before.before.before)
 
 pub find_definition_spec : {M : Type 1} → statement M
 find_definition_spec =
     tie.close
-    (tie.spec end-near-requires search-in-requires returns search-in-requires-2 returns-2)
+    (tie.spec
+    end-near-requires
+    search-in-requires
+    returns
+    search-in-requires-2
+    returns-2)

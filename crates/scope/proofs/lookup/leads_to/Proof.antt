@@ -18,44 +18,44 @@ use Rattle.scope.proofs.lookup.leads_to.Tie as tie
 all : (s : tie.Start) → length s.args.names.now / name_words ≡ length (definitions (classes_of (meanings_in s.args.text.now)))
 all s = omega (arith, s.requires.0.definitions.counted)
 
-abbrev start_of : tie.After-find-import → tie.Start
+abbrev start_of : tie.After-find_import-word → tie.Start
 start_of f = f.before.before.before.before.before.before.before.before.before
 
-names-iso-requires : tie.Need-names-iso-requires
+names-iso-requires : tie.Need-names_iso-requires
 names-iso-requires c κs = search rules
 
-returns : tie.Need-returns
+returns : tie.Need-returns-then-names_iso
 unfolding leads_to
-returns c = simp (sym c.before.names-iso.ensures ∙ c.if1.true)
+returns c = simp (sym c.names_iso.ensures ∙ c.if-names_iso.true)
 
-find-import-requires : tie.Need-find-import-requires
+find-import-requires : tie.Need-find_import-word-requires
 find-import-requires c κs = search rules
 
-lead-in-requires : tie.Need-lead-in-requires
+lead-in-requires : tie.Need-lead_in-requires
 lead-in-requires c κs = search rules
 
-returns-2 : tie.Need-returns-2
+returns-2 : tie.Need-returns-then-word-ne0
 returns-2 c =
-    let f = c.before.before in
-    let s = start_of f in
-    c.lead_in.ensures ∙ lead_import (meanings_in s.args.text.now) _ (sym f.before.before.names-iso.ensures ∙ f.before.if1.false) _ f.find-import.ensures s.pre.0.imports.offers c.before.if2.true
+    let f = c in
+    let s = start_of f.before.before in
+    c.lead_in.ensures ∙ lead_import (meanings_in s.args.text.now) _ (sym f.names_iso.ensures ∙ f.if-names_iso.false) _ f.find_import-word.ensures s.requires.0.imports.offers c.if-word-ne0.true
 
-find-definition-requires : tie.Need-find-definition-requires
+find-definition-requires : tie.Need-find_definition-d-requires
 find-definition-requires c κs = search rules
 
-returns-3 : tie.Need-returns-3
+returns-3 : tie.Need-returns-then-d-names
 returns-3 c =
-    let f = c.before.before.before.before in
-    let s = start_of f in
-    lead_definition (meanings_in s.args.text.now) _ (sym f.before.before.names-iso.ensures ∙ f.before.if1.false) _ f.find-import.ensures c.before.before.before.if2.false
-    _ c.before.before.find-definition.ensures (omega (arith, c.if3.true, all s))
+    let f = c in
+    let s = start_of f.before.before.before.before in
+    lead_definition (meanings_in s.args.text.now) _ (sym f.names_iso.ensures ∙ f.if-names_iso.false) _ f.find_import-word.ensures c.if-word-ne0.false
+    _ c.find_definition-d.ensures (omega (arith, c.if-d-names.true, all s))
 
-returns-4 : tie.Need-returns-4
+returns-4 : tie.Need-returns
 returns-4 c =
-    let f = c.before.before.before.before in
-    let s = start_of f in
-    lead_nothing (meanings_in s.args.text.now) _ (sym f.before.before.names-iso.ensures ∙ f.before.if1.false) _ f.find-import.ensures c.before.before.before.if2.false
-    _ c.before.before.find-definition.ensures (omega (arith, c.if3.false, all s))
+    let f = c in
+    let s = start_of f.before.before.before.before in
+    lead_nothing (meanings_in s.args.text.now) _ (sym f.names_iso.ensures ∙ f.if-names_iso.false) _ f.find_import-word.ensures c.if-word-ne0.false
+    _ c.find_definition-d.ensures (omega (arith, c.if-d-names.false, all s))
 
 pub leads_to_spec : {M : Type 1} → statement M
 leads_to_spec =

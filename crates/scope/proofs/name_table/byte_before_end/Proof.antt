@@ -5,26 +5,26 @@ use borrow.Author.Rules.{rules}
 use Rattle.scope.proofs.name_table.byte_before_end.Statement.{statement}
 use Rattle.scope.proofs.name_table.byte_before_end.Tie as tie
 
-returns : tie.Need-returns
-returns c = no_byte _ _ _ _ c.before.requires.0 c.if1.true
+returns : tie.Need-returns-then-start-end
+returns c = no_byte _ _ _ _ c.requires.0 c.if-start-end.true
 
-sub-if2 : tie.Need-overflow-sub-if2
+sub-if2 : tie.Need-overflow_sub-end
 sub-if2 c = search rules
 
-shared-slice-read-result : tie.Need-shared-slice-read-result
+shared-slice-read-result : tie.Need-bounds-text-start
 shared-slice-read-result c = search rules
 
-returns-2 : tie.Need-returns-2
-returns-2 c = let s = c.before.before.before in first_byte _ _ _ _ s.requires.0 c.before.before.if1.false c.before.if2.true
+returns-2 : tie.Need-returns-then-end-start
+returns-2 c = let s = c in first_byte _ _ _ _ s.requires.0 c.if-start-end.false c.if-end-start.true
 
-sub-result : tie.Need-overflow-sub-result
+sub-result : tie.Need-overflow_sub-result
 sub-result c = search rules
 
-shared-slice-read-result-2 : tie.Need-shared-slice-read-result-2
+shared-slice-read-result-2 : tie.Need-bounds-text-end
 shared-slice-read-result-2 c = search rules
 
-returns-3 : tie.Need-returns-3
-returns-3 c = let s = c.before.before.before in byte_back _ _ _ _ s.requires.0 c.before.before.if1.false s.requires.1 c.before.if2.false
+returns-3 : tie.Need-returns
+returns-3 c = let s = c in byte_back _ _ _ _ s.requires.0 c.if-start-end.false s.requires.1 c.if-end-start.false
 
 pub byte_before_end_spec : {M : Type 1} → statement M
 byte_before_end_spec =

@@ -9,19 +9,23 @@ use borrow.Author.Rules.{rules}
 use Rattle.sequence_list.proofs.listed.row_type.Statement.{statement}
 use Rattle.sequence_list.proofs.listed.row_type.Tie as tie
 
-numbered-requires : tie.Need-numbered-requires
+numbered-requires : tie.Need-numbered-d-requires
 numbered-requires c κs = search rules
 
-numbered-requires-2 : tie.Need-numbered-requires-2
+numbered-requires-2 : tie.Need-numbered-requires
 numbered-requires-2 c κs = search rules
 
-type-of-requires : tie.Need-type-of-requires
+type-of-requires : tie.Need-type_of-requires
 type-of-requires c κs = search rules
 
 returns : tie.Need-returns
 returns c =
-    let s = c.before.before.before.before in
-    c.type_of.ensures ∙ ap type_of (c.before.numbered2.ensures ∙ ap (λ (d : Definition). numbered (definitions_in s.args.definitions.now) d.parent) c.before.before.numbered.ensures)
+    let s = c in
+    c.type_of.ensures ∙ ap type_of (c.numbered.ensures ∙ ap (λ (d : Definition). numbered (definitions_in s.args.definitions.now) d.parent) c.numbered-d.ensures)
 
 pub row_type_spec : {M : Type 1} → statement M
-row_type_spec = tie.close (tie.spec numbered-requires numbered-requires-2 type-of-requires returns)
+row_type_spec = tie.close (tie.spec
+    numbered-requires
+    numbered-requires-2
+    type-of-requires
+    returns)

@@ -6,11 +6,13 @@ use borrow.Author.Rules.{rules}
 use Rattle.sequence_list.proofs.name.columns_of.Statement.{statement}
 use Rattle.sequence_list.proofs.name.columns_of.Tie as tie
 
-numbered-requires : tie.Need-numbered-requires
+numbered-requires : tie.Need-numbered-d-requires
 numbered-requires c κs = search rules
 
 returns : tie.Need-returns
-returns c = ap (λ (d : Definition). d.columns) c.before.numbered.ensures
+returns c = ap (λ (d : Definition). d.columns) c.numbered-d.ensures
 
 pub columns_of_spec : {M : Type 1} → statement M
-columns_of_spec = tie.close (tie.spec numbered-requires returns)
+columns_of_spec = tie.close (tie.spec
+    numbered-requires
+    returns)

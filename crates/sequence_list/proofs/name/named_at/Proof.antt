@@ -9,32 +9,37 @@ use Rattle.sequence_list.proofs.name.named_at.Statement.{statement}
 use Rattle.sequence_list.proofs.name.named_at.Tie as tie
 
 -- what was asked of the definition that the token leads to
-asked : (h : tie.After-is-object) → (let s = h.before.before.before.before.before in h.is_object.result ≡ is_object (numbered (definitions_in s.args.definitions.now) (number_at s.args.values.now s.args.i.0)))
+asked : (h : tie.After-is_object) → (let s = h in h.is_object.result ≡ is_object (numbered (definitions_in s.args.definitions.now) (number_at s.args.values.now s.args.i.0)))
 asked h =
-    let s = h.before.before.before.before.before in
-    h.is_object.ensures ∙ ap is_object (h.before.numbered.ensures ∙ ap (numbered (definitions_in s.args.definitions.now)) h.before.before.number_at.ensures)
+    let s = h in
+    h.is_object.ensures ∙ ap is_object (h.numbered.ensures ∙ ap (numbered (definitions_in s.args.definitions.now)) h.number_at-number.ensures)
 
-number-at-requires : tie.Need-number-at-requires
+number-at-requires : tie.Need-number_at-number-requires
 number-at-requires c κs = search rules
 
 numbered-requires : tie.Need-numbered-requires
 numbered-requires c κs = search rules
 
-is-object-requires : tie.Need-is-object-requires
+is-object-requires : tie.Need-is_object-requires
 is-object-requires c κs = search rules
 
-returns : tie.Need-returns
+returns : tie.Need-returns-then-is_object
 unfolding named_at
 returns c =
-    let held = sym (asked c.before) ∙ c.if1.true in
-    rw held c.before.before.before.number_at.ensures
+    let held = sym (asked c.before) ∙ c.if-is_object.true in
+    rw held c.number_at-number.ensures
 
-returns-2 : tie.Need-returns-2
+returns-2 : tie.Need-returns
 unfolding named_at
 returns-2 c =
-    let failed = sym (asked c.before) ∙ c.if1.false in
+    let failed = sym (asked c.before) ∙ c.if-is_object.false in
     rw failed
 
 pub named_at_spec : {M : Type 1} → statement M
 named_at_spec =
-    tie.close (tie.spec number-at-requires numbered-requires is-object-requires returns returns-2)
+    tie.close (tie.spec
+    number-at-requires
+    numbered-requires
+    is-object-requires
+    returns
+    returns-2)

@@ -12,19 +12,22 @@ use borrow.Author.Rules.{rules}
 use Rattle.sequence_list.proofs.verdict.is_stranger.Statement.{statement}
 use Rattle.sequence_list.proofs.verdict.is_stranger.Tie as tie
 
-named-at-requires : tie.Need-named-at-requires
+named-at-requires : tie.Need-named_at-named-requires
 named-at-requires c κs = search rules
 
-numbered-requires : tie.Need-numbered-requires
+numbered-requires : tie.Need-numbered-d-requires
 numbered-requires c κs = search rules
 
 returns : tie.Need-returns
 unfolding is_stranger
 returns c =
-    let s = c.before.before.before.before.before in
-    let n = c.before.before.named_at.result in
-    ap (λ (d : Definition). not (eqb n 0) && not (eqb d.parent s.args.parent)) c.before.numbered.ensures
-    ∙ ap (λ (x : ℕ). not (eqb x 0) && not (eqb (numbered (definitions_in s.args.definitions.now) x).parent s.args.parent)) c.before.before.named_at.ensures
+    let s = c in
+    let n = c.named_at-named.result in
+    ap (λ (d : Definition). not (eqb n 0) && not (eqb d.parent s.args.parent)) c.numbered-d.ensures
+    ∙ ap (λ (x : ℕ). not (eqb x 0) && not (eqb (numbered (definitions_in s.args.definitions.now) x).parent s.args.parent)) c.named_at-named.ensures
 
 pub is_stranger_spec : {M : Type 1} → statement M
-is_stranger_spec = tie.close (tie.spec named-at-requires numbered-requires returns)
+is_stranger_spec = tie.close (tie.spec
+    named-at-requires
+    numbered-requires
+    returns)

@@ -13,73 +13,73 @@ use Rattle.sequence_list.specs.Named.{is_repeated}
 use Rattle.sequence_list.proofs.verdict.search_repeated.Statement.{statement}
 use Rattle.sequence_list.proofs.verdict.search_repeated.Tie as tie
 
-abbrev invariant-loop : tie.invariant-loop
+abbrev invariant-loop : tie.invariant-loop-i
 invariant-loop values definitions number marks₀ stamp to i₀ marks i = Marking (definitions_in definitions) values i₀ to stamp marks i
 
-abbrev decreases-loop : tie.decreases-loop
+abbrev decreases-loop : tie.decreases-loop-i
 decreases-loop values definitions number marks₀ stamp to i₀ marks i = to - i
 
-columns-of-requires : tie.Need-columns-of-requires invariant-loop decreases-loop
+columns-of-requires : tie.Need-columns_of-list-requires invariant-loop decreases-loop
 columns-of-requires c κs = search rules
 
-add-stamp : tie.Need-overflow-add-stamp invariant-loop decreases-loop
+add-stamp : tie.Need-overflow_add-stamp invariant-loop decreases-loop
 add-stamp c = search rules
 
-loop-holds : tie.Need-loop-init invariant-loop decreases-loop
-loop-holds c = marking_start _ _ _ _ _ _ c.before.before.before.requires.0
+loop-holds : tie.Need-loop-i-init invariant-loop decreases-loop
+loop-holds c = marking_start _ _ _ _ _ _ c.requires.0
 
-named-at-requires : tie.Need-named-at-requires invariant-loop decreases-loop
+named-at-requires : tie.Need-named_at-requires invariant-loop decreases-loop
 named-at-requires c κs = search rules
 
 mark-requires : tie.Need-mark-requires invariant-loop decreases-loop
 mark-requires c κs =
-    let t = c.before.before in
-    let l = t.before in
-    let s = l.before.before.before.before in
-    (l.loop.invariant.long, omega (arith, c.named_at.ensures, named_few (definitions_in s.args.definitions.now) s.args.values.now l.loop.i))
+    let t = c in
+    let l = t in
+    let s = l in
+    (l.loop-i.invariant.long, omega (arith, c.named_at.ensures, named_few (definitions_in s.args.definitions.now) s.args.values.now l.loop-i.i))
 
-returns : tie.Need-returns invariant-loop decreases-loop
+returns : tie.Need-returns-then-mark invariant-loop decreases-loop
 returns c =
-    let m = c.before in
-    let n = m.before in
-    let t = n.before.before in
-    let l = t.before in
-    let s = l.before.before.before.before in
+    let m = c in
+    let n = m in
+    let t = n in
+    let l = t in
+    let s = l in
     let ds = definitions_in s.args.definitions.now in
     record {
       is =
-          first_asked _ _ _ _ l.loop.invariant.passed t.loop-test.true (sym (marking_asked _ _ _ _ _ _ _ l.loop.invariant _ n.named_at.ensures _ _ m.mark.ensures) ∙ c.if1.true)
-          ∙ ap (λ (a : Span). first (is_repeated ds s.args.values.now a.from) a.from a.to) l.before.columns_of.ensures;
+          first_asked _ _ _ _ l.loop-i.invariant.passed t.loop-i-test.true (sym (marking_asked _ _ _ _ _ _ _ l.loop-i.invariant _ n.named_at.ensures _ _ m.mark.ensures) ∙ c.if-mark.true)
+          ∙ ap (λ (a : Span). first (is_repeated ds s.args.values.now a.from) a.from a.to) l.columns_of-list.ensures;
       stamped = record {
-        long = marking_long _ _ _ _ _ _ _ l.loop.invariant _ n.named_at.ensures _ _ m.mark.ensures;
-        below = marking_below _ _ _ _ _ _ _ l.loop.invariant _ n.named_at.ensures _ _ m.mark.ensures;
+        long = marking_long _ _ _ _ _ _ _ l.loop-i.invariant _ n.named_at.ensures _ _ m.mark.ensures;
+        below = marking_below _ _ _ _ _ _ _ l.loop-i.invariant _ n.named_at.ensures _ _ m.mark.ensures;
       };
     }
 
-add-i : tie.Need-overflow-add-i invariant-loop decreases-loop
+add-i : tie.Need-overflow_add-i invariant-loop decreases-loop
 add-i c = search rules
 
-loop-less : tie.Need-loop-smaller invariant-loop decreases-loop
+loop-less : tie.Need-loop-i-smaller invariant-loop decreases-loop
 loop-less c = search rules
 
-loop-again : tie.Need-loop-preserved invariant-loop decreases-loop
+loop-again : tie.Need-loop-i-preserved invariant-loop decreases-loop
 loop-again c =
-    let m = c.before in
-    let n = m.before in
-    let t = n.before.before in
-    let l = t.before in
-    marking_next _ _ _ _ _ _ _ l.loop.invariant _ n.named_at.ensures _ _ m.mark.ensures t.loop-test.true c.if1.false
+    let m = c in
+    let n = m in
+    let t = n in
+    let l = t in
+    marking_next _ _ _ _ _ _ _ l.loop-i.invariant _ n.named_at.ensures _ _ m.mark.ensures t.loop-i-test.true c.if-mark.false
 
-returns-2 : tie.Need-returns-2 invariant-loop decreases-loop
+returns-2 : tie.Need-returns invariant-loop decreases-loop
 returns-2 c =
-    let l = c.before in
-    let s = l.before.before.before.before in
+    let l = c in
+    let s = l in
     let ds = definitions_in s.args.definitions.now in
     record {
       is =
-          none_asked _ _ _ _ l.loop.invariant.passed c.loop-test.false
-          ∙ ap (λ (a : Span). first (is_repeated ds s.args.values.now a.from) a.from a.to) l.before.columns_of.ensures;
-      stamped = record { long = l.loop.invariant.long; below = l.loop.invariant.below };
+          none_asked _ _ _ _ l.loop-i.invariant.passed c.loop-i-test.false
+          ∙ ap (λ (a : Span). first (is_repeated ds s.args.values.now a.from) a.from a.to) l.columns_of-list.ensures;
+      stamped = record { long = l.loop-i.invariant.long; below = l.loop-i.invariant.below };
     }
 
 pub search_repeated_spec : {M : Type 1} → statement M

@@ -6,14 +6,17 @@ use borrow.Author.Rules.{rules}
 use Rattle.sub_type.proofs.number.class_at.Statement.{statement}
 use Rattle.sub_type.proofs.number.class_at.Tie as tie
 
-shared-slice-read-result : tie.Need-shared-slice-read-result
+shared-slice-read-result : tie.Need-bounds-classes-i
 shared-slice-read-result c = search rules
 
-returns : tie.Need-returns
+returns : tie.Need-returns-then-i-classes
 returns c = search rules
 
-returns-2 : tie.Need-returns-2
-returns-2 c = rw (get_or-eq_default {A = ℕ} _ 0 c.if1.false)
+returns-2 : tie.Need-returns
+returns-2 c = rw (get_or-eq_default {A = ℕ} _ 0 c.if-i-classes.false)
 
 pub class_at_spec : {M : Type 1} → statement M
-class_at_spec = tie.close (tie.spec shared-slice-read-result returns returns-2)
+class_at_spec = tie.close (tie.spec
+    shared-slice-read-result
+    returns
+    returns-2)

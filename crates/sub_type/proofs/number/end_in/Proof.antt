@@ -4,11 +4,13 @@ use borrow.Author.Tests.{lt-ltb, le-ltb}
 use Rattle.sub_type.proofs.number.end_in.Statement.{statement}
 use Rattle.sub_type.proofs.number.end_in.Tie as tie
 
-returns : tie.Need-returns
-returns c = simp (lt-ltb _ _ c.if1.true)
+returns : tie.Need-returns-then-to-classes
+returns c = simp (lt-ltb _ _ c.if-to-classes.true)
 
-returns-2 : tie.Need-returns-2
-returns-2 c = simp (le-ltb _ _ c.if1.false)
+returns-2 : tie.Need-returns
+returns-2 c = simp (le-ltb _ _ c.if-to-classes.false)
 
 pub end_in_spec : {M : Type 1} → statement M
-end_in_spec = tie.close (tie.spec returns returns-2)
+end_in_spec = tie.close (tie.spec
+    returns
+    returns-2)

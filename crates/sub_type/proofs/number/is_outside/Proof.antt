@@ -5,38 +5,38 @@ use borrow.Author.Rules.{rules}
 use Rattle.sub_type.proofs.number.is_outside.Statement.{statement}
 use Rattle.sub_type.proofs.number.is_outside.Tie as tie
 
-number-at-requires : tie.Need-number-at-requires
+number-at-requires : tie.Need-number_at-value-requires
 number-at-requires c κs = search rules
 
-enum_told : tie.Need-enum-told
+enum_told : tie.Need-enum_told-1
 enum_told c = search rules
 
-enum-told-2 : tie.Need-enum-told-2
+enum-told-2 : tie.Need-enum_told-in-Integer
 enum-told-2 c = search rules
 
-enum-told-3 : tie.Need-enum-told-3
+enum-told-3 : tie.Need-enum_told-in-Unsigned
 enum-told-3 c = search rules
 
-enum-told-4 : tie.Need-enum-told-4
+enum-told-4 : tie.Need-enum_told-in-Sizes
 enum-told-4 c = search rules
 
-returns : tie.Need-returns
+returns : tie.Need-returns-in-Nothing
 returns c = search rules
 
-returns-2 : tie.Need-returns-2
+returns-2 : tie.Need-returns-in-Integer
 returns-2 c =
-    let number = c.before.before in
-    rw (c.enum-told2.given.1, passed_on number.number_at.type-inv, ← number.number_at.ensures)
+    let number = c in
+    rw (c.in-Integer.is, passed_on number.number_at-value.type_inv, ← number.number_at-value.ensures)
 
-returns-3 : tie.Need-returns-3
+returns-3 : tie.Need-returns-in-Unsigned
 returns-3 c =
-    let number = c.before.before in
-    rw (c.enum-told3.given.1, passed_on number.number_at.type-inv, ← number.number_at.ensures)
+    let number = c in
+    rw (c.in-Unsigned.is, passed_on number.number_at-value.type_inv, ← number.number_at-value.ensures)
 
-returns-4 : tie.Need-returns-4
+returns-4 : tie.Need-returns-in-Sizes
 returns-4 c =
-    let number = c.before.before in
-    rw (c.enum-told4.given.1, passed_on number.number_at.type-inv, ← number.number_at.ensures)
+    let number = c in
+    rw (c.in-Sizes.is, passed_on number.number_at-value.type_inv, ← number.number_at-value.ensures)
 
 pub is_outside_spec : {M : Type 1} → statement M
 is_outside_spec =

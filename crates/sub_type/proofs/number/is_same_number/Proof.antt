@@ -5,16 +5,19 @@ use borrow.Author.Rules.{rules}
 use Rattle.sub_type.proofs.number.is_same_number.Statement.{statement}
 use Rattle.sub_type.proofs.number.is_same_number.Tie as tie
 
-number-at-requires : tie.Need-number-at-requires
+number-at-requires : tie.Need-number_at-a-requires
 number-at-requires c κs = search rules
 
-number-at-requires-2 : tie.Need-number-at-requires-2
+number-at-requires-2 : tie.Need-number_at-b-requires
 number-at-requires-2 c κs = search rules
 
 returns : tie.Need-returns
 returns c =
-    rw (passed_on c.before.number_at.type-inv, passed_on c.number-at2.type-inv, ← c.before.number_at.ensures, ← c.number-at2.ensures)
-    (same_neither c.before.number_at.result c.number-at2.result)
+    rw (passed_on c.number_at-a.type_inv, passed_on c.number_at-b.type_inv, ← c.number_at-a.ensures, ← c.number_at-b.ensures)
+    (same_neither c.number_at-a.result c.number_at-b.result)
 
 pub is_same_number_spec : {M : Type 1} → statement M
-is_same_number_spec = tie.close (tie.spec number-at-requires number-at-requires-2 returns)
+is_same_number_spec = tie.close (tie.spec
+    number-at-requires
+    number-at-requires-2
+    returns)

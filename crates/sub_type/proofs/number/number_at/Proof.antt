@@ -14,36 +14,42 @@ use Rattle.sub_type.proofs.number.number_at.Statement.{statement}
 use Rattle.sub_type.proofs.number.number_at.Tie as tie
 
 -- the magnitude has 32 bits
-small : (c : tie.After-word-at) → c.word_at.result < 4294967296
-small c = omega (arith, c.word_at.type-inv)
+small : (c : tie.After-word_at-magnitude) → c.word_at-magnitude.result < 4294967296
+small c = omega (arith, c.word_at-magnitude.type_inv)
 
-word-at-requires : tie.Need-word-at-requires
+word-at-requires : tie.Need-word_at-magnitude-requires
 word-at-requires c κs = search rules
 
-cast-magnitude : tie.Need-overflow-cast-magnitude
+cast-magnitude : tie.Need-overflow_cast-magnitude
 cast-magnitude c = search rules
 
-class-at-requires : tie.Need-class-at-requires
+class-at-requires : tie.Need-class_at-requires
 class-at-requires c κs = search rules
 
-sub-result : tie.Need-overflow-sub-result
+sub-result : tie.Need-overflow_sub-result
 sub-result c =
-    let word = c.before.before in
-    subst (SFits w64) (sym (negated word.word_at.result (small word))) (negated_fits word.word_at.result (small word))
+    let word = c in
+    subst (SFits w64) (sym (negated word.word_at-magnitude.result (small word.before.before))) (negated_fits word.word_at-magnitude.result (small word.before.before))
 
-returns : tie.Need-returns
+returns : tie.Need-returns-then-class_at-eq-NEGATIVE
 returns c =
-    let word = c.before.before in
-    rw (← c.before.class_at.ensures, ← word.word_at.ensures)
-    (simp (eq-eqb _ _ c.if1.true) (to_z-of_z (sub-result c) ∙ negated word.word_at.result (small word)))
+    let word = c in
+    rw (← c.class_at.ensures, ← word.word_at-magnitude.ensures)
+    (simp (eq-eqb _ _ c.if-class_at-eq-NEGATIVE.true) (to_z-of_z {w = w64} (sub-result c) ∙ negated word.word_at-magnitude.result (small word.before.before)))
 
-returns-2 : tie.Need-returns-2
+returns-2 : tie.Need-returns
 returns-2 c =
-    let word = c.before.before in
-    rw (← c.before.class_at.ensures, ← word.word_at.ensures)
-    (simp (ne_eqb _ _ c.if1.false) (widened word.word_at.result (small word)))
+    let word = c in
+    rw (← c.class_at.ensures, ← word.word_at-magnitude.ensures)
+    (simp (ne_eqb _ _ c.if-class_at-eq-NEGATIVE.false) (widened word.word_at-magnitude.result (small word.before.before)))
 
 pub number_at_spec : {M : Type 1} → statement M
 number_at_spec =
     tie.close
-    (tie.spec word-at-requires cast-magnitude class-at-requires sub-result returns returns-2)
+    (tie.spec
+    word-at-requires
+    cast-magnitude
+    class-at-requires
+    sub-result
+    returns
+    returns-2)

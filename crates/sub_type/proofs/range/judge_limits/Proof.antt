@@ -29,56 +29,56 @@ rule_to cs vs limits from to = record {
   other = λ i. i;
 }
 
-abbrev invariant-loop : tie.invariant-loop
+abbrev invariant-loop : tie.invariant-loop-i
 invariant-loop classes values limits to i₀ i = Judging (rule_to classes values limits i₀ to) to i × (to ≤ 65536)
 
-abbrev decreases-loop : tie.decreases-loop
+abbrev decreases-loop : tie.decreases-loop-i
 decreases-loop classes values limits to i₀ i = to - i
 
-end-in-requires : tie.Need-end-in-requires invariant-loop decreases-loop
+end-in-requires : tie.Need-end_in-to-requires invariant-loop decreases-loop
 end-in-requires c κs = search rules
 
-loop-holds : tie.Need-loop-init invariant-loop decreases-loop
+loop-holds : tie.Need-loop-i-init invariant-loop decreases-loop
 loop-holds c =
-    let s = c.before.before.before in
-    (judging_start _ refl refl, omega (arith, c.end_in.ensures, end_inside s.args.classes.now s.args.span, s.requires))
+    let s = c in
+    (judging_start _ refl refl, omega (arith, c.end_in-to.ensures, end_inside s.args.classes.now s.args.span, s.requires))
 
-limit-clause-requires : tie.Need-limit-clause-requires invariant-loop decreases-loop
-limit-clause-requires c κs = omega (arith, c.before.loop.invariant.1)
+limit-clause-requires : tie.Need-limit_clause-clause-requires invariant-loop decreases-loop
+limit-clause-requires c κs = omega (arith, c.loop-i.invariant.1)
 
-returns : tie.Need-returns invariant-loop decreases-loop
+returns : tie.Need-returns-then-clause-gt0 invariant-loop decreases-loop
 unfolding limit_rule
 returns c =
-    let clause = c.before in
-    let l = clause.before.before in
-    let s = l.before.before.before.before in
+    let clause = c in
+    let l = clause in
+    let s = l in
     let r = rule_to s.args.classes.now s.args.values.now s.args.limits s.args.span.from in
-    let found : record { number = 17; clause = clause.limit_clause.result; token = record { 0 = l.loop.i }; other = record { 0 = l.loop.i } } ≡ finding (r l.before.end_in.result) l.loop.i =
-    rw clause.limit_clause.ensures in
-    judging_broken l.loop.invariant.0 clause.before.loop-test.true refl (rw (← clause.limit_clause.ensures) (lt-ltb _ _ c.if1.true)) _ found
-    ∙ ap (λ (to : ℕ). judge_one (r to)) l.before.end_in.ensures
+    let found : record { number = 17; clause = clause.limit_clause-clause.result; token = record { 0 = l.loop-i.i }; other = record { 0 = l.loop-i.i } } ≡ finding (r l.end_in-to.result) l.loop-i.i =
+    rw clause.limit_clause-clause.ensures in
+    judging_broken l.loop-i.invariant.0 clause.loop-i-test.true refl (rw (← clause.limit_clause-clause.ensures) (lt-ltb _ _ c.if-clause-gt0.true)) _ found
+    ∙ ap (λ (to : ℕ). judge_one (r to)) l.end_in-to.ensures
 
-add-i : tie.Need-overflow-add-i invariant-loop decreases-loop
+add-i : tie.Need-overflow_add-i invariant-loop decreases-loop
 add-i c = search rules
 
-loop-less : tie.Need-loop-smaller invariant-loop decreases-loop
+loop-less : tie.Need-loop-i-smaller invariant-loop decreases-loop
 loop-less c = search rules
 
-loop-again : tie.Need-loop-preserved invariant-loop decreases-loop
+loop-again : tie.Need-loop-i-preserved invariant-loop decreases-loop
 loop-again c =
-    let clause = c.before in
-    let l = clause.before.before in (
-      judging_next l.loop.invariant.0 clause.before.loop-test.true refl (rw (← clause.limit_clause.ensures) (le-ltb _ _ c.if1.false)),
-      l.loop.invariant.1,
+    let clause = c in
+    let l = clause in (
+      judging_next l.loop-i.invariant.0 clause.loop-i-test.true refl (rw (← clause.limit_clause-clause.ensures) (le-ltb _ _ c.if-clause-gt0.false)),
+      l.loop-i.invariant.1,
     )
 
-returns-2 : tie.Need-returns-2 invariant-loop decreases-loop
+returns-2 : tie.Need-returns invariant-loop decreases-loop
 unfolding limit_rule
 returns-2 c =
-    let l = c.before in
-    let s = l.before.before.before.before in
+    let l = c in
+    let s = l in
     let r = rule_to s.args.classes.now s.args.values.now s.args.limits s.args.span.from in
-    judging_kept l.loop.invariant.0 c.loop-test.false ∙ ap (λ (to : ℕ). judge_one (r to)) l.before.end_in.ensures
+    judging_kept l.loop-i.invariant.0 c.loop-i-test.false ∙ ap (λ (to : ℕ). judge_one (r to)) l.end_in-to.ensures
 
 pub judge_limits_spec : {M : Type 1} → statement M
 judge_limits_spec =

@@ -5,24 +5,29 @@ use borrow.Author.Rules.{rules}
 use Rattle.sub_type.proofs.range.starts_range.Statement.{statement}
 use Rattle.sub_type.proofs.range.starts_range.Tie as tie
 
-class-at-requires : tie.Need-class-at-requires
+class-at-requires : tie.Need-class_at-requires
 class-at-requires c κs = search rules
 
-is-number-requires : tie.Need-is-number-requires
+is-number-requires : tie.Need-is_number-requires
 is-number-requires c κs = search rules
 
 less-requires : tie.Need-less-requires
 less-requires c κs = search rules
 
-class-at-requires-2 : tie.Need-class-at-requires-2
+class-at-requires-2 : tie.Need-class_at-requires-2
 class-at-requires-2 c κs = search rules
 
 returns : tie.Need-returns
 unfolding starts_range
 returns c =
-    rw (← c.before.less.ensures, ← c.class-at2.ensures, ← c.before.before.before.class_at.ensures, ← c.before.before.is_number.ensures)
+    rw (← c.less.ensures, ← c.class_at-2.ensures, ← c.class_at.ensures, ← c.is_number.ensures)
 
 pub starts_range_spec : {M : Type 1} → statement M
 starts_range_spec =
     tie.close
-    (tie.spec class-at-requires is-number-requires less-requires class-at-requires-2 returns)
+    (tie.spec
+    class-at-requires
+    is-number-requires
+    less-requires
+    class-at-requires-2
+    returns)

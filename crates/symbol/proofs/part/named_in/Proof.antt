@@ -11,7 +11,7 @@ use Rattle.index.proofs.Search.{Searched, searched_start, searched_miss, searche
 use Rattle.lexicon.specs.Word.{same, between}
 use Rattle.symbol.specs.Symbol.{symbol_names, symbol_count, symbol_of}
 use Rattle.symbol.proofs.Joined.{part_within, part_compared}
-use Rattle.symbol.proofs.Symbols.{in-names}
+use Rattle.symbol.proofs.Symbols.{in_names}
 use Rattle.symbol.proofs.part.named_in.Statement.{statement}
 use Rattle.symbol.proofs.part.named_in.Tie as tie
 
@@ -32,7 +32,7 @@ is-name-of-requires : tie.Need-is_name_of-requires invariant-loop decreases-loop
 is-name-of-requires c κs =
     let l = c in
     let s = l in
-    let h = in-names _ c.loop-k-test.true in
+    let h = in_names _ c.loop-k-test.true in
     (s.requires.0, (search rules, part_within symbol_names _ _ s.requires.1 l.loop-k.k h))
 
 -- the loop where a name was compared
@@ -52,7 +52,7 @@ wanted c = named (start_of c).args.text.now (start_of c).args.start (start_of c)
 -- what the comparison answers
 answer : (c : Compared) → wanted c (loop_at c).loop-k.k ≡ c.is_name_of.result
 answer c =
-    let h = in-names _ c.loop-k-test.true in
+    let h = in_names _ c.loop-k-test.true in
     sym (part_compared symbol_names _ _ (start_of c).requires.1 (loop_at c).loop-k.k h _ c.is_name_of.ensures)
 
 returns : tie.Need-returns-then-is_name_of invariant-loop decreases-loop

@@ -6,7 +6,6 @@ use Rattle.symbol.specs.Symbol.{iso_name}
 use Rattle.symbol.proofs.part.names_iso.Statement.{statement}
 use Rattle.symbol.proofs.part.names_iso.Tie as tie
 
-
 same-spelling-requires : tie.Need-same_spelling-requires
 same-spelling-requires c κs = search rules
 

@@ -26,15 +26,11 @@ either_module s = go (same s (get_or modules 0 [])) (same s (get_or modules 1 []
     go false true = refl
     go false false = refl
 
-
-
 is-name-of-requires : tie.Need-is_name_of-requires
 unfolding modules bytes joined starts_there
 is-name-of-requires c κs =
     let s = c in
     (s.requires, (omega arith, part_within modules _ _ (joined_table modules _ _ refl refl tt) 0 (omega arith)))
-
-
 
 is-name-of-requires-2 : tie.Need-is_name_of-requires-2
 unfolding modules bytes joined starts_there

@@ -4,28 +4,28 @@ use borrow.Author.Rules.{rules}
 use Rattle.syntax_check.proofs.test.place_test.Statement.{statement}
 use Rattle.syntax_check.proofs.test.place_test.Tie as tie
 
-enum_told : tie.Need-enum-told
+enum_told : tie.Need-enum_told-1
 enum_told c = search rules
 
-enum-known-restriction : tie.Need-enum-known-restriction
+enum-known-restriction : tie.Need-enum_known-restriction
 enum-known-restriction c = search rules
 
-enum-known-restriction-2 : tie.Need-enum-known-restriction-2
+enum-known-restriction-2 : tie.Need-enum_known-restriction-in-Sizes-1
 enum-known-restriction-2 c = search rules
 
-enum-told-2 : tie.Need-enum-told-2
+enum-told-2 : tie.Need-enum_told-in-Enumeration
 enum-told-2 c = search rules
 
-returns : tie.Need-returns
+returns : tie.Need-returns-in-Free
 returns c = search rules
 
-returns-2 : tie.Need-returns-2
-returns-2 c = rw c.before.restriction.given.1
+returns-2 : tie.Need-returns-in-Ranges
+returns-2 c = rw c.in-Ranges.is
 
-returns-3 : tie.Need-returns-3
-returns-3 c = rw c.before.restriction2.given.1
+returns-3 : tie.Need-returns-in-Sizes
+returns-3 c = rw c.in-Sizes.is
 
-returns-4 : tie.Need-returns-4
+returns-4 : tie.Need-returns-in-Enumeration
 returns-4 c = search rules
 
 pub place_test_spec : {M : Type 1} → statement M

@@ -6,62 +6,62 @@ use borrow.Author.Rules.{rules}
 use Rattle.syntax_check.proofs.test.range_test.Statement.{statement}
 use Rattle.syntax_check.proofs.test.range_test.Tie as tie
 
-has-syntax-requires : tie.Need-has-syntax-requires
+has-syntax-requires : tie.Need-has_syntax-has-requires
 has-syntax-requires c κs = search rules
 
-syntax-in-requires : tie.Need-syntax-in-requires
+syntax-in-requires : tie.Need-syntax_in-requires
 syntax-in-requires c κs = search rules
 
-restriction-of-requires : tie.Need-restriction-of-requires
+restriction-of-requires : tie.Need-restriction_of-restriction-requires
 restriction-of-requires c κs = search rules
 
-enum_told : tie.Need-enum-told
+enum_told : tie.Need-enum_told-1
 enum_told c = search rules
 
-enum-told-2 : tie.Need-enum-told-2
+enum-told-2 : tie.Need-enum_told-in_default
 enum-told-2 c = search rules
 
-is-untested-requires : tie.Need-is-untested-requires
+is-untested-requires : tie.Need-is_untested-requires
 is-untested-requires c κs = search rules
 
-limit-test-requires : tie.Need-limit-test-requires
+limit-test-requires : tie.Need-limit_test-requires
 limit-test-requires c κs = search rules
 
-returns : tie.Need-returns
+returns : tie.Need-returns-then-has-is_untested
 unfolding range_test
 returns c =
-    let un = c.before.before in
-    let r = un.before.before.before in
-    let s = r.before.before.before.before.before.before in
-    rw (un.before.enum-told2.given.1, ← r.before.before.has_syntax.ensures, ← un.is_untested.ensures)
-    (simp c.before.if1.true
-    (c.limit_test.ensures ∙ ap (limit_test s.args.d.class) (r.restriction_of.ensures ∙ ap restriction_of r.before.syntax_in.ensures)))
+    let un = c in
+    let r = un in
+    let s = r in
+    rw (un.in_default.is, ← r.has_syntax-has.ensures, ← un.is_untested.ensures)
+    (simp c.if-has-is_untested.true
+    (c.limit_test.ensures ∙ ap (limit_test s.args.d.class) (r.restriction_of-restriction.ensures ∙ ap restriction_of r.syntax_in.ensures)))
 
-returns-2 : tie.Need-returns-2
+returns-2 : tie.Need-returns-in_default
 unfolding range_test
 returns-2 c =
-    let un = c.before in
-    let r = un.before.before.before in
-    rw (un.before.enum-told2.given.1, ← r.before.before.has_syntax.ensures, ← un.is_untested.ensures) (simp c.if1.false)
+    let un = c in
+    let r = un in
+    rw (un.in_default.is, ← r.has_syntax-has.ensures, ← un.is_untested.ensures) (simp c.if-has-is_untested.false)
 
-place-test-requires : tie.Need-place-test-requires
+place-test-requires : tie.Need-place_test-requires
 place-test-requires c κs = search rules
 
-returns-3 : tie.Need-returns-3
+returns-3 : tie.Need-returns-then-has
 unfolding range_test
 returns-3 c =
-    let told = c.before.before in
-    let r = told.before.before in
-    rw (told.enum_told.given.1, ← r.before.before.has_syntax.ensures)
-    (simp c.before.if2.true
-    (c.place_test.ensures ∙ ap place_test (r.restriction_of.ensures ∙ ap restriction_of r.before.syntax_in.ensures)))
+    let told = c in
+    let r = told in
+    rw (told.in-Places.is, ← r.has_syntax-has.ensures)
+    (simp c.if-has.true
+    (c.place_test.ensures ∙ ap place_test (r.restriction_of-restriction.ensures ∙ ap restriction_of r.syntax_in.ensures)))
 
-returns-4 : tie.Need-returns-4
+returns-4 : tie.Need-returns
 unfolding range_test
 returns-4 c =
-    let told = c.before in
-    let r = told.before.before in
-    rw (told.enum_told.given.1, ← r.before.before.has_syntax.ensures) (simp c.if2.false)
+    let told = c in
+    let r = told in
+    rw (told.in-Places.is, ← r.has_syntax-has.ensures) (simp c.if-has.false)
 
 pub range_test_spec : {M : Type 1} → statement M
 range_test_spec =

@@ -12,88 +12,88 @@ use Rattle.table_check.proofs.Picked.{clause_picked, picked_same, nonzero_breach
 use Rattle.table_check.proofs.judge.judge_tables.Statement.{statement}
 use Rattle.table_check.proofs.judge.judge_tables.Tie as tie
 
-abbrev invariant-loop : tie.invariant-loop
+abbrev invariant-loop : tie.invariant-loop-k
 invariant-loop values definitions numbers row-clauses name-clauses n k₀ k = Judging (table_broken (definitions_in definitions) values numbers) n k
 
-abbrev decreases-loop : tie.decreases-loop
+abbrev decreases-loop : tie.decreases-loop-k
 decreases-loop values definitions numbers row-clauses name-clauses n k₀ k = n - k
 
-abbrev start : tie.In-loop invariant-loop decreases-loop → tie.Start invariant-loop decreases-loop
+abbrev start : tie.In-loop-k invariant-loop decreases-loop → tie.Start invariant-loop decreases-loop
 start t = t.before.before.before.before.before.before.before.before.before.before
 
 -- the clause that was picked is the first of definition k
-clause_is : (h : tie.After-picked invariant-loop decreases-loop) → (let t = h.before.before in let s = start t in h.picked.result ≡ clause_of (definitions_in s.args.definitions.now) s.args.values.now s.args.numbers.now t.before.loop.k)
+clause_is : (h : tie.After-picked-clause invariant-loop decreases-loop) → (let t = h in let s = start t.before.before in h.picked-clause.result ≡ clause_of (definitions_in s.args.definitions.now) s.args.values.now s.args.numbers.now t.loop-k.k)
 clause_is h =
-    let t = h.before.before in
-    let l = t.before in
-    let s = start t in
-    let k = l.loop.k in
+    let t = h in
+    let l = t in
+    let s = start t.before.before in
+    let k = l.loop-k.k in
     let ds = definitions_in s.args.definitions.now in
-    let names = l.before.before in
-    let rows = names.before.before in
-    let row = rows.collect-row-clauses.ensures.entry k (omega (arith, t.loop-test.true, l.before.count.ensures)) in
-    let name = names.collect-name-clauses.ensures.entry k (omega (arith, t.loop-test.true, l.before.count.ensures)) in
-    h.picked.ensures ∙ picked_same h.before.definition-at.ensures row name ∙ clause_picked ds s.args.values.now s.args.numbers.now k
+    let names = l in
+    let rows = names in
+    let row = rows.collect_row_clauses.ensures.entry k (omega (arith, t.loop-k-test.true, l.count-n.ensures)) in
+    let name = names.collect_name_clauses.ensures.entry k (omega (arith, t.loop-k-test.true, l.count-n.ensures)) in
+    h.picked-clause.ensures ∙ picked_same h.definition_at.ensures row name ∙ clause_picked ds s.args.values.now s.args.numbers.now k
 
-collect-row-clauses-requires : tie.Need-collect-row-clauses-requires invariant-loop decreases-loop
-collect-row-clauses-requires c κs = (c.before.before.before.before.requires, refl)
+collect-row-clauses-requires : tie.Need-collect_row_clauses-requires invariant-loop decreases-loop
+collect-row-clauses-requires c κs = (c.requires, refl)
 
-collect-name-clauses-requires : tie.Need-collect-name-clauses-requires invariant-loop decreases-loop
-collect-name-clauses-requires c κs = (c.before.before.before.before.before.before.requires, refl)
+collect-name-clauses-requires : tie.Need-collect_name_clauses-requires invariant-loop decreases-loop
+collect-name-clauses-requires c κs = (c.requires, refl)
 
-count-requires : tie.Need-count-requires invariant-loop decreases-loop
+count-requires : tie.Need-count-n-requires invariant-loop decreases-loop
 count-requires c κs = tt
 
-loop-holds : tie.Need-loop-init invariant-loop decreases-loop
+loop-holds : tie.Need-loop-k-init invariant-loop decreases-loop
 unfolding table_broken
-loop-holds c = judging_start _ refl (sym c.count.ensures)
+loop-holds c = judging_start _ refl (sym c.count-n.ensures)
 
-definition-at-requires : tie.Need-definition-at-requires invariant-loop decreases-loop
+definition-at-requires : tie.Need-definition_at-requires invariant-loop decreases-loop
 definition-at-requires c κs = tt
 
-array-read-picked : tie.Need-array-read-picked invariant-loop decreases-loop
+array-read-picked : tie.Need-bounds-row_clauses-k invariant-loop decreases-loop
 array-read-picked c =
-    let t = c.before in
-    omega (arith, t.loop-test.true, t.before.before.count.ensures, (start t).requires)
+    let t = c in
+    omega (arith, t.loop-k-test.true, t.count-n.ensures, (start t.before).requires)
 
-array-read-picked-2 : tie.Need-array-read-picked-2 invariant-loop decreases-loop
+array-read-picked-2 : tie.Need-bounds-name_clauses-k invariant-loop decreases-loop
 array-read-picked-2 c =
-    let t = c.before in
-    omega (arith, t.loop-test.true, t.before.before.count.ensures, (start t).requires)
+    let t = c in
+    omega (arith, t.loop-k-test.true, t.count-n.ensures, (start t.before).requires)
 
-picked-requires : tie.Need-picked-requires invariant-loop decreases-loop
+picked-requires : tie.Need-picked-clause-requires invariant-loop decreases-loop
 picked-requires c κs = tt
 
 found-requires : tie.Need-found-requires invariant-loop decreases-loop
 found-requires c κs =
-    let t = c.before.before.before in
-    omega (arith, t.loop-test.true, t.before.before.count.ensures, (start t).requires)
+    let t = c in
+    omega (arith, t.loop-k-test.true, t.count-n.ensures, (start t.before.before.before).requires)
 
-returns : tie.Need-returns invariant-loop decreases-loop
+returns : tie.Need-returns-then-clause-ne0 invariant-loop decreases-loop
 unfolding table_broken
 returns c =
-    let h = c.before.before in
-    let t = h.before.before in
-    let s = start t in
-    let is = clause_is h in
-    judging_broken t.before.loop.invariant t.loop-test.true (ap (ltb 0) is) (nonzero_breach _ c.before.if1.true) _
-    (c.found.ensures ∙ ap (found (definitions_in s.args.definitions.now) s.args.values.now t.before.loop.k) is)
+    let h = c in
+    let t = h in
+    let s = start t.before.before.before.before in
+    let is = clause_is h.before.before in
+    judging_broken t.loop-k.invariant t.loop-k-test.true (ap (ltb 0) is) (nonzero_breach _ c.if-clause-ne0.true) _
+    (c.found.ensures ∙ ap (found (definitions_in s.args.definitions.now) s.args.values.now t.loop-k.k) is)
 
-add-k : tie.Need-overflow-add-k invariant-loop decreases-loop
-add-k c = omega (arith, c.before.before.before.loop-test.true)
+add-k : tie.Need-overflow_add-k invariant-loop decreases-loop
+add-k c = omega (arith, c.loop-k-test.true)
 
-loop-less : tie.Need-loop-smaller invariant-loop decreases-loop
-loop-less c = omega (arith, c.before.before.before.loop-test.true)
+loop-less : tie.Need-loop-k-smaller invariant-loop decreases-loop
+loop-less c = omega (arith, c.loop-k-test.true)
 
-loop-again : tie.Need-loop-preserved invariant-loop decreases-loop
+loop-again : tie.Need-loop-k-preserved invariant-loop decreases-loop
 unfolding table_broken
 loop-again c =
-    let h = c.before in
-    let t = h.before.before in
-    judging_next t.before.loop.invariant t.loop-test.true (ap (ltb 0) (clause_is h)) (zero_kept _ c.if1.false)
+    let h = c in
+    let t = h in
+    judging_next t.loop-k.invariant t.loop-k-test.true (ap (ltb 0) (clause_is h.before)) (zero_kept _ c.if-clause-ne0.false)
 
-returns-2 : tie.Need-returns-2 invariant-loop decreases-loop
-returns-2 c = judging_kept c.before.loop.invariant c.loop-test.false
+returns-2 : tie.Need-returns invariant-loop decreases-loop
+returns-2 c = judging_kept c.loop-k.invariant c.loop-k-test.false
 
 pub judge_tables_spec : {M : Type 1} → statement M
 judge_tables_spec =

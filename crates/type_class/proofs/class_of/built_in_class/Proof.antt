@@ -4,31 +4,31 @@ use borrow.Author.Rules.{rules}
 use Rattle.type_class.proofs.class_of.built_in_class.Statement.{statement}
 use Rattle.type_class.proofs.class_of.built_in_class.Tie as tie
 
-enum_told : tie.Need-enum-told
+enum_told : tie.Need-enum_told-1
 enum_told c = search rules
 
-enum-known-lead : tie.Need-enum-known-lead
+enum-known-lead : tie.Need-enum_known-lead
 enum-known-lead c = search rules
 
-symbol-class-requires : tie.Need-symbol-class-requires
+symbol-class-requires : tie.Need-symbol_class-requires
 symbol-class-requires c κs = search rules
 
-enum-told-2 : tie.Need-enum-told-2
+enum-told-2 : tie.Need-enum_told-in-Definition
 enum-told-2 c = search rules
 
-enum-told-3 : tie.Need-enum-told-3
+enum-told-3 : tie.Need-enum_told-in-Nothing
 enum-told-3 c = search rules
 
-returns : tie.Need-returns
+returns : tie.Need-returns-in-Iso
 returns c = search rules
 
-returns-2 : tie.Need-returns-2
-returns-2 c = rw c.before.before.lead.given.1 c.symbol-class.ensures
+returns-2 : tie.Need-returns-in-Import
+returns-2 c = rw c.in-Import.is c.symbol_class.ensures
 
-returns-3 : tie.Need-returns-3
+returns-3 : tie.Need-returns-in-Definition
 returns-3 c = search rules
 
-returns-4 : tie.Need-returns-4
+returns-4 : tie.Need-returns-in-Nothing
 returns-4 c = search rules
 
 pub built_in_class_spec : {M : Type 1} → statement M

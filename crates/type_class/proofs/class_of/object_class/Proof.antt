@@ -5,13 +5,13 @@ use borrow.Author.Rules.{rules}
 use Rattle.type_class.proofs.class_of.object_class.Statement.{statement}
 use Rattle.type_class.proofs.class_of.object_class.Tie as tie
 
-lead-of-requires : tie.Need-lead-of-requires
+lead-of-requires : tie.Need-lead_of-requires
 lead-of-requires c κs = search rules
 
-lead-class-requires : tie.Need-lead-class-requires
+lead-class-requires : tie.Need-lead_class-requires
 lead-class-requires c κs = search rules
 
-syntax-class-requires : tie.Need-syntax-class-requires
+syntax-class-requires : tie.Need-syntax_class-requires
 syntax-class-requires c κs = search rules
 
 returns : tie.Need-returns
@@ -20,4 +20,8 @@ returns c = cc
 
 pub object_class_spec : {M : Type 1} → statement M
 object_class_spec =
-    tie.close (tie.spec lead-of-requires lead-class-requires syntax-class-requires returns)
+    tie.close (tie.spec
+    lead-of-requires
+    lead-class-requires
+    syntax-class-requires
+    returns)

@@ -6,25 +6,25 @@ use borrow.Author.Rules.{rules}
 use Rattle.type_class.proofs.fill.convention_classed.Statement.{statement}
 use Rattle.type_class.proofs.fill.convention_classed.Tie as tie
 
-cast-if1 : tie.Need-overflow-cast-if1
+cast-if1 : tie.Need-overflow_cast-t-5
 cast-if1 c = search rules
 
-syntax-in-requires : tie.Need-syntax-in-requires
+syntax-in-requires : tie.Need-syntax_in-requires
 syntax-in-requires c κs = search rules
 
-convention-class-requires : tie.Need-convention-class-requires
+convention-class-requires : tie.Need-convention_class-class-requires
 convention-class-requires c κs = search rules
 
-with-class-requires : tie.Need-with-class-requires
+with-class-requires : tie.Need-with_class-requires
 with-class-requires c κs = search rules
 
-returns : tie.Need-returns
+returns : tie.Need-returns-then-d
 unfolding convention_classed
-returns c = simp (eq-eqb _ _ c.before.before.before.if1.true) (cc)
+returns c = simp (eq-eqb _ _ c.if-d.true) (cc)
 
-returns-2 : tie.Need-returns-2
+returns-2 : tie.Need-returns
 unfolding convention_classed
-returns-2 c = simp (ne_eqb _ _ c.if1.false)
+returns-2 c = simp (ne_eqb _ _ c.if-d.false)
 
 pub convention_classed_spec : {M : Type 1} → statement M
 convention_classed_spec =

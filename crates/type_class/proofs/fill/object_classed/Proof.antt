@@ -6,28 +6,28 @@ use borrow.Author.Rules.{rules}
 use Rattle.type_class.proofs.fill.object_classed.Statement.{statement}
 use Rattle.type_class.proofs.fill.object_classed.Tie as tie
 
-cast-if1 : tie.Need-overflow-cast-if1
+cast-if1 : tie.Need-overflow_cast-t-7
 cast-if1 c = search rules
 
-syntax-in-requires : tie.Need-syntax-in-requires
+syntax-in-requires : tie.Need-syntax_in-syntax-requires
 syntax-in-requires c κs = search rules
 
-object-class-requires : tie.Need-object-class-requires
+object-class-requires : tie.Need-object_class-class-requires
 object-class-requires c κs = search rules
 
-sequence-number-requires : tie.Need-sequence-number-requires
+sequence-number-requires : tie.Need-sequence_number-requires
 sequence-number-requires c κs = search rules
 
-with-class-requires : tie.Need-with-class-requires
+with-class-requires : tie.Need-with_class-requires
 with-class-requires c κs = search rules
 
-returns : tie.Need-returns
+returns : tie.Need-returns-then-d
 unfolding object_classed
-returns c = simp (eq-eqb _ _ c.before.before.before.before.if1.true) (cc)
+returns c = simp (eq-eqb _ _ c.if-d.true) (cc)
 
-returns-2 : tie.Need-returns-2
+returns-2 : tie.Need-returns
 unfolding object_classed
-returns-2 c = simp (ne_eqb _ _ c.if1.false)
+returns-2 c = simp (ne_eqb _ _ c.if-d.false)
 
 pub object_classed_spec : {M : Type 1} → statement M
 object_classed_spec =

@@ -7,16 +7,19 @@ use borrow.Author.Rules.{rules}
 use Rattle.type_class.proofs.type_name.syntax_in.Statement.{statement}
 use Rattle.type_class.proofs.type_name.syntax_in.Tie as tie
 
-syntax-at-requires : tie.Need-syntax-at-requires
+syntax-at-requires : tie.Need-syntax_at-requires
 syntax-at-requires c κs = search rules
 
-returns : tie.Need-returns
+returns : tie.Need-returns-then-from-classes
 unfolding syntax_in
-returns c = simp (lt-ltb _ _ c.before.if1.true) (simp take-length at c.syntax_at.ensures)
+returns c = simp (lt-ltb _ _ c.if-from-classes.true) (simp take-length at c.syntax_at.ensures)
 
-returns-2 : tie.Need-returns-2
+returns-2 : tie.Need-returns
 unfolding syntax_in
-returns-2 c = simp (le-ltb _ _ c.if1.false)
+returns-2 c = simp (le-ltb _ _ c.if-from-classes.false)
 
 pub syntax_in_spec : {M : Type 1} → statement M
-syntax_in_spec = tie.close (tie.spec syntax-at-requires returns returns-2)
+syntax_in_spec = tie.close (tie.spec
+    syntax-at-requires
+    returns
+    returns-2)

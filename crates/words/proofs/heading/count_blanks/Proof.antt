@@ -4,53 +4,49 @@ use Prim.Native.Nat.{◌+◌, ◌-◌, ◌≤◌}
 use mathlib.Core.Path.{◌≡◌, sym, ◌∙◌}
 use native.Mathlib.Omega.{arith}
 use borrow.Author.Rules.{rules}
-use borrow.Author.Tests.{not-true, not-false}
 use lib.ListN.{length, drop}
 use Rattle.words.specs.Octets.{blanks}
 use Rattle.words.proofs.FrontLaws.{blank_passed, blanks_ended, all_blank}
 use Rattle.words.proofs.heading.count_blanks.Statement.{statement}
 use Rattle.words.proofs.heading.count_blanks.Tie as tie
 
-abbrev invariant-loop : tie.invariant-loop
+abbrev invariant-loop : tie.invariant-loop-i
 invariant-loop word i₀ i = (i ≤ length word) × (i + blanks (drop i word) ≡ blanks word)
 
-abbrev decreases-loop : tie.decreases-loop
+abbrev decreases-loop : tie.decreases-loop-i
 decreases-loop word i₀ i = length word - i
 
-loop-holds : tie.Need-loop-init invariant-loop decreases-loop
+loop-holds : tie.Need-loop-i-init invariant-loop decreases-loop
 loop-holds c = search rules
 
-shared-slice-read-is-blank : tie.Need-shared-slice-read-is-blank invariant-loop decreases-loop
+shared-slice-read-is-blank : tie.Need-bounds-word-i invariant-loop decreases-loop
 shared-slice-read-is-blank c = search rules
 
-is-blank-requires : tie.Need-is-blank-requires invariant-loop decreases-loop
+is-blank-requires : tie.Need-is_blank-requires invariant-loop decreases-loop
 is-blank-requires c κs = search rules
 
-returns : tie.Need-returns invariant-loop decreases-loop
+returns : tie.Need-returns-then-not-is_blank invariant-loop decreases-loop
 returns c =
-    let here = c.before.before.before.before in
-    let word = here.before.before.args.word.now in
-    let is = sym c.before.is-blank.ensures ∙ not-true _ c.if1.true in
-    (blanks_ended word here.loop.i _ (omega arith) is here.loop.invariant.1, search rules)
+    let word = c.args.word.now in
+    let is = sym c.is_blank.ensures ∙ c.if-not-is_blank.true in
+    (blanks_ended word c.loop-i.i _ (omega arith) is c.loop-i.invariant.1, search rules)
 
-add-i : tie.Need-overflow-add-i invariant-loop decreases-loop
+add-i : tie.Need-overflow_add-i invariant-loop decreases-loop
 add-i c = search rules
 
-loop-less : tie.Need-loop-smaller invariant-loop decreases-loop
+loop-less : tie.Need-loop-i-smaller invariant-loop decreases-loop
 loop-less c = search rules
 
-loop-again : tie.Need-loop-preserved invariant-loop decreases-loop
+loop-again : tie.Need-loop-i-preserved invariant-loop decreases-loop
 loop-again c =
-    let here = c.before.before.before.before in
-    let word = here.before.before.args.word.now in
-    let is = sym c.before.is-blank.ensures ∙ not-false _ c.if1.false in
-    (search rules, blank_passed word here.loop.i _ (omega arith) is here.loop.invariant.1)
+    let word = c.args.word.now in
+    let is = sym c.is_blank.ensures ∙ c.if-not-is_blank.false in
+    (search rules, blank_passed word c.loop-i.i _ (omega arith) is c.loop-i.invariant.1)
 
-returns-2 : tie.Need-returns-2 invariant-loop decreases-loop
+returns-2 : tie.Need-returns invariant-loop decreases-loop
 returns-2 c =
-    let here = c.before in
-    let word = here.before.before.args.word.now in
-    (all_blank word here.loop.i _ (omega arith) (omega arith) here.loop.invariant.1, search rules)
+    let word = c.args.word.now in
+    (all_blank word c.loop-i.i _ (omega arith) (omega arith) c.loop-i.invariant.1, search rules)
 
 pub count_blanks_spec : {M : Type 1} → statement M
 count_blanks_spec =

@@ -11,56 +11,52 @@ use Rattle.words.proofs.FrontLaws.{starts_here, starts_short, starts_whole}
 use Rattle.words.proofs.heading.starts_with.Statement.{statement}
 use Rattle.words.proofs.heading.starts_with.Tie as tie
 
-abbrev invariant-loop : tie.invariant-loop
+abbrev invariant-loop : tie.invariant-loop-i
 invariant-loop word bytes i₀ i = (i ≤ length bytes) × (starts (drop i bytes) (drop i word) ≡ starts bytes word)
 
-abbrev decreases-loop : tie.decreases-loop
+abbrev decreases-loop : tie.decreases-loop-i
 decreases-loop word bytes i₀ i = length bytes - i
 
-loop-holds : tie.Need-loop-init invariant-loop decreases-loop
+loop-holds : tie.Need-loop-i-init invariant-loop decreases-loop
 loop-holds c = search rules
 
-returns : tie.Need-returns invariant-loop decreases-loop
+returns : tie.Need-returns-then-word-i invariant-loop decreases-loop
 returns c =
-    let here = c.before.before in
-    let word = here.before.args.word.now in
-    sym (starts_short word here.before.args.bytes.now here.loop.i (omega arith) (omega arith)) ∙ here.loop.invariant.1
+    let word = c.args.word.now in
+    sym (starts_short word c.args.bytes.now c.loop-i.i (omega arith) (omega arith)) ∙ c.loop-i.invariant.1
 
-shared-slice-read-if2 : tie.Need-shared-slice-read-if2 invariant-loop decreases-loop
+shared-slice-read-if2 : tie.Need-bounds-word-i invariant-loop decreases-loop
 shared-slice-read-if2 c = search rules
 
-shared-slice-read-if2-2 : tie.Need-shared-slice-read-if2-2 invariant-loop decreases-loop
+shared-slice-read-if2-2 : tie.Need-bounds-bytes-i invariant-loop decreases-loop
 shared-slice-read-if2-2 c = search rules
 
-returns-2 : tie.Need-returns-2 invariant-loop decreases-loop
+returns-2 : tie.Need-returns-then-word-i-2 invariant-loop decreases-loop
 returns-2 c =
-    let here = c.before.before.before.before.before in
-    let word = here.before.args.word.now in
-    let bytes = here.before.args.bytes.now in
-    let step = starts_here word bytes here.loop.i (omega arith) (omega arith) in
-    let other = ne_eqb (get_or bytes here.loop.i 0) (get_or word here.loop.i 0) (λ e. c.if2.true (sym e)) in
-    sym (simp other at step) ∙ here.loop.invariant.1
+    let word = c.args.word.now in
+    let bytes = c.args.bytes.now in
+    let step = starts_here word bytes c.loop-i.i (omega arith) (omega arith) in
+    let other = ne_eqb (get_or bytes c.loop-i.i 0) (get_or word c.loop-i.i 0) (λ e. c.if-word-i-2.true (sym e)) in
+    sym (simp other at step) ∙ c.loop-i.invariant.1
 
-add-i : tie.Need-overflow-add-i invariant-loop decreases-loop
+add-i : tie.Need-overflow_add-i invariant-loop decreases-loop
 add-i c = search rules
 
-loop-less : tie.Need-loop-smaller invariant-loop decreases-loop
+loop-less : tie.Need-loop-i-smaller invariant-loop decreases-loop
 loop-less c = search rules
 
-loop-again : tie.Need-loop-preserved invariant-loop decreases-loop
+loop-again : tie.Need-loop-i-preserved invariant-loop decreases-loop
 loop-again c =
-    let here = c.before.before.before.before.before in
-    let word = here.before.args.word.now in
-    let bytes = here.before.args.bytes.now in
-    let step = starts_here word bytes here.loop.i (omega arith) (omega arith) in
-    let same = eq-eqb (get_or bytes here.loop.i 0) (get_or word here.loop.i 0) (sym c.if2.false) in
-    (search rules, sym (simp same at step) ∙ here.loop.invariant.1)
+    let word = c.args.word.now in
+    let bytes = c.args.bytes.now in
+    let step = starts_here word bytes c.loop-i.i (omega arith) (omega arith) in
+    let same = eq-eqb (get_or bytes c.loop-i.i 0) (get_or word c.loop-i.i 0) (sym c.if-word-i-2.false) in
+    (search rules, sym (simp same at step) ∙ c.loop-i.invariant.1)
 
-returns-3 : tie.Need-returns-3 invariant-loop decreases-loop
+returns-3 : tie.Need-returns invariant-loop decreases-loop
 returns-3 c =
-    let here = c.before in
-    let word = here.before.args.word.now in
-    sym (starts_whole word here.before.args.bytes.now here.loop.i (omega arith) (omega arith)) ∙ here.loop.invariant.1
+    let word = c.args.word.now in
+    sym (starts_whole word c.args.bytes.now c.loop-i.i (omega arith) (omega arith)) ∙ c.loop-i.invariant.1
 
 pub starts_with_spec : {M : Type 1} → statement M
 starts_with_spec =

@@ -6,28 +6,28 @@ use borrow.Author.Tests.{le-leb, lt-leb}
 use Rattle.words.proofs.hex.hex_digit.Statement.{statement}
 use Rattle.words.proofs.hex.hex_digit.Tie as tie
 
-sub-result : tie.Need-overflow-sub-result
+sub-result : tie.Need-overflow_sub-result-in-65-to-70
 sub-result c = search rules
 
-sub-result-2 : tie.Need-overflow-sub-result-2
+sub-result-2 : tie.Need-overflow_sub-result-in-97-to-102
 sub-result-2 c = search rules
 
-returns : tie.Need-returns
+returns : tie.Need-returns-in-48-to-57
 unfolding Rattle.words.specs.Hex.hex_digit
 returns c =
-    let b = c.before.before.args.b in
+    let b = c.args.b in
     simp (le-leb 48 b (omega arith), le-leb b 57 (omega arith))
 
-returns-2 : tie.Need-returns-2
+returns-2 : tie.Need-returns-in-65-to-70
 unfolding Rattle.words.specs.Hex.hex_digit
 returns-2 c =
-    let b = c.before.before.before.before.args.b in
+    let b = c.args.b in
     simp (le-leb 48 b (omega arith), lt-leb b 57 (omega arith), le-leb 65 b (omega arith), le-leb b 70 (omega arith))
 
-returns-3 : tie.Need-returns-3
+returns-3 : tie.Need-returns-in-97-to-102
 unfolding Rattle.words.specs.Hex.hex_digit
 returns-3 c =
-    let b = c.before.before.before.before.before.before.args.b in
+    let b = c.args.b in
     simp (
       le-leb 48 b (omega arith),
       lt-leb b 57 (omega arith),
@@ -37,22 +37,22 @@ returns-3 c =
       le-leb b 102 (omega arith),
     )
 
-returns-4 : tie.Need-returns-4
+returns-4 : tie.Need-returns-in_default
 unfolding Rattle.words.specs.Hex.hex_digit
 returns-4 c =
-    let b = c.before.args.b in
+    let b = c.args.b in
     simp (lt-leb 48 b (omega arith), lt-leb 65 b (omega arith), lt-leb 97 b (omega arith))
 
-returns-5 : tie.Need-returns-5
+returns-5 : tie.Need-returns-in_default-2
 unfolding Rattle.words.specs.Hex.hex_digit
 returns-5 c =
-    let b = c.before.before.before.args.b in
+    let b = c.args.b in
     simp (le-leb 48 b (omega arith), lt-leb b 57 (omega arith), lt-leb 65 b (omega arith), lt-leb 97 b (omega arith))
 
-returns-6 : tie.Need-returns-6
+returns-6 : tie.Need-returns-in_default-3
 unfolding Rattle.words.specs.Hex.hex_digit
 returns-6 c =
-    let b = c.before.before.before.before.before.args.b in
+    let b = c.args.b in
     simp (
       le-leb 48 b (omega arith),
       lt-leb b 57 (omega arith),
@@ -61,10 +61,10 @@ returns-6 c =
       lt-leb 97 b (omega arith),
     )
 
-returns-7 : tie.Need-returns-7
+returns-7 : tie.Need-returns-in_default-4
 unfolding Rattle.words.specs.Hex.hex_digit
 returns-7 c =
-    let b = c.before.before.before.before.before.before.args.b in
+    let b = c.args.b in
     simp (
       le-leb 48 b (omega arith),
       lt-leb b 57 (omega arith),

@@ -9,47 +9,43 @@ use borrow.Author.Rules.{rules}
 use Rattle.words.proofs.number.all_digits.Statement.{statement}
 use Rattle.words.proofs.number.all_digits.Tie as tie
 
-abbrev invariant-loop : tie.invariant-loop
+abbrev invariant-loop : tie.invariant-loop-i
 invariant-loop word from i₀ i = (i ≤ length word) × (all_digits (drop from word) ≡ all_digits (drop i word))
 
-abbrev decreases-loop : tie.decreases-loop
+abbrev decreases-loop : tie.decreases-loop-i
 decreases-loop word from i₀ i = length word - i
 
-loop-holds : tie.Need-loop-init invariant-loop decreases-loop
+loop-holds : tie.Need-loop-i-init invariant-loop decreases-loop
 loop-holds c = search rules
 
-shared-slice-read-if1 : tie.Need-shared-slice-read-if1 invariant-loop decreases-loop
+shared-slice-read-if1 : tie.Need-bounds-word-i invariant-loop decreases-loop
 shared-slice-read-if1 c = search rules
 
-returns : tie.Need-returns invariant-loop decreases-loop
+returns : tie.Need-returns-then-word-i-lt48 invariant-loop decreases-loop
 returns c =
-    let at = c.before.before.before in
-    sym (at.loop.invariant.1 ∙ below_digits at.before.args.word.now at.loop.i (omega arith) c.if1.true)
+    sym (c.loop-i.invariant.1 ∙ below_digits c.args.word.now c.loop-i.i (omega arith) c.if-word-i-lt48.true)
 
-shared-slice-read-if2 : tie.Need-shared-slice-read-if2 invariant-loop decreases-loop
+shared-slice-read-if2 : tie.Need-bounds-word-i-in-loop-i invariant-loop decreases-loop
 shared-slice-read-if2 c = search rules
 
-returns-2 : tie.Need-returns-2 invariant-loop decreases-loop
+returns-2 : tie.Need-returns-then-word-i-gt57 invariant-loop decreases-loop
 returns-2 c =
-    let at = c.before.before.before.before.before in
-    sym (at.loop.invariant.1 ∙ above_digits at.before.args.word.now at.loop.i (omega arith) c.if2.true)
+    sym (c.loop-i.invariant.1 ∙ above_digits c.args.word.now c.loop-i.i (omega arith) c.if-word-i-gt57.true)
 
-add-i : tie.Need-overflow-add-i invariant-loop decreases-loop
+add-i : tie.Need-overflow_add-i invariant-loop decreases-loop
 add-i c = search rules
 
-loop-less : tie.Need-loop-smaller invariant-loop decreases-loop
+loop-less : tie.Need-loop-i-smaller invariant-loop decreases-loop
 loop-less c = search rules
 
-loop-again : tie.Need-loop-preserved invariant-loop decreases-loop
+loop-again : tie.Need-loop-i-preserved invariant-loop decreases-loop
 loop-again c =
-    let at = c.before.before.before.before.before in
-    let word = at.before.args.word.now in
-    (omega arith, at.loop.invariant.1 ∙ past_digit word at.loop.i (omega arith) (omega arith) (omega arith))
+    let word = c.args.word.now in
+    (omega arith, c.loop-i.invariant.1 ∙ past_digit word c.loop-i.i (omega arith) (omega arith) (omega arith))
 
-returns-3 : tie.Need-returns-3 invariant-loop decreases-loop
+returns-3 : tie.Need-returns invariant-loop decreases-loop
 returns-3 c =
-    let at = c.before in
-    sym (at.loop.invariant.1 ∙ digits_ended at.before.args.word.now at.loop.i (omega arith) (omega arith))
+    sym (c.loop-i.invariant.1 ∙ digits_ended c.args.word.now c.loop-i.i (omega arith) (omega arith))
 
 pub all_digits_spec : {M : Type 1} → statement M
 all_digits_spec =

@@ -6,32 +6,32 @@ use borrow.Author.Rules.{rules}
 use Rattle.words.proofs.number.read_number.Statement.{statement}
 use Rattle.words.proofs.number.read_number.Tie as tie
 
-starts-with-minus-requires : tie.Need-starts-with-minus-requires
+starts-with-minus-requires : tie.Need-starts_with_minus-requires
 starts-with-minus-requires c κs = search rules
 
-natural-from-requires : tie.Need-natural-from-requires
-natural-from-requires c κs = c.before.starts_with_minus.ensures.1 c.if1.true
+natural-from-requires : tie.Need-natural_from-requires
+natural-from-requires c κs = c.starts_with_minus.ensures.1 c.if-starts_with_minus.true
 
-below-zero-requires : tie.Need-below-zero-requires
-below-zero-requires c κs = rw c.natural-from.ensures (always_small _)
+below-zero-requires : tie.Need-below_zero-requires
+below-zero-requires c κs = rw c.natural_from.ensures (always_small _)
 
-returns : tie.Need-returns
+returns : tie.Need-returns-then-starts_with_minus
 returns c =
     c.below_zero.ensures
-    ∙ ap below c.before.natural-from.ensures
-    ∙ sym (minus_first _ (sym c.before.before.before.starts_with_minus.ensures.0 ∙ c.before.before.if1.true))
+    ∙ ap below c.natural_from.ensures
+    ∙ sym (minus_first _ (sym c.starts_with_minus.ensures.0 ∙ c.if-starts_with_minus.true))
 
-natural-from-requires-2 : tie.Need-natural-from-requires-2
+natural-from-requires-2 : tie.Need-natural_from-requires-2
 natural-from-requires-2 c κs = search rules
 
-from-zero-on-requires : tie.Need-from-zero-on-requires
-from-zero-on-requires c κs = rw c.natural-from2.ensures (always_small _)
+from-zero-on-requires : tie.Need-from_zero_on-requires
+from-zero-on-requires c κs = rw c.natural_from-2.ensures (always_small _)
 
-returns-2 : tie.Need-returns-2
+returns-2 : tie.Need-returns
 returns-2 c =
-    c.from-zero-on.ensures
-    ∙ ap above c.before.natural-from2.ensures
-    ∙ sym (digits_first _ (sym c.before.before.before.starts_with_minus.ensures.0 ∙ c.before.before.if1.false))
+    c.from_zero_on.ensures
+    ∙ ap above c.natural_from-2.ensures
+    ∙ sym (digits_first _ (sym c.starts_with_minus.ensures.0 ∙ c.if-starts_with_minus.false))
 
 pub read_number_spec : {M : Type 1} → statement M
 read_number_spec =

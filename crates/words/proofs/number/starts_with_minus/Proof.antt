@@ -6,14 +6,17 @@ use borrow.Author.Rules.{rules}
 use Rattle.words.proofs.number.starts_with_minus.Statement.{statement}
 use Rattle.words.proofs.number.starts_with_minus.Tie as tie
 
-returns : tie.Need-returns
-returns c = (rw (no_byte c.before.args.word.now c.if1.true) refl, λ same. absurd (false≢true same))
+returns : tie.Need-returns-then-word-eq0
+returns c = (rw (no_byte c.args.word.now c.if-word-eq0.true) refl, λ same. absurd (false≢true same))
 
-shared-slice-read-result : tie.Need-shared-slice-read-result
+shared-slice-read-result : tie.Need-bounds-word-0
 shared-slice-read-result c = search rules
 
-returns-2 : tie.Need-returns-2
+returns-2 : tie.Need-returns
 returns-2 c = search rules
 
 pub starts_with_minus_spec : {M : Type 1} → statement M
-starts_with_minus_spec = tie.close (tie.spec returns shared-slice-read-result returns-2)
+starts_with_minus_spec = tie.close (tie.spec
+    returns
+    shared-slice-read-result
+    returns-2)

@@ -10,48 +10,45 @@ use borrow.Author.Rules.{rules}
 use Rattle.words.proofs.number.value.Statement.{statement}
 use Rattle.words.proofs.number.value.Tie as tie
 
-abbrev invariant-loop : tie.invariant-loop
+abbrev invariant-loop : tie.invariant-loop-i
 invariant-loop word from n₀ i₀ n i =
     (n ≤ limit)
     × (i ≤ length word)
     × (all_digits (drop i word) ≡ true)
     × (min (decimal_after n (drop i word)) limit ≡ min (decimal_after 0 (drop from word)) limit)
 
-abbrev decreases-loop : tie.decreases-loop
+abbrev decreases-loop : tie.decreases-loop-i
 decreases-loop word from n₀ i₀ n i = length word - i
 
-loop-holds : tie.Need-loop-init invariant-loop decreases-loop
+loop-holds : tie.Need-loop-i-init invariant-loop decreases-loop
 loop-holds c = search rules
 
-shared-slice-read-more : tie.Need-shared-slice-read-more invariant-loop decreases-loop
+shared-slice-read-more : tie.Need-bounds-word-i invariant-loop decreases-loop
 shared-slice-read-more c = search rules
 
-more-requires : tie.Need-more-requires invariant-loop decreases-loop
+more-requires : tie.Need-more-n-requires invariant-loop decreases-loop
 more-requires c κs =
-    let at = c.before.before in
-    (omega arith, first_digit at.before.before.args.word.now at.loop.i (omega arith) at.loop.invariant.2)
+    (omega arith, first_digit c.args.word.now c.loop-i.i (omega arith) c.loop-i.invariant.2)
 
-add-i : tie.Need-overflow-add-i invariant-loop decreases-loop
+add-i : tie.Need-overflow_add-i invariant-loop decreases-loop
 add-i c = search rules
 
-loop-less : tie.Need-loop-smaller invariant-loop decreases-loop
+loop-less : tie.Need-loop-i-smaller invariant-loop decreases-loop
 loop-less c = search rules
 
-loop-again : tie.Need-loop-preserved invariant-loop decreases-loop
+loop-again : tie.Need-loop-i-preserved invariant-loop decreases-loop
 loop-again c =
-    let at = c.before.before.before in
-    let word = at.before.before.args.word.now in (
-      omega (arith, c.more.ensures),
+    let word = c.args.word.now in (
+      omega (arith, c.more-n.ensures),
       omega arith,
-      rest_digits word at.loop.i (omega arith) at.loop.invariant.2,
-      rw c.more.ensures (one_more at.loop.n word at.loop.i (omega arith) ∙ at.loop.invariant.3),
+      rest_digits word c.loop-i.i (omega arith) c.loop-i.invariant.2,
+      rw c.more-n.ensures (one_more c.loop-i.n word c.loop-i.i (omega arith) ∙ c.loop-i.invariant.3),
     )
 
 returns : tie.Need-returns invariant-loop decreases-loop
 returns c =
-    let at = c.before in
-    let word = at.before.before.args.word.now in
-    omega (arith, at.loop.invariant.3, value_ended at.loop.n word at.loop.i (omega arith) (omega arith))
+    let word = c.args.word.now in
+    omega (arith, c.loop-i.invariant.3, value_ended c.loop-i.n word c.loop-i.i (omega arith) (omega arith))
 
 pub value_spec : {M : Type 1} → statement M
 value_spec =
