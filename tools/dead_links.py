@@ -9,7 +9,7 @@ import sys
 
 TEXTS = ["README.md", "crates.txt"] + glob.glob("docs/*.md") + glob.glob("include/*.h")
 SOURCES = [f for ending in ("rt", "antt") for f in glob.glob("crates/*/*/**/*." + ending, recursive=True)]
-KIT = {"std", "check", "libc", "io", "os", "bytes"}
+KIT = {"std"}
 
 
 def crates():
