@@ -61,7 +61,7 @@ def table():
     for path in files(".antt"):
         own = path.endswith(("/Proof.antt", "/Answers.antt", "/Invariants.antt"))
         for line in read(path).splitlines():
-            if own and re.search(r": (?:(?:\w+ )*tie\.(?:Need|invariant|decreases)|goal\.)|_spec :", line):
+            if own and re.search(r"\btie\.(?:Need|invariant|decreases)|\bgoal\.|_spec :| :$", line):
                 continue
             for name in is_declared(line, None):
                 if "-" in name and turned(name) != name and re.search("[a-z]", name):

@@ -1,10 +1,10 @@
-// The library for C and for Rust: the questions as exported functions. Nothing is asked of what is lent. An answer goes over the first
+// The library for C and for Rust: the questions as functions, which `mib_c` exports. Nothing is asked of what is lent. An answer goes over the first
 // words of a slice that the caller lends, as far as it reaches; words beyond the answer stay as they were.
 #![tactic(auto)]
 
 ghost use Rattle.std.specs.Prelude.{◌≡◌, ◌∷◌, []};
 ghost use Rattle.reader.specs.Buffers.{number_of, place_of, answered_count};
-ghost use Rattle.hint.specs.Answer.{number_of as printed-number, place_of as printed-place, length_of as printed-length};
+ghost use Rattle.hint.specs.Answer.{number_of as printed_number, place_of as printed_place, length_of as printed_length};
 ghost use Rattle.row_status.specs.RowStatus.{outcome};
 ghost use Rattle.mib.specs.Raw.{laid, step_words, ReadRaw, OctetsRaw, IntegerRaw, SetRaw};
 
@@ -67,7 +67,7 @@ fn lay_reading(reading: Reading, answer: &mut [usize])
 
 // Lays number, place and length of a printer's answer.
 fn lay_printing(printing: Printing, answer: &mut [usize])
-    ensures { answer.new ≡ laid (printed-number printing ∷ printed-place printing ∷ printed-length printing ∷ [])
+    ensures { answer.new ≡ laid (printed_number printing ∷ printed_place printing ∷ printed_length printing ∷ [])
         answer.old }
 {
     let number = printing.number() as usize;
@@ -86,8 +86,7 @@ fn lay_step(step: Step, state: u64, answer: &mut [usize])
 }
 
 // Reads a module, and lays number, place and count.
-#[unsafe(no_mangle)]
-pub extern "C" fn mib_read_raw(
+pub fn mib_read_raw(
     text: &[u8],
     records: &mut [u32],
     numbers: &mut [u32],
@@ -100,8 +99,7 @@ pub extern "C" fn mib_read_raw(
 }
 
 // Prints octets by a hint, and lays number, place and length.
-#[unsafe(no_mangle)]
-pub extern "C" fn mib_print_octets_raw(
+pub fn mib_print_octets_raw(
     hint: &[u8],
     octets: &[u8],
     out: &mut [u8],
@@ -114,8 +112,7 @@ pub extern "C" fn mib_print_octets_raw(
 }
 
 // Prints an integer by a hint, and lays the same.
-#[unsafe(no_mangle)]
-pub extern "C" fn mib_print_integer_raw(
+pub fn mib_print_integer_raw(
     hint: &[u8],
     value: i64,
     out: &mut [u8],
@@ -128,8 +125,7 @@ pub extern "C" fn mib_print_integer_raw(
 }
 
 // Answers a set of RowStatus, and lays the number and the row's next state. A flag is yes when it isn't 0.
-#[unsafe(no_mangle)]
-pub extern "C" fn mib_set_row_raw(
+pub fn mib_set_row_raw(
     state: u64,
     value: i64,
     complete: u32,

@@ -15,7 +15,6 @@ use Rattle.index.proofs.Search.{true_false, answers}
 use Rattle.index.proofs.Walk.{after_first, ends_in_time, one_rest}
 use Rattle.module_table.specs.Definition.{absent}
 use Rattle.module_table.specs.Module.{Module, at, count_of}
-use Rattle.module_table.specs.declared.Definition.{Definition}
 use Rattle.module_table.specs.declared.Lead.{Lead}
 use Rattle.module_table.specs.declared.Lead.TheVariants.{Iso, Import, Nothing}
 use Rattle.oid_head.specs.Oid.{HasOid, of_iso, of_symbol, of_definition, has_value, head_of, parts_of, is_built_in, next_head, name_of, reached_in, Reaches, reaches, name_numbers, definition_numbers, resolved_oid}

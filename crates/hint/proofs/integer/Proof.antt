@@ -68,12 +68,11 @@ same_length c = search rules
 
 returns-2 : tie.Need-returns-then-is_bad
 returns-2 c =
-    let d = c in
-    let a = (start d.before).args in
-    let clear = (zeroed d.before).clear in
-    let room = (zeroed d.before).if-out-lt64.false in
-    let why = integer_hint (length a.out.now) (hint d.before) a.value room (bad_known d.before ∙ c.if-is_bad.true) in
-    answered_refusal 64 (verdict d.before) BadHint a.out.now clear.new.out 32 0 why refl refl refl refl clear.ensures
+    let a = (start c.before).args in
+    let clear = (zeroed c.before).clear in
+    let room = (zeroed c.before).if-out-lt64.false in
+    let why = integer_hint (length a.out.now) (hint c.before) a.value room (bad_known c.before ∙ c.if-is_bad.true) in
+    answered_refusal 64 (verdict c.before) BadHint a.out.now clear.new.out 32 0 why refl refl refl refl clear.ensures
 
 in-range-requires : tie.Need-in_range-requires
 in-range-requires c κs = search rules
@@ -83,13 +82,12 @@ same-length-2 c = search rules
 
 returns-3 : tie.Need-returns-then-not-in_range
 returns-3 c =
-    let d = c in
-    let a = (start d.before.before.before).args in
-    let clear = (zeroed d.before.before.before).clear in
-    let room = (zeroed d.before.before.before).if-out-lt64.false in
+    let a = (start c.before.before.before).args in
+    let clear = (zeroed c.before.before.before).clear in
+    let room = (zeroed c.before.before.before).if-out-lt64.false in
     let outside = range_known c.before ∙ c.if-not-in_range.true in
-    let why = integer_range (length a.out.now) (hint d.before.before.before) a.value room (bad_known d.before.before.before ∙ c.if-is_bad.false) outside in
-    answered_refusal 64 (verdict d.before.before.before) OutOfRange a.out.now clear.new.out 34 0 why refl refl refl refl clear.ensures
+    let why = integer_range (length a.out.now) (hint c.before.before.before) a.value room (bad_known c.before.before.before ∙ c.if-is_bad.false) outside in
+    answered_refusal 64 (verdict c.before.before.before) OutOfRange a.out.now clear.new.out 34 0 why refl refl refl refl clear.ensures
 
 slice-relend-prefix-print-signed : tie.Need-slice_bounds-print_signed-end
 slice-relend-prefix-print-signed c = search rules
@@ -99,26 +97,23 @@ slice-aggregate-print-signed c = search rules
 
 print-signed-requires : tie.Need-print_signed-requires
 print-signed-requires c κs =
-    let d = c in
-    let usable = subst Usable (sym (form_known d.before.before.before.before)) (form_usable (hint d.before.before.before.before)) in
+    let usable = subst Usable (sym (form_known c.before.before.before.before)) (form_usable (hint c.before.before.before.before)) in
     let range = sym c.in_range.ensures ∙ c.if-not-in_range.false in
-    let kept = (zeroed d.before.before.before.before).clear.auto.out in
-    (usable, (range, omega (arith, length-take 64 (zeroed d.before.before.before.before).clear.new.out, (zeroed d.before.before.before.before).if-out-lt64.false)))
+    let kept = (zeroed c.before.before.before.before).clear.auto.out in
+    (usable, (range, omega (arith, length-take 64 (zeroed c.before.before.before.before).clear.new.out, (zeroed c.before.before.before.before).if-out-lt64.false)))
 
 same-length-3 : tie.Need-shape_of-out
 same-length-3 c = search rules
 
 returns-4 : tie.Need-returns
 returns-4 c =
-    let range = c in
-    let d = range in
-    let a = (start d.before.before.before.before.before.before.before).args in
-    let clear = (zeroed d.before.before.before.before.before.before.before).clear in
-    let room = (zeroed d.before.before.before.before.before.before.before).if-out-lt64.false in
-    let within = range_known range.before.before.before.before.before ∙ c.if-not-in_range.false in
+    let a = (start c.before.before.before.before.before.before.before).args in
+    let clear = (zeroed c.before.before.before.before.before.before.before).clear in
+    let room = (zeroed c.before.before.before.before.before.before.before).if-out-lt64.false in
+    let within = range_known c.before.before.before.before.before ∙ c.if-not-in_range.false in
     let same =
-    ap (λ (f : Form). signed f (to_z w64 (of_z w64 a.value))) (form_known d.before.before.before.before.before.before.before) ∙ ap (signed (read_form (hint d.before.before.before.before.before.before.before))) (value_known d.before.before.before.before.before.before.before) in
-    let why = integer_text (length a.out.now) (hint d.before.before.before.before.before.before.before) a.value room (bad_known d.before.before.before.before.before.before.before ∙ range.if-is_bad.false) within in
+    ap (λ (f : Form). signed f (to_z w64 (of_z w64 a.value))) (form_known c.before.before.before.before.before.before.before) ∙ ap (signed (read_form (hint c.before.before.before.before.before.before.before))) (value_known c.before.before.before.before.before.before.before) in
+    let why = integer_text (length a.out.now) (hint c.before.before.before.before.before.before.before) a.value room (bad_known c.before.before.before.before.before.before.before ∙ c.if-is_bad.false) within in
     answered_text 64 a.out.now clear.new.out clear.ensures why (wrote_as same c.print_signed.ensures)
 
 pub integer_spec : {M : Type 1} → statement M

@@ -60,10 +60,9 @@ same_length c = search rules
 
 returns-2 : tie.Need-returns-then-value-gt1024
 returns-2 c =
-    let d = c in
-    let a = (start d.before.before.before).args in
-    let why = octets_long (length a.out.now) a.hint.now a.value.now d.if-out-lt4096.false c.if-value-gt1024.true in
-    answered_refusal 4096 (verdict d.before.before.before) LongValue a.out.now d.clear.new.out 31 0 why refl refl refl refl d.clear.ensures
+    let a = (start c.before.before.before).args in
+    let why = octets_long (length a.out.now) a.hint.now a.value.now c.if-out-lt4096.false c.if-value-gt1024.true in
+    answered_refusal 4096 (verdict c.before.before.before) LongValue a.out.now c.clear.new.out 31 0 why refl refl refl refl c.clear.ensures
 
 is-hint-requires : tie.Need-is_hint-requires
 is-hint-requires c κs = search rules
@@ -73,12 +72,11 @@ same-length-2 c = search rules
 
 returns-3 : tie.Need-returns-then-not-is_hint
 returns-3 c =
-    let d = c in
-    let a = (start d.before.before.before.before.before).args in
+    let a = (start c.before.before.before.before.before).args in
     let no = sym c.is_hint.ensures ∙ c.if-not-is_hint.true in
-    let room = d.if-out-lt4096.false in
+    let room = c.if-out-lt4096.false in
     let why = octets_hint (length a.out.now) a.hint.now a.value.now room c.if-value-gt1024.false no in
-    answered_refusal 4096 (verdict d.before.before.before.before.before) BadHint a.out.now d.clear.new.out 32 0 why refl refl refl refl d.clear.ensures
+    answered_refusal 4096 (verdict c.before.before.before.before.before) BadHint a.out.now c.clear.new.out 32 0 why refl refl refl refl c.clear.ensures
 
 -- the part of the zeroed buffer has 4,096 bytes
 part_long : (d : tie.After-clear) → 4096 ≤ length (start d).args.out.now → length (take 4096 d.clear.new.out) ≡ 4096
@@ -89,14 +87,12 @@ slice-relend-prefix-print-pieces c = search rules
 
 slice-aggregate-print-pieces : tie.Need-slice_bounds-print_pieces-end-2
 slice-aggregate-print-pieces c =
-    let d = c in
-    sym (part_long d.before.before.before.before.before.before d.if-out-lt4096.false)
+    sym (part_long c.before.before.before.before.before.before c.if-out-lt4096.false)
 
 print-pieces-requires : tie.Need-print_pieces-requires
 print-pieces-requires c κs =
-    let d = c in
     let hint = sym c.is_hint.ensures ∙ c.if-not-is_hint.false in
-    (hint, (c.if-value-gt1024.false, part_long d.before.before.before.before.before.before d.if-out-lt4096.false))
+    (hint, (c.if-value-gt1024.false, part_long c.before.before.before.before.before.before c.if-out-lt4096.false))
 
 enum-known-n : tie.Need-enum_known-n
 enum-known-n c = search rules
@@ -112,26 +108,24 @@ same-length-3 c = search rules
 
 returns-4 : tie.Need-returns-in-To
 returns-4 c =
-    let d = c in
-    let clear = (zeroed d.before.before.before).clear in
-    let done = followed d.before.before.before (To c.in-To.n) c.in-To.is in
-    answered_printed 4096 (start (zeroed d.before.before.before)).args.out.now clear.new.out clear.ensures (by_printing d.before.before.before) done
+    let clear = (zeroed c.before.before.before).clear in
+    let done = followed c.before.before.before (To c.in-To.n) c.in-To.is in
+    answered_printed 4096 (start (zeroed c.before.before.before)).args.out.now clear.new.out clear.ensures (by_printing c.before.before.before) done
 
 same-length-4 : tie.Need-shape_of-out-in-Fault
 same-length-4 c = search rules
 
 returns-5 : tie.Need-returns-in-Fault
 returns-5 c =
-    let d = c in
-    let o = (start (zeroed d.before.before.before.before.before.before.before)).args.out.now in
-    let clear = (zeroed d.before.before.before.before.before.before.before).clear in
+    let o = (start (zeroed c.before.before.before.before.before.before.before)).args.out.now in
+    let clear = (zeroed c.before.before.before.before.before.before.before).clear in
     let again = c.clear-in-Fault in
     let at = c.in-Fault.place in
-    let part : List ℕ = d.print_pieces.new.out in
-    let long : length part ≡ 4096 = d.print_pieces.auto.out ∙ part_long (zeroed d.before.before.before.before.before.before.before) (zeroed d.before.before.before.before.before.before.before).if-out-lt4096.false in
-    let why = by_printing d.before.before.before.before.before.before.before ∙ fault_refusal (followed d.before.before.before.before.before.before.before (Fault at) c.in-Fault.is) in
+    let part : List ℕ = c.print_pieces.new.out in
+    let long : length part ≡ 4096 = c.print_pieces.auto.out ∙ part_long (zeroed c.before.before.before.before.before.before.before) (zeroed c.before.before.before.before.before.before.before).if-out-lt4096.false in
+    let why = by_printing c.before.before.before.before.before.before.before ∙ fault_refusal (followed c.before.before.before.before.before.before.before (Fault at) c.in-Fault.is) in
     let zeros = zeros_again 4096 o clear.new.out clear.ensures part again.new.out long again.ensures in
-    answered_refusal 4096 (verdict (zeroed d.before.before.before.before.before.before.before)) (BadOctet at) o again.new.out 33 at why refl refl refl refl zeros
+    answered_refusal 4096 (verdict (zeroed c.before.before.before.before.before.before.before)) (BadOctet at) o again.new.out 33 at why refl refl refl refl zeros
 
 pub octets_spec : {M : Type 1} → statement M
 octets_spec =

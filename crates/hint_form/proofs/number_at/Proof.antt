@@ -108,11 +108,10 @@ add-t14 c = search rules
 returns-3 : tie.Need-returns-then-not-is_digit-3
 unfolding Rattle.hint_form.specs.Hint.number_at Rattle.hint_form.specs.Hint.number_after
 returns-3 c =
-    let second = c in
     let byte = third_byte c.before in
     simp (
-      first_digit second.before.before.before.before.before.before,
-      second_digit second.before.before.before,
+      first_digit c.before.before.before.before.before.before,
+      second_digit c.before.before.before,
       third_test c.before ∙ c.if-not-is_digit-3.true,
     ) (number_is (omega arith) (omega arith))
 
@@ -134,11 +133,10 @@ add-t16 c = search rules
 returns-4 : tie.Need-returns
 unfolding Rattle.hint_form.specs.Hint.number_at Rattle.hint_form.specs.Hint.number_after
 returns-4 c =
-    let second = c in
     let byte = third_byte c.before in
     simp (
-      first_digit second.before.before.before.before.before.before,
-      second_digit second.before.before.before,
+      first_digit c.before.before.before.before.before.before,
+      second_digit c.before.before.before,
       third_test c.before ∙ c.if-not-is_digit-3.false,
     ) (number_is (omega arith) (omega arith))
 

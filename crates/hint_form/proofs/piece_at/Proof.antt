@@ -153,22 +153,20 @@ add-next-3 c =
 returns-2 : tie.Need-returns
 unfolding Rattle.hint_form.specs.Hint.found Rattle.hint_form.specs.Hint.piece_at piece_end format_place
 returns-2 c =
-    let end = c in
-    let h = text (ended end.before.before) in
-    let i = place (ended end.before.before) in
-    let ok = c in
-    let number = number_known (ended end.before.before) in
-    let format = format_known ok.before.before.before.before.before.before.before.before.before in
-    let star = end.is_starred-starred.ensures in
-    let separator = separator_known end.before.before.before in
-    let terminator = terminator_known end.before.before in
+    let h = text (ended c.before.before) in
+    let i = place (ended c.before.before) in
+    let number = number_known (ended c.before.before) in
+    let format = format_known c.before.before.before.before.before.before.before.before.before in
+    let star = c.is_starred-starred.ensures in
+    let separator = separator_known c.before.before.before in
+    let terminator = terminator_known c.before.before in
     let first : ℕ = c.mark_size.result in
     let second : ℕ = c.mark_size-2.result in
-    let next : (ended end.before.before).number_at-number.result.next + 1 + first + second ≡ piece_end h i =
+    let next : (ended c.before.before).number_at-number.result.next + 1 + first + second ≡ piece_end h i =
     ap (λ (v : Number). v.next + 1 + first + second) number
     ∙ ap (λ (k : ℕ). format_place h i + 1 + k + second) (c.mark_size.ensures ∙ ap mark_size separator)
     ∙ ap (λ (k : ℕ). format_place h i + 1 + mark_size (separator_of h i) + k) (c.mark_size-2.ensures ∙ ap mark_size terminator) in
-    simp (sym (piece_known ok.before.before.before.before.before.before) ∙ ok.if-not-is_allowed.false)
+    simp (sym (piece_known c.before.before.before.before.before.before) ∙ c.if-not-is_allowed.false)
     (λ j.
     Whole
     (record { starred = star j; size = (number j).value; format = format j; separator = separator j; terminator = terminator j })

@@ -16,8 +16,7 @@ mark-at-requires c κs = search rules
 
 returns-3 : tie.Need-returns
 returns-3 c =
-    let first = c in
-    simp (first.if-not-star.false, ne_eqb _ _ c.if-separator-eq0.false) c.mark_at.ensures
+    simp (c.if-not-star.false, ne_eqb _ _ c.if-separator-eq0.false) c.mark_at.ensures
 
 pub terminator_at_spec : {M : Type 1} → statement M
 terminator_at_spec = tie.close (tie.spec

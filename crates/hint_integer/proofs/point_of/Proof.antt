@@ -74,22 +74,20 @@ returns-3 c =
 returns-4 : tie.Need-returns-then-number-hint
 unfolding Rattle.hint_integer.specs.Form.read_point Rattle.hint_form.specs.Hint.bounded
 returns-4 c =
-    let d = c in
-    let known = front d.before.before.before in
-    let number = d.number_at-number.ensures in
-    let end : eqb (number_at (text d.before.before.before) 2).next (length (text d.before.before.before)) ≡ false =
-    ap (λ (v : Number). eqb v.next (length (text d.before.before.before))) (sym number) ∙ ne_eqb _ _ c.if-number-hint.true in
-    simp (known.0, known.1, number_fits d.before.before.before ∙ c.if-not-is_allowed.false, end)
+    let known = front c.before.before.before in
+    let number = c.number_at-number.ensures in
+    let end : eqb (number_at (text c.before.before.before) 2).next (length (text c.before.before.before)) ≡ false =
+    ap (λ (v : Number). eqb v.next (length (text c.before.before.before))) (sym number) ∙ ne_eqb _ _ c.if-number-hint.true in
+    simp (known.0, known.1, number_fits c.before.before.before ∙ c.if-not-is_allowed.false, end)
 
 returns-5 : tie.Need-returns
 unfolding Rattle.hint_integer.specs.Form.read_point Rattle.hint_form.specs.Hint.bounded
 returns-5 c =
-    let d = c in
-    let known = front d.before.before.before in
-    let number = d.number_at-number.ensures in
-    let end : eqb (number_at (text d.before.before.before) 2).next (length (text d.before.before.before)) ≡ true =
-    ap (λ (v : Number). eqb v.next (length (text d.before.before.before))) (sym number) ∙ eq-eqb _ _ c.if-number-hint.false in
-    simp (known.0, known.1, number_fits d.before.before.before ∙ c.if-not-is_allowed.false, end)
+    let known = front c.before.before.before in
+    let number = c.number_at-number.ensures in
+    let end : eqb (number_at (text c.before.before.before) 2).next (length (text c.before.before.before)) ≡ true =
+    ap (λ (v : Number). eqb v.next (length (text c.before.before.before))) (sym number) ∙ eq-eqb _ _ c.if-number-hint.false in
+    simp (known.0, known.1, number_fits c.before.before.before ∙ c.if-not-is_allowed.false, end)
     (ap (λ (v : Number). Point v.value) number)
 
 pub point_of_spec : {M : Type 1} → statement M

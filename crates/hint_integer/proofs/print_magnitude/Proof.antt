@@ -17,11 +17,10 @@ enum-known-form c = search rules
 print-digits-requires : tie.Need-print_digits-requires
 unfolding Rattle.hint_integer.specs.Signed.magnitude
 print-digits-requires c κs =
-    let start = c in
     let is = c.in-Base.is in
-    let long = ap (λ (f : Form). length (magnitude f start.args.n)) is in
-    let usable = subst Usable is start.requires.0 in
-    (usable.0, (usable.1, omega (arith, start.requires.1)))
+    let long = ap (λ (f : Form). length (magnitude f c.args.n)) is in
+    let usable = subst Usable is c.requires.0 in
+    (usable.0, (usable.1, omega (arith, c.requires.1)))
 
 enum-known-form-2 : tie.Need-enum_known-form-in-Point-1
 enum-known-form-2 c = search rules
@@ -29,10 +28,9 @@ enum-known-form-2 c = search rules
 print-pointed-requires : tie.Need-print_pointed-requires
 unfolding Rattle.hint_integer.specs.Signed.magnitude
 print-pointed-requires c κs =
-    let start = c in
     let is = c.in-Point.is in
-    let long = ap (λ (f : Form). length (magnitude f start.args.n)) is in
-    omega (arith, start.requires.1)
+    let long = ap (λ (f : Form). length (magnitude f c.args.n)) is in
+    omega (arith, c.requires.1)
 
 enum_told : tie.Need-enum_told-1
 enum_told c = search rules

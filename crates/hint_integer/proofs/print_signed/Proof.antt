@@ -40,40 +40,36 @@ put-requires c κs = search rules
 
 print-magnitude-requires : tie.Need-print_magnitude-requires
 print-magnitude-requires c κs =
-    let d = c in
-    let q = (start d.before.before.before.before.before.before).requires in
+    let q = (start c.before.before.before.before.before.before).requires in
     let put = c.put-at in
-    (q.0, omega (arith, q.1, digits_few d.before.before.before.before.before.before, put.ensures.next_is, put.auto.out))
+    (q.0, omega (arith, q.1, digits_few c.before.before.before.before.before.before, put.ensures.next_is, put.auto.out))
 
 same_length : tie.Need-shape_of-out-then-value-lt0
 same_length c = search rules
 
 returns : tie.Need-returns-then-value-lt0
 returns c =
-    let d = c in
-    let a = (start d.before.before.before.before.before.before.before.before.before).args in
-    let same = to_z-of_z (start d.before.before.before.before.before.before.before.before.before).ranges.value in
+    let a = (start c.before.before.before.before.before.before.before.before.before).args in
+    let same = to_z-of_z (start c.before.before.before.before.before.before.before.before.before).ranges.value in
     let below = ap (λ (z : ℤ). lt_z z (pos 0)) (sym same) ∙ c.if-value-lt0.true in
-    let all = ap (λ (l : List ℕ). code "-" ∷ l) (digits d.before.before.before.before.before.before.before.before.before) ∙ sym (signed_negative a.form a.value below) in
+    let all = ap (λ (l : List ℕ). code "-" ∷ l) (digits c.before.before.before.before.before.before.before.before.before) ∙ sym (signed_negative a.form a.value below) in
     let minus = c.put-at.ensures in
-    wrote_as all (wrote_more (omega (arith, (start d.before.before.before.before.before.before.before.before.before).requires.1)) minus c.print_magnitude.ensures)
+    wrote_as all (wrote_more (omega (arith, (start c.before.before.before.before.before.before.before.before.before).requires.1)) minus c.print_magnitude.ensures)
 
 print-magnitude-requires-2 : tie.Need-print_magnitude-requires-2
 print-magnitude-requires-2 c κs =
-    let d = c in
-    let q = (start d.before.before).requires in
-    (q.0, omega (arith, q.1, digits_few d.before.before))
+    let q = (start c.before.before).requires in
+    (q.0, omega (arith, q.1, digits_few c.before.before))
 
 same-length-2 : tie.Need-shape_of-out
 same-length-2 c = search rules
 
 returns-2 : tie.Need-returns
 returns-2 c =
-    let d = c in
-    let a = (start d.before.before.before.before.before).args in
-    let same = to_z-of_z (start d.before.before.before.before.before).ranges.value in
+    let a = (start c.before.before.before.before.before).args in
+    let same = to_z-of_z (start c.before.before.before.before.before).ranges.value in
     let other = ap (λ (z : ℤ). lt_z z (pos 0)) (sym same) ∙ c.if-value-lt0.false in
-    wrote_as (digits d.before.before.before.before.before ∙ sym (signed_other a.form a.value other)) c.print_magnitude-2.ensures
+    wrote_as (digits c.before.before.before.before.before ∙ sym (signed_other a.form a.value other)) c.print_magnitude-2.ensures
 
 pub print_signed_spec : {M : Type 1} → statement M
 print_signed_spec =

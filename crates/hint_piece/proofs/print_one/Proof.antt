@@ -55,9 +55,8 @@ use-octets-requires c κs = search rules
 
 print-use-requires : tie.Need-print_use-requires
 print-use-requires c κs =
-    let first = c in
-    let a = first.args in
-    let q = first.requires in
+    let a = c.args in
+    let q = c.requires in
     let long = octets_size a.piece.size a.at a.value.now in
     let same = ap length c.use_octets-octets.ensures in
     (omega (arith, q), (omega (arith, q), (omega (arith, q), omega (arith, q))))
@@ -67,19 +66,17 @@ enum-known-next c = search rules
 
 add-following-byte : tie.Need-overflow_add-at
 add-following-byte c =
-    let start = c in
-    omega (arith, start.requires, longest_small start.args.piece.format)
+    omega (arith, c.requires, longest_small c.args.piece.format)
 
 following-byte-requires : tie.Need-following_byte-mark-requires
 following-byte-requires c κs = search rules
 
 put-optional-requires : tie.Need-put_optional-requires
 put-optional-requires c κs =
-    let d = c in
-    let long = octets_long d.before.before.before.before.before in
-    let at = followed_next (followed d.before.before.before.before.before (To c.in-To.next) c.in-To.is) in
-    let kept = d.print_use.auto.out in
-    omega (arith, (start d.before.before.before.before.before).requires, text_short d.before.before.before.before.before, optional_size c.following_byte-mark.result)
+    let long = octets_long c.before.before.before.before.before in
+    let at = followed_next (followed c.before.before.before.before.before (To c.in-To.next) c.in-To.is) in
+    let kept = c.print_use.auto.out in
+    omega (arith, (start c.before.before.before.before.before).requires, text_short c.before.before.before.before.before, optional_size c.following_byte-mark.result)
 
 enum-known-place : tie.Need-enum_known-place
 enum-known-place c = search rules
@@ -90,10 +87,9 @@ same_length c = search rules
 returns : tie.Need-returns-in-To
 unfolding Rattle.hint_piece.specs.Use.one_use
 returns c =
-    let d = c in
-    let long = octets_long d.before.before.before.before.before.before.before.before in
+    let long = octets_long c.before.before.before.before.before.before.before.before in
     let byte = ap optional c.following_byte-mark.ensures in
-    followed_joined (omega (arith, (start d.before.before.before.before.before.before.before.before).requires, text_short d.before.before.before.before.before.before.before.before)) (followed d.before.before.before.before.before.before.before.before (To c.in-To.next) c.in-To.is)
+    followed_joined (omega (arith, (start c.before.before.before.before.before.before.before.before).requires, text_short c.before.before.before.before.before.before.before.before)) (followed c.before.before.before.before.before.before.before.before (To c.in-To.next) c.in-To.is)
     (wrote (wrote_as byte c.put_optional.ensures))
 
 same-length-2 : tie.Need-shape_of-out-in-Fault
@@ -102,10 +98,9 @@ same-length-2 c = search rules
 returns-2 : tie.Need-returns-in-Fault
 unfolding Rattle.hint_piece.specs.Use.one_use
 returns-2 c =
-    let d = c in
-    let a = (start d.before.before.before).args in
+    let a = (start c.before.before.before).args in
     followed_fault (printed (optional (following a.piece a.left a.value.now (a.at + a.piece.size))))
-    (followed d.before.before.before (Fault c.in-Fault.place) c.in-Fault.is)
+    (followed c.before.before.before (Fault c.in-Fault.place) c.in-Fault.is)
 
 pub print_one_spec : {M : Type 1} → statement M
 print_one_spec =

@@ -21,9 +21,8 @@ use Rattle.hint_piece.proofs.print_use.Tie as tie
 -- where the format doesn't pass characters on it prints a number
 prints_number : (d : tie.Then-not-passes_on) → NumberFormat d.args.format
 prints_number d =
-    let start = d in
     let passes = sym d.passes_on.ensures ∙ d.if-not-passes_on.true in
-    number_format start.args.format passes (omega (arith, start.requires))
+    number_format d.args.format passes (omega (arith, d.requires))
 
 -- the digits of the number that was read, at the base of the format
 digits_known : (d : tie.After-base_of-base)
@@ -44,15 +43,13 @@ base-of-requires c κs = search rules
 
 print-digits-requires : tie.Need-print_digits-requires
 print-digits-requires c κs =
-    let d = c in
-    let start = d in
-    let a = start.args in
-    let known = prints_number d.before.before.before in
-    let octets : Octets a.s.now = λ (k : ℕ). omega (arith, d.shared_slice_known-1.given k) in
-    let short = number_short (base_of a.format) a.s.now known.0 start.requires.0 octets in
-    let long = ap length (digits_known d.before) in
-    let base = d.base_of-base.ensures in
-    (omega (arith, known.0), (omega (arith, known.1), omega (arith, start.requires)))
+    let a = c.args in
+    let known = prints_number c.before.before.before in
+    let octets : Octets a.s.now = λ (k : ℕ). omega (arith, c.shared_slice_known-1.given k) in
+    let short = number_short (base_of a.format) a.s.now known.0 c.requires.0 octets in
+    let long = ap length (digits_known c.before) in
+    let base = c.base_of-base.ensures in
+    (omega (arith, known.0), (omega (arith, known.1), omega (arith, c.requires)))
 
 same_length : tie.Need-shape_of-out-then-not-passes_on
 same_length c = search rules
@@ -60,9 +57,8 @@ same_length c = search rules
 returns : tie.Need-returns-then-not-passes_on
 unfolding Rattle.hint_piece.specs.Use.use_text
 returns c =
-    let d = c in
-    simp (sym d.passes_on.ensures ∙ d.if-not-passes_on.true)
-    (wrote (wrote_as (digits_known d.before.before.before.before) c.print_digits.ensures))
+    simp (sym c.passes_on.ensures ∙ c.if-not-passes_on.true)
+    (wrote (wrote_as (digits_known c.before.before.before.before) c.print_digits.ensures))
 
 first-fault-requires : tie.Need-first_fault-requires
 first-fault-requires c κs = search rules
@@ -72,12 +68,11 @@ enum-known-i c = search rules
 
 add-t15 : tie.Need-overflow_add-result
 add-t15 c =
-    let start = c in
-    let a = start.args in
+    let a = c.args in
     let search = c.first_fault.ensures in
     let at = stuck_there (characters a.format a.s.now) c.in-At.i (sym search ∙ c.in-At.is) in
     let below = stuck_below (character_size a.format a.s.now) (length a.s.now) c.in-At.i at in
-    omega (arith, longest_small a.format, start.requires)
+    omega (arith, longest_small a.format, c.requires)
 
 returns-2 : tie.Need-returns-in-At
 unfolding Rattle.hint_piece.specs.Use.use_text
@@ -85,8 +80,7 @@ returns-2 c =
     let a = c.args in
     let search = c.first_fault.ensures in
     let at = passed_stuck a.at a.s.now (characters a.format a.s.now) c.in-At.i (sym search ∙ c.in-At.is) in
-    let test = c in
-    simp (sym test.passes_on.ensures ∙ test.if-not-passes_on.false, at) failed
+    simp (sym c.passes_on.ensures ∙ c.if-not-passes_on.false, at) failed
 
 enum_told : tie.Need-enum_told-1
 enum_told c = search rules
@@ -100,11 +94,10 @@ same-length-2 c = search rules
 returns-3 : tie.Need-returns
 unfolding Rattle.hint_piece.specs.Use.use_text
 returns-3 c =
-    let d = c in
-    let a = d.args in
+    let a = c.args in
     let told = c.in_default.is in
-    let at = passed_whole a.at a.s.now (characters a.format a.s.now) (sym d.first_fault.ensures ∙ told) in
-    simp (sym d.passes_on.ensures ∙ d.if-not-passes_on.false, at)
+    let at = passed_whole a.at a.s.now (characters a.format a.s.now) (sym c.first_fault.ensures ∙ told) in
+    simp (sym c.passes_on.ensures ∙ c.if-not-passes_on.false, at)
     (wrote c.copy.ensures)
 
 pub print_use_spec : {M : Type 1} → statement M

@@ -105,21 +105,18 @@ enum-known-place c = search rules
 
 same-length-2 : tie.Need-shape_of-out-in-Fault invariant-loop decreases-loop
 same-length-2 c =
-    let d = c in
-    d.print_one.auto.out ∙ (turn d.before.before.before).loop-left.invariant.2
+    c.print_one.auto.out ∙ (turn c.before.before.before).loop-left.invariant.2
 
 returns-2 : tie.Need-returns-in-Fault invariant-loop decreases-loop
 returns-2 c =
-    let d = c in
-    let here = (turn d.before.before.before).loop-left in
-    let done = followed d.before.before.before (Fault c.in-Fault.place) c.in-Fault.is in
-    here.invariant.0 (Fault c.in-Fault.place) d.print_one.new.out (followed_as (sym (step d.before.before.before)) refl (followed_fault (rest d.before.before.before) done))
+    let here = (turn c.before.before.before).loop-left in
+    let done = followed c.before.before.before (Fault c.in-Fault.place) c.in-Fault.is in
+    here.invariant.0 (Fault c.in-Fault.place) c.print_one.new.out (followed_as (sym (step c.before.before.before)) refl (followed_fault (rest c.before.before.before) done))
 
 add_at : tie.Need-overflow_add-at invariant-loop decreases-loop
 add_at c =
-    let d = c in
-    let first = start d.before.before.before in
-    let here = (turn d.before.before.before).loop-left in
+    let first = start c.before.before.before in
+    let here = (turn c.before.before.before).loop-left in
     omega (arith, first.requires, here.invariant.3, longest_small first.args.piece.format)
 
 loop-less : tie.Need-loop-left-smaller invariant-loop decreases-loop
@@ -127,18 +124,17 @@ loop-less c = omega (arith, c.loop-left-test.true)
 
 loop-again : tie.Need-loop-left-preserved invariant-loop decreases-loop
 loop-again c =
-    let d = c in
-    let first = start d.before.before.before in
-    let here = (turn d.before.before.before).loop-left in
-    let done = followed d.before.before.before (To c.in-To.n) c.in-To.is in
+    let first = start c.before.before.before in
+    let here = (turn c.before.before.before).loop-left in
+    let done = followed c.before.before.before (To c.in-To.n) c.in-To.is in
     let place = followed_next done in
-    let kept = d.print_one.auto.out in
+    let kept = c.print_one.auto.out in
     let room : here.next + 4 * (length first.args.value.now - here.at) ≤ length here.out = here.invariant.1 in (
       λ (r : Progress) (after : List ℕ) h. here.invariant.0 r after
-          (followed_as (sym (step d.before.before.before)) refl (followed_joined (omega (arith, short d.before.before.before)) done h)),
-      omega (arith, short d.before.before.before),
+          (followed_as (sym (step c.before.before.before)) refl (followed_joined (omega (arith, short c.before.before.before)) done h)),
+      omega (arith, short c.before.before.before),
       kept ∙ here.invariant.2,
-      omega (arith, first.requires, longest_small first.args.piece.format, d.if-value-at.false),
+      omega (arith, first.requires, longest_small first.args.piece.format, c.if-value-at.false),
     )
 
 same-length-3 : tie.Need-shape_of-out invariant-loop decreases-loop

@@ -24,8 +24,7 @@ same_length c = search rules
 
 returns-2 : tie.Need-returns
 returns-2 c =
-    let some = c in
-    wrote_as (sym (optional_some some.args.b some.if-b-eq0.false)) c.put.ensures
+    wrote_as (sym (optional_some c.args.b c.if-b-eq0.false)) c.put.ensures
 
 pub put_optional_spec : {M : Type 1} → statement M
 put_optional_spec = tie.close (tie.spec

@@ -7,32 +7,37 @@ use Rattle.outside.specs.Outside.{is_left, is_outside}
 use Rattle.outside.proofs.is_outside.Statement.{statement}
 use Rattle.outside.proofs.is_outside.Tie as tie
 
-returns : tie.Need-returns
+returns : tie.Need-returns-then-number-eq2
 unfolding is_outside
-returns c = simp (eq-eqb _ _ c.if1.true)
+returns c = simp (eq-eqb _ _ c.if-number-eq2.true)
 
-returns-2 : tie.Need-returns-2
+returns-2 : tie.Need-returns-then-number-eq10
 unfolding is_outside
-returns-2 c = simp (ne_eqb _ _ c.before.if1.false, eq-eqb _ _ c.if2.true)
+returns-2 c = simp (ne_eqb _ _ c.if-number-eq2.false, eq-eqb _ _ c.if-number-eq10.true)
 
-left-out-requires : tie.Need-left-out-requires
+left-out-requires : tie.Need-left_out-requires
 left-out-requires c κs = search rules
 
-is-left-requires : tie.Need-is-left-requires
+is-left-requires : tie.Need-is_left-requires
 is-left-requires c κs = search rules
 
-returns-3 : tie.Need-returns-3
+returns-3 : tie.Need-returns-then-number-eq7
 unfolding is_outside
 returns-3 c =
-    let asked = c.before.before in
     c.is_left.ensures
-    ∙ ap is_left c.before.left_out.ensures
-    ∙ simp (ne_eqb _ _ asked.before.before.if1.false, ne_eqb _ _ asked.before.if2.false, eq-eqb _ _ asked.if3.true)
+    ∙ ap is_left c.left_out.ensures
+    ∙ simp (ne_eqb _ _ c.if-number-eq2.false, ne_eqb _ _ c.if-number-eq10.false, eq-eqb _ _ c.if-number-eq7.true)
 
-returns-4 : tie.Need-returns-4
+returns-4 : tie.Need-returns
 unfolding is_outside
-returns-4 c = simp (ne_eqb _ _ c.before.before.if1.false, ne_eqb _ _ c.before.if2.false, ne_eqb _ _ c.if3.false)
+returns-4 c = simp (ne_eqb _ _ c.if-number-eq2.false, ne_eqb _ _ c.if-number-eq10.false, ne_eqb _ _ c.if-number-eq7.false)
 
 pub is_outside_spec : {M : Type 1} → statement M
 is_outside_spec =
-    tie.close (tie.spec returns returns-2 left-out-requires is-left-requires returns-3 returns-4)
+    tie.close (tie.spec
+    returns
+    returns-2
+    left-out-requires
+    is-left-requires
+    returns-3
+    returns-4)

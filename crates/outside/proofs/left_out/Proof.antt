@@ -9,48 +9,38 @@ use Rattle.outside.proofs.Ends.{third}
 use Rattle.outside.proofs.left_out.Statement.{statement}
 use Rattle.outside.proofs.left_out.Tie as tie
 
-returns : tie.Need-returns
+returns : tie.Need-returns-then-text-place
 unfolding left_out
-returns c = simp (le-leb _ _ c.if1.true)
+returns c = simp (le-leb _ _ c.if-text-place.true)
 
-piece-end-requires : tie.Need-piece-end-requires
+piece-end-requires : tie.Need-piece_end-end-requires
 piece-end-requires c κs = search rules
 
-piece-end-requires-2 : tie.Need-piece-end-requires-2
+piece-end-requires-2 : tie.Need-piece_end-next-requires
 piece-end-requires-2 c κs = search rules
 
-piece-end-requires-3 : tie.Need-piece-end-requires-3
+piece-end-requires-3 : tie.Need-piece_end-last-requires
 piece-end-requires-3 c κs = search rules
 
-slice-aggregate-is-word : tie.Need-slice-aggregate-is-word
-slice-aggregate-is-word c = search rules
-
-is-word-requires : tie.Need-is-word-requires
+is-word-requires : tie.Need-is_word-requires
 is-word-requires c κs = search rules
 
-returns-2 : tie.Need-returns-2
+returns-2 : tie.Need-returns-then-is_word
 unfolding left_out macro_word bytes
 returns-2 c =
-    let last = c.before.before.before in
-    let next = last.before in
-    let end = next.before in
-    let a = end.before.before.before.args in
-    let stands = third a.text.now a.place _ _ _ end.piece_end.ensures.0 next.piece-end2.ensures.0 last.piece-end3.ensures.0 in
-    simp (lt-leb _ _ end.before.if1.false, ← stands, sym c.before.is_IsWord.ensures ∙ c.if2.true)
+    let a = c.args in
+    let stands = third a.text.now a.place _ _ _ c.piece_end-end.ensures.0 c.piece_end-next.ensures.0 c.piece_end-last.ensures.0 in
+    simp (lt-leb _ _ c.if-text-place.false, ← stands, sym c.is_word.ensures ∙ c.if-is_word.true)
 
-kind-of-requires : tie.Need-kind-of-requires
+kind-of-requires : tie.Need-kind_of-requires
 kind-of-requires c κs = search rules
 
-returns-3 : tie.Need-returns-3
+returns-3 : tie.Need-returns
 unfolding left_out macro_word bytes standing
 returns-3 c =
-    let asked = c.before.before in
-    let last = asked.before.before in
-    let next = last.before in
-    let end = next.before in
-    let a = end.before.before.before.args in
-    let stands = third a.text.now a.place _ _ _ end.piece_end.ensures.0 next.piece-end2.ensures.0 last.piece-end3.ensures.0 in
-    c.kind_of.ensures ∙ simp (lt-leb _ _ end.before.if1.false, ← stands, sym asked.is_IsWord.ensures ∙ c.before.if2.false, end.piece_end.ensures.0)
+    let a = c.args in
+    let stands = third a.text.now a.place _ _ _ c.piece_end-end.ensures.0 c.piece_end-next.ensures.0 c.piece_end-last.ensures.0 in
+    c.kind_of.ensures ∙ simp (lt-leb _ _ c.if-text-place.false, ← stands, sym c.is_word.ensures ∙ c.if-is_word.false, c.piece_end-end.ensures.0)
 
 pub left_out_spec : {M : Type 1} → statement M
 left_out_spec =
@@ -60,7 +50,6 @@ left_out_spec =
     piece-end-requires
     piece-end-requires-2
     piece-end-requires-3
-    slice-aggregate-is-word
     is-word-requires
     returns-2
     kind-of-requires

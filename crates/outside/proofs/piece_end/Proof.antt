@@ -6,42 +6,37 @@ use Rattle.outside.proofs.Ends.{found_end, refused_end, past_end}
 use Rattle.outside.proofs.piece_end.Statement.{statement}
 use Rattle.outside.proofs.piece_end.Tie as tie
 
-returns : tie.Need-returns
+returns : tie.Need-returns-then-text-at
 returns c =
-    let a = c.before.before.args in
-    (past_end a.text.now a.at c.if1.true, (search rules, search rules))
+    let a = c.args in
+    (past_end a.text.now a.at c.if-text-at.true, (search rules, search rules))
 
-class-table-requires : tie.Need-class-table-requires
+class-table-requires : tie.Need-class_table-table-requires
 class-table-requires c κs = search rules
 
-lookup-table-requires : tie.Need-lookup-table-requires
+lookup-table-requires : tie.Need-lookup_table-lookup-requires
 lookup-table-requires c κs = search rules
 
-piece-at-requires : tie.Need-piece-at-requires
+piece-at-requires : tie.Need-piece_at-requires
 piece-at-requires c κs = search rules
 
-enum-known-end : tie.Need-enum-known-end
+enum-known-end : tie.Need-enum_known-end
 enum-known-end c = search rules
 
-enum_told : tie.Need-enum-told
+enum_told : tie.Need-enum_told-1
 enum_told c = search rules
 
-returns-2 : tie.Need-returns-2
+returns-2 : tie.Need-returns-in_default
 returns-2 c =
-    let asked = c.before.before in
-    let a = asked.before.before.before.before.before.before.before.args in
-    let refused = c.enum_told.given in (
-      refused_end a.text.now a.at asked.piece_at.result refused.0.0 refused.0.1.0 refused.1 asked.piece_at.ensures,
+    let a = c.args in (
+      refused_end a.text.now a.at c.piece_at.result c.in_default.field-0 c.in_default.field-1 c.in_default.is c.piece_at.ensures,
       (search rules, search rules),
     )
 
-returns-3 : tie.Need-returns-3
+returns-3 : tie.Need-returns
 returns-3 c =
-    let asked = c.before.before.before in
-    let tested = asked.before.before.before.before.before in
-    let a = tested.before.before.args in
-    let found = c.before.end.given in
-    let ends = found_end a.text.now a.at tested.if1.false found.0.0 found.0.1.0 (sym found.1 ∙ asked.piece_at.ensures) in
+    let a = c.args in
+    let ends = found_end a.text.now a.at c.if-text-at.false c.in-Piece.field-0 c.in-Piece.end (sym c.in-Piece.is ∙ c.piece_at.ensures) in
     (ends.0, (ends.1, ends.2))
 
 pub piece_end_spec : {M : Type 1} → statement M

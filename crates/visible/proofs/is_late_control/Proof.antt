@@ -26,17 +26,14 @@ byte-before-requires c κs = search rules
 returns-3 : tie.Need-returns-then-is_inside
 unfolding is_late_control
 returns-3 c =
-    let here = c in
-    let read = here in
     simp
-    (← read.byte_at-b.ensures, le-ltb _ _ read.if-b-lt128.false, le-ltb _ _ here.if-b-gt159.false, ← here.is_inside.ensures, here.if-is_inside.true, c.byte_before.ensures)
+    (← c.byte_at-b.ensures, le-ltb _ _ c.if-b-lt128.false, le-ltb _ _ c.if-b-gt159.false, ← c.is_inside.ensures, c.if-is_inside.true, c.byte_before.ensures)
 
 returns-4 : tie.Need-returns
 unfolding is_late_control
 returns-4 c =
-    let read = c in
     simp
-    (← read.byte_at-b.ensures, le-ltb _ _ read.if-b-lt128.false, le-ltb _ _ c.if-b-gt159.false, ← c.is_inside.ensures, c.if-is_inside.false)
+    (← c.byte_at-b.ensures, le-ltb _ _ c.if-b-lt128.false, le-ltb _ _ c.if-b-gt159.false, ← c.is_inside.ensures, c.if-is_inside.false)
 
 pub is_late_control_spec : {M : Type 1} → statement M
 is_late_control_spec =

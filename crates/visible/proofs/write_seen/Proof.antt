@@ -22,10 +22,7 @@ same_length c = search rules
 returns : tie.Need-returns-then-is_hidden
 unfolding seen escaped
 returns c =
-    let w = c in
-    let read = w in
-    let it = read in
-    (wrote_as (simp (← it.is_hidden.ensures, it.if-is_hidden.true, read.byte_at.ensures)) w.write_escaped.ensures, omega (arith, w.write_escaped.ensures.next_is))
+    (wrote_as (simp (← c.is_hidden.ensures, c.if-is_hidden.true, c.byte_at.ensures)) c.write_escaped.ensures, omega (arith, c.write_escaped.ensures.next_is))
 
 byte-at-requires-2 : tie.Need-byte_at-requires-2
 byte-at-requires-2 c κs = search rules
@@ -39,9 +36,7 @@ same-length-2 c = search rules
 returns-2 : tie.Need-returns
 unfolding seen
 returns-2 c =
-    let w = c in
-    let it = w in
-    (wrote_as (simp (← it.is_hidden.ensures, it.if-is_hidden.false, w.byte_at-2.ensures)) w.put.ensures, omega (arith, w.put.ensures.next_is))
+    (wrote_as (simp (← c.is_hidden.ensures, c.if-is_hidden.false, c.byte_at-2.ensures)) c.put.ensures, omega (arith, c.put.ensures.next_is))
 
 pub write_seen_spec : {M : Type 1} → statement M
 write_seen_spec =

@@ -38,12 +38,9 @@ loop-less c = search rules
 loop-again : tie.Need-loop-i-preserved invariant-loop decreases-loop
 unfolding visible
 loop-again c =
-    let w = c in
-    let turn = w in
-    let start = turn in
-    let v = turn.loop-i.invariant in
-    let p = w.write_seen-next in (
-      rw (add-one) (wrote_more (omega (arith, start.requires, v.0.next_is, v.1, v.2, turn.loop-i-test.true)) v.0 p.ensures.0),
+    let v = c.loop-i.invariant in
+    let p = c.write_seen-next in (
+      rw (add-one) (wrote_more (omega (arith, c.requires, v.0.next_is, v.1, v.2, c.loop-i-test.true)) v.0 p.ensures.0),
       search rules,
       omega (arith, v.2, p.ensures.1),
       search rules,

@@ -85,70 +85,64 @@ abbrev next_octet : tie.After-repeats_of-count invariant-loop decreases-loop →
 next_octet d = d.uses_start-start.result + d.repeats_of-count.result * (piece d.before.before).size
 
 end : (d : tie.After-repeats_of-count invariant-loop decreases-loop)
-    → let k = d in
-    next_octet d ≡ uses_end (piece k.before.before) (value k.before.before) (at k.before.before)
+    →
+    next_octet d ≡ uses_end (piece d.before.before) (value d.before.before) (at d.before.before)
 end d =
-    let k = d in
-    ap (λ (n : ℕ). n + d.repeats_of-count.result * (piece k.before.before).size) d.uses_start-start.ensures
-    ∙ ap (λ (n : ℕ). uses_start (piece k.before.before) (at k.before.before) + n * (piece k.before.before).size) d.repeats_of-count.ensures
-    ∙ uses_end_is (piece k.before.before) (value k.before.before) (at k.before.before)
+    ap (λ (n : ℕ). n + d.repeats_of-count.result * (piece d.before.before).size) d.uses_start-start.ensures
+    ∙ ap (λ (n : ℕ). uses_start (piece d.before.before) (at d.before.before) + n * (piece d.before.before).size) d.repeats_of-count.ensures
+    ∙ uses_end_is (piece d.before.before) (value d.before.before) (at d.before.before)
 
 -- the way there is short
 short : (d : tie.After-repeats_of-count invariant-loop decreases-loop) → d.repeats_of-count.result * (piece d.before.before).size ≤ 65025
 short d =
-    let k = d in
-    let small : (piece k.before.before).size ≤ 255 = omega (arith, allowed k.before.before, longest_small (piece k.before.before).format) in
+    let small : (piece d.before.before).size ≤ 255 = omega (arith, allowed d.before.before, longest_small (piece d.before.before).format) in
     omega (
       arith,
-      ap (λ (n : ℕ). n * (piece k.before.before).size) d.repeats_of-count.ensures,
-      uses_octets_small (piece k.before.before) (value k.before.before) (at k.before.before) (octets k.before.before (at k.before.before)) small,
+      ap (λ (n : ℕ). n * (piece d.before.before).size) d.repeats_of-count.ensures,
+      uses_octets_small (piece d.before.before) (value d.before.before) (at d.before.before) (octets d.before.before (at d.before.before)) small,
     )
 
 -- the uses of the piece were followed, with what they answered
 followed : (d : tie.After-print_uses invariant-loop decreases-loop) (r : Progress) → d.print_uses.result ≡ r
-    → let k = d in
-    let here = k.loop-at in
-    Followed (text k.before.before.before.before) here.pos r here.out d.print_uses.new.out
+    →
+    let here = d.loop-at in
+    Followed (text d.before.before.before.before) here.pos r here.out d.print_uses.new.out
 followed d r e =
-    let k = d in
     let start = d.uses_start-start in
     let count = d.repeats_of-count in
     followed_as
-    (ap (λ (n : ℕ). uses n (piece k.before.before.before.before) (value k.before.before.before.before) start.result) count.ensures
-    ∙ ap (λ (n : ℕ). uses (repeats (piece k.before.before.before.before) (value k.before.before.before.before) (at k.before.before.before.before)) (piece k.before.before.before.before) (value k.before.before.before.before) n) start.ensures
-    ∙ ap (λ (x : Piece). piece_text x (value k.before.before.before.before) (at k.before.before.before.before)) (there k.before.before.before.before).1)
+    (ap (λ (n : ℕ). uses n (piece d.before.before.before.before) (value d.before.before.before.before) start.result) count.ensures
+    ∙ ap (λ (n : ℕ). uses (repeats (piece d.before.before.before.before) (value d.before.before.before.before) (at d.before.before.before.before)) (piece d.before.before.before.before) (value d.before.before.before.before) n) start.ensures
+    ∙ ap (λ (x : Piece). piece_text x (value d.before.before.before.before) (at d.before.before.before.before)) (there d.before.before.before.before).1)
     e
     d.print_uses.ensures
 
 -- after a turn, wherever the next one starts
 again : (d : tie.After-struct_known-1 invariant-loop decreases-loop) (next : ℕ)
-    → let printed = d in
-    let k = printed in
-    Turned (hint k.before.before.before.before.before.before.before.before) (cursor k.before.before.before.before.before.before.before.before) next
-    → next < length (hint k.before.before.before.before.before.before.before.before)
-    → Readable (hint k.before.before.before.before.before.before.before.before) next
-    → invariant-loop (hint k.before.before.before.before.before.before.before.before) (value k.before.before.before.before.before.before.before.before) k.args.out.now 0 0 0
-    printed.print_uses.new.out next (next_octet printed.before.before.before.before.before.before) d.in-To.n
+    →
+    Turned (hint d.before.before.before.before.before.before.before.before) (cursor d.before.before.before.before.before.before.before.before) next
+    → next < length (hint d.before.before.before.before.before.before.before.before)
+    → Readable (hint d.before.before.before.before.before.before.before.before) next
+    → invariant-loop (hint d.before.before.before.before.before.before.before.before) (value d.before.before.before.before.before.before.before.before) d.args.out.now 0 0 0
+    d.print_uses.new.out next (next_octet d.before.before.before.before.before.before) d.in-To.n
 again d next turned inside whole =
-    let printed = d in
-    let k = printed in
-    let here = k.loop-at in
+    let here = d.loop-at in
     let inv = here.invariant in
-    let P : Piece = named k.before.before.before.before.before.before.before.before in
-    let done = followed printed.before.before.before.before (To d.in-To.n) d.in-To.is in
-    let room : here.pos + 4 * (length (value k.before.before.before.before.before.before.before.before) - here.at) ≤ length here.out = inv.1 in
-    let fits : Allowed P = piece_allowed (hint k.before.before.before.before.before.before.before.before) (cursor k.before.before.before.before.before.before.before.before) (there k.before.before.before.before.before.before.before.before).0 in
-    let size = uses_size P (value k.before.before.before.before.before.before.before.before) fits.0 fits.1 (octets k.before.before.before.before.before.before.before.before) (repeats P (value k.before.before.before.before.before.before.before.before) (at k.before.before.before.before.before.before.before.before)) (uses_start P (at k.before.before.before.before.before.before.before.before)) in
+    let P : Piece = named d.before.before.before.before.before.before.before.before in
+    let done = followed d.before.before.before.before (To d.in-To.n) d.in-To.is in
+    let room : here.pos + 4 * (length (value d.before.before.before.before.before.before.before.before) - here.at) ≤ length here.out = inv.1 in
+    let fits : Allowed P = piece_allowed (hint d.before.before.before.before.before.before.before.before) (cursor d.before.before.before.before.before.before.before.before) (there d.before.before.before.before.before.before.before.before).0 in
+    let size = uses_size P (value d.before.before.before.before.before.before.before.before) fits.0 fits.1 (octets d.before.before.before.before.before.before.before.before) (repeats P (value d.before.before.before.before.before.before.before.before) (at d.before.before.before.before.before.before.before.before)) (uses_start P (at d.before.before.before.before.before.before.before.before)) in
     let place = followed_next done in
-    let kept = printed.print_uses.auto.out in
-    let end₁ = end printed.before.before.before.before.before.before ∙ ap (λ (x : Piece). uses_end x (value k.before.before.before.before.before.before.before.before) (at k.before.before.before.before.before.before.before.before)) (there k.before.before.before.before.before.before.before.before).1 in
-    let near = uses_start_near P (at k.before.before.before.before.before.before.before.before) in
-    let rest : List Piece = pieces_from (hint k.before.before.before.before.before.before.before.before) next in
-    let is = uses_end_is P (value k.before.before.before.before.before.before.before.before) (at k.before.before.before.before.before.before.before.before) in
-    let step = print_turn (hint k.before.before.before.before.before.before.before.before) (value k.before.before.before.before.before.before.before.before) (cursor k.before.before.before.before.before.before.before.before) (at k.before.before.before.before.before.before.before.before) next inv.3 inv.4 (below k.before.before.before.before.before.before.before.before) turned in (
+    let kept = d.print_uses.auto.out in
+    let end₁ = end d.before.before.before.before.before.before ∙ ap (λ (x : Piece). uses_end x (value d.before.before.before.before.before.before.before.before) (at d.before.before.before.before.before.before.before.before)) (there d.before.before.before.before.before.before.before.before).1 in
+    let near = uses_start_near P (at d.before.before.before.before.before.before.before.before) in
+    let rest : List Piece = pieces_from (hint d.before.before.before.before.before.before.before.before) next in
+    let is = uses_end_is P (value d.before.before.before.before.before.before.before.before) (at d.before.before.before.before.before.before.before.before) in
+    let step = print_turn (hint d.before.before.before.before.before.before.before.before) (value d.before.before.before.before.before.before.before.before) (cursor d.before.before.before.before.before.before.before.before) (at d.before.before.before.before.before.before.before.before) next inv.3 inv.4 (below d.before.before.before.before.before.before.before.before) turned in (
       λ (r : Progress) (after : List ℕ) f. inv.0 r after
           (followed_as (sym step) refl
-          (followed_joined (omega (arith, size)) done (followed_as (ap (print_from (value k.before.before.before.before.before.before.before.before) rest) end₁) refl f))),
+          (followed_joined (omega (arith, size)) done (followed_as (ap (print_from (value d.before.before.before.before.before.before.before.before) rest) end₁) refl f))),
       omega (arith, size),
       kept ∙ inv.2,
       inside,
@@ -157,11 +151,10 @@ again d next turned inside whole =
 
 -- a turn takes an octet at least
 less : (d : tie.After-repeats_of-count invariant-loop decreases-loop)
-    → let k = d in
-    length (value k.before.before) - next_octet d < length (value k.before.before) - at k.before.before
+    →
+    length (value d.before.before) - next_octet d < length (value d.before.before) - at d.before.before
 less d =
-    let k = d in
-    omega (arith, end d, uses_end_after (piece k.before.before) (value k.before.before) (at k.before.before) (allowed k.before.before).0, below k.before.before)
+    omega (arith, end d, uses_end_after (piece d.before.before) (value d.before.before) (at d.before.before) (allowed d.before.before).0, below d.before.before)
 
 loop-holds : tie.Need-loop-at-init invariant-loop decreases-loop
 loop-holds c =
@@ -206,11 +199,10 @@ repeats-of-requires c κs = below c.before
 
 print-uses-requires : tie.Need-print_uses-requires invariant-loop decreases-loop
 print-uses-requires c κs =
-    let k = c in
     let start = c.uses_start-start.ensures in
-    let near = uses_start_near (piece k.before.before.before) (at k.before.before.before) in
-    let early : c.uses_start-start.result ≤ 1024 = omega (arith, few k.before.before.before, below k.before.before.before) in
-    (few k.before.before.before, (early, ((allowed k.before.before.before).0, ((allowed k.before.before.before).1, omega (arith, k.loop-at.invariant.1)))))
+    let near = uses_start_near (piece c.before.before.before) (at c.before.before.before) in
+    let early : c.uses_start-start.result ≤ 1024 = omega (arith, few c.before.before.before, below c.before.before.before) in
+    (few c.before.before.before, (early, ((allowed c.before.before.before).0, ((allowed c.before.before.before).1, omega (arith, c.loop-at.invariant.1)))))
 
 enum-known-n : tie.Need-enum_known-n invariant-loop decreases-loop
 enum-known-n c = search rules
@@ -220,43 +212,37 @@ enum-known-place c = search rules
 
 same-length-2 : tie.Need-shape_of-out-in-Fault invariant-loop decreases-loop
 same-length-2 c =
-    let d = c in
-    d.print_uses.auto.out ∙ d.loop-at.invariant.2
+    c.print_uses.auto.out ∙ c.loop-at.invariant.2
 
 returns-2 : tie.Need-returns-in-Fault invariant-loop decreases-loop
 returns-2 c =
-    let d = c in
-    let k = d in
-    let inv = k.loop-at.invariant in
-    let turned = turn_either (hint k.before.before.before.before.before.before.before) (cursor k.before.before.before.before.before.before.before) inv.3 inv.4 in
-    let step = print_turn (hint k.before.before.before.before.before.before.before) (value k.before.before.before.before.before.before.before) (cursor k.before.before.before.before.before.before.before) (at k.before.before.before.before.before.before.before) turned.0 inv.3 inv.4 (below k.before.before.before.before.before.before.before) turned.1 in
-    let rest : Outcome = print_from (value k.before.before.before.before.before.before.before) (pieces_from (hint k.before.before.before.before.before.before.before) turned.0) (uses_end (named k.before.before.before.before.before.before.before) (value k.before.before.before.before.before.before.before) (at k.before.before.before.before.before.before.before)) in
-    inv.0 (Fault c.in-Fault.place) d.print_uses.new.out
-    (followed_as (sym step) refl (followed_fault rest (followed d.before.before.before (Fault c.in-Fault.place) c.in-Fault.is)))
+    let inv = c.loop-at.invariant in
+    let turned = turn_either (hint c.before.before.before.before.before.before.before) (cursor c.before.before.before.before.before.before.before) inv.3 inv.4 in
+    let step = print_turn (hint c.before.before.before.before.before.before.before) (value c.before.before.before.before.before.before.before) (cursor c.before.before.before.before.before.before.before) (at c.before.before.before.before.before.before.before) turned.0 inv.3 inv.4 (below c.before.before.before.before.before.before.before) turned.1 in
+    let rest : Outcome = print_from (value c.before.before.before.before.before.before.before) (pieces_from (hint c.before.before.before.before.before.before.before) turned.0) (uses_end (named c.before.before.before.before.before.before.before) (value c.before.before.before.before.before.before.before) (at c.before.before.before.before.before.before.before)) in
+    inv.0 (Fault c.in-Fault.place) c.print_uses.new.out
+    (followed_as (sym step) refl (followed_fault rest (followed c.before.before.before (Fault c.in-Fault.place) c.in-Fault.is)))
 
 mul_at : tie.Need-overflow_mul-at invariant-loop decreases-loop
 mul_at c = omega (arith, short c.before.before.before.before.before.before)
 
 add_at : tie.Need-overflow_add-at invariant-loop decreases-loop
 add_at c =
-    let d = c in
-    let k = d in
-    let near = uses_start_near (piece k.before.before.before.before.before.before.before.before) (at k.before.before.before.before.before.before.before.before) in
-    omega (arith, short d.before.before.before.before.before.before, d.uses_start-start.ensures, below k.before.before.before.before.before.before.before.before, few k.before.before.before.before.before.before.before.before)
+    let near = uses_start_near (piece c.before.before.before.before.before.before.before.before) (at c.before.before.before.before.before.before.before.before) in
+    omega (arith, short c.before.before.before.before.before.before, c.uses_start-start.ensures, below c.before.before.before.before.before.before.before.before, few c.before.before.before.before.before.before.before.before)
 
 loop-less : tie.Need-loop-at-smaller-then-next-hint invariant-loop decreases-loop
 loop-less c = less c.before.before.before.before.before.before.before
 
 loop-again : tie.Need-loop-at-preserved-then-next-hint invariant-loop decreases-loop
 loop-again c =
-    let k = c in
-    let inv = k.loop-at.invariant in
-    let next = (there k.before.before.before.before.before.before.before.before.before).2 in
-    let inside : piece_end (hint k.before.before.before.before.before.before.before.before.before) (cursor k.before.before.before.before.before.before.before.before.before) < length (hint k.before.before.before.before.before.before.before.before.before) = omega (arith, next, c.if-next-hint.true) in
+    let inv = c.loop-at.invariant in
+    let next = (there c.before.before.before.before.before.before.before.before.before).2 in
+    let inside : piece_end (hint c.before.before.before.before.before.before.before.before.before) (cursor c.before.before.before.before.before.before.before.before.before) < length (hint c.before.before.before.before.before.before.before.before.before) = omega (arith, next, c.if-next-hint.true) in
     let readable =
-    ap (λ (n : ℕ). stuck_at (cut_from (hint k.before.before.before.before.before.before.before.before.before) n)) next ∙ stuck_step (hint k.before.before.before.before.before.before.before.before.before) (cursor k.before.before.before.before.before.before.before.before.before) inv.3 (there k.before.before.before.before.before.before.before.before.before).0 ∙ inv.4 in
-    again c.before k.in-Whole.next
-    (turn_next (hint k.before.before.before.before.before.before.before.before.before) (cursor k.before.before.before.before.before.before.before.before.before) inv.3 inv.4 inside ∙ ap (pieces_from (hint k.before.before.before.before.before.before.before.before.before)) (sym next))
+    ap (λ (n : ℕ). stuck_at (cut_from (hint c.before.before.before.before.before.before.before.before.before) n)) next ∙ stuck_step (hint c.before.before.before.before.before.before.before.before.before) (cursor c.before.before.before.before.before.before.before.before.before) inv.3 (there c.before.before.before.before.before.before.before.before.before).0 ∙ inv.4 in
+    again c.before c.in-Whole.next
+    (turn_next (hint c.before.before.before.before.before.before.before.before.before) (cursor c.before.before.before.before.before.before.before.before.before) inv.3 inv.4 inside ∙ ap (pieces_from (hint c.before.before.before.before.before.before.before.before.before)) (sym next))
     c.if-next-hint.true
     readable
 
@@ -265,10 +251,9 @@ loop-less-2 c = less c.before.before.before.before.before.before.before
 
 loop-again-2 : tie.Need-loop-at-preserved invariant-loop decreases-loop
 loop-again-2 c =
-    let k = c in
-    let inv = k.loop-at.invariant in
-    let past : length (hint k.before.before.before.before.before.before.before.before.before) ≤ piece_end (hint k.before.before.before.before.before.before.before.before.before) (cursor k.before.before.before.before.before.before.before.before.before) = omega (arith, (there k.before.before.before.before.before.before.before.before.before).2, c.if-next-hint.false) in
-    again c.before (cursor k.before.before.before.before.before.before.before.before.before) (turn_last (hint k.before.before.before.before.before.before.before.before.before) (cursor k.before.before.before.before.before.before.before.before.before) inv.3 inv.4 past) inv.3 inv.4
+    let inv = c.loop-at.invariant in
+    let past : length (hint c.before.before.before.before.before.before.before.before.before) ≤ piece_end (hint c.before.before.before.before.before.before.before.before.before) (cursor c.before.before.before.before.before.before.before.before.before) = omega (arith, (there c.before.before.before.before.before.before.before.before.before).2, c.if-next-hint.false) in
+    again c.before (cursor c.before.before.before.before.before.before.before.before.before) (turn_last (hint c.before.before.before.before.before.before.before.before.before) (cursor c.before.before.before.before.before.before.before.before.before) inv.3 inv.4 past) inv.3 inv.4
 
 same-length-3 : tie.Need-shape_of-out invariant-loop decreases-loop
 same-length-3 c = c.loop-at.invariant.2

@@ -26,9 +26,8 @@ is-integer-letter-requires c κs = search rules
 returns-2 : tie.Need-returns-then-not-is_integer_letter
 unfolding integer_fault
 returns-2 c =
-    let read = c in
     let other = sym c.is_integer_letter.ensures ∙ c.if-not-is_integer_letter.true in
-    simp (ne_eqb _ _ read.if-hint-eq0.false, rw read.byte_at.ensures at other)
+    simp (ne_eqb _ _ c.if-hint-eq0.false, rw c.byte_at.ensures at other)
 
 returns-3 : tie.Need-returns-then-hint-eq1
 unfolding integer_fault
@@ -40,8 +39,7 @@ point-fault-requires c κs = search rules
 returns-4 : tie.Need-returns
 unfolding integer_fault
 returns-4 c =
-    let letter = c in
-    simp (ne_eqb _ _ letter.if-hint-eq0.false, is_letter letter.before.before, ne_eqb _ _ c.if-hint-eq1.false)
+    simp (ne_eqb _ _ c.if-hint-eq0.false, is_letter c.before.before, ne_eqb _ _ c.if-hint-eq1.false)
     c.point_fault.ensures
 
 pub integer_fault_spec : {M : Type 1} → statement M

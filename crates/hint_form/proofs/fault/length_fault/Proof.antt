@@ -26,8 +26,7 @@ inside d = lt-leb _ _ d.if-hint-start.false
 
 no_zero : (d : tie.Else-not-is_digit) → eqb (byte_at (text d) (place d)) 48 ≡ false
 no_zero d =
-    let zero = d in
-    ne_eqb _ _ (λ e. zero.if-byte_at-eq48.false (zero.byte_at.ensures ∙ e))
+    ne_eqb _ _ (λ e. d.if-byte_at-eq48.false (d.byte_at.ensures ∙ e))
 
 is_length : (d : tie.Else-not-is_digit) → digit (byte_at (text d) (place d)) ≡ true
 is_length d = rw d.byte_at-2.ensures at (sym d.is_digit.ensures ∙ d.if-not-is_digit.false)
@@ -52,13 +51,11 @@ is-digit-requires c κs = search rules
 returns-3 : tie.Need-returns-then-not-is_digit
 unfolding length_fault
 returns-3 c =
-    let read = c in
-    let zero = read in
     let no_digit = sym c.is_digit.ensures ∙ c.if-not-is_digit.true in
     simp (
-      lt-leb _ _ zero.if-hint-start.false,
-      ne_eqb _ _ (λ e. zero.if-byte_at-eq48.false (zero.byte_at.ensures ∙ e)),
-      rw read.byte_at-2.ensures at no_digit,
+      lt-leb _ _ c.if-hint-start.false,
+      ne_eqb _ _ (λ e. c.if-byte_at-eq48.false (c.byte_at.ensures ∙ e)),
+      rw c.byte_at-2.ensures at no_digit,
     )
 
 number-at-requires : tie.Need-number_at-number-requires
@@ -70,9 +67,7 @@ add-t9 c = search rules
 returns-4 : tie.Need-returns-then-number-gt-LONGEST
 unfolding length_fault
 returns-4 c =
-    let number = c in
-    let d = number in
-    simp (inside d.before.before.before, no_zero d.before.before.before, is_length d.before.before.before, rw number.number_at-number.ensures at (lt-ltb _ _ c.if-number-gt-LONGEST.true))
+    simp (inside c.before.before.before, no_zero c.before.before.before, is_length c.before.before.before, rw c.number_at-number.ensures at (lt-ltb _ _ c.if-number-gt-LONGEST.true))
 
 format-fault-requires : tie.Need-format_fault-requires
 format-fault-requires c κs = search rules
@@ -80,10 +75,8 @@ format-fault-requires c κs = search rules
 returns-5 : tie.Need-returns
 unfolding length_fault
 returns-5 c =
-    let number = c in
-    let d = number in
-    simp (inside d.before.before.before.before, no_zero d.before.before.before.before, is_length d.before.before.before.before, rw number.number_at-number.ensures at (le-ltb _ _ c.if-number-gt-LONGEST.false))
-    (rw number.number_at-number.ensures at c.format_fault.ensures)
+    simp (inside c.before.before.before.before, no_zero c.before.before.before.before, is_length c.before.before.before.before, rw c.number_at-number.ensures at (le-ltb _ _ c.if-number-gt-LONGEST.false))
+    (rw c.number_at-number.ensures at c.format_fault.ensures)
 
 pub length_fault_spec : {M : Type 1} → statement M
 length_fault_spec =

@@ -22,18 +22,16 @@ pieces-fault-requires c κs = search rules
 returns-2 : tie.Need-returns-then-hint-le-LONGEST
 unfolding octets_fault
 returns-2 c =
-    let short = c in
-    let some = ne_eqb _ _ short.if-hint-eq0.false in
+    let some = ne_eqb _ _ c.if-hint-eq0.false in
     let is = c.pieces_fault.ensures in
-    let hint = short.args.hint.now in (
-      simp (some, le-leb _ _ short.if-hint-le-LONGEST.true) is,
-      ap is_sound is ∙ sound_short hint (omega (arith, short.if-hint-eq0.false)) short.if-hint-le-LONGEST.true,
+    let hint = c.args.hint.now in (
+      simp (some, le-leb _ _ c.if-hint-le-LONGEST.true) is,
+      ap is_sound is ∙ sound_short hint (omega (arith, c.if-hint-eq0.false)) c.if-hint-le-LONGEST.true,
     )
 
 slice-aggregate-pieces-fault : tie.Need-slice_bounds-pieces_fault-end
 slice-aggregate-pieces-fault c =
-    let long = c in
-    sym (length-take-le 255 long.args.hint.now (omega (arith, long.if-hint-le-LONGEST.false)))
+    sym (length-take-le 255 c.args.hint.now (omega (arith, c.if-hint-le-LONGEST.false)))
 
 pieces-fault-requires-2 : tie.Need-pieces_fault-requires-2
 pieces-fault-requires-2 c κs = search rules
@@ -44,10 +42,9 @@ longer-requires c κs = search rules
 returns-3 : tie.Need-returns
 unfolding octets_fault
 returns-3 c =
-    let long = c in
     let is = c.longer.ensures ∙ ap longer c.pieces_fault-2.ensures in (
-      simp (ne_eqb _ _ long.if-hint-eq0.false, lt-leb _ _ long.if-hint-le-LONGEST.false) is,
-      ap is_sound c.longer.ensures ∙ longer_unsound c.pieces_fault-2.result ∙ sym (none_long _ long.if-hint-le-LONGEST.false),
+      simp (ne_eqb _ _ c.if-hint-eq0.false, lt-leb _ _ c.if-hint-le-LONGEST.false) is,
+      ap is_sound c.longer.ensures ∙ longer_unsound c.pieces_fault-2.result ∙ sym (none_long _ c.if-hint-le-LONGEST.false),
     )
 
 pub octets_fault_spec : {M : Type 1} → statement M

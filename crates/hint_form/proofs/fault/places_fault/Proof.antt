@@ -44,12 +44,11 @@ returns-3 c = simp (no_zero c.before.before.before, is_place c.before, eq-eqb _ 
 returns-4 : tie.Need-returns-then-places-ne49
 unfolding places_fault
 returns-4 c =
-    let read = c in
     simp (
       no_zero c.before.before.before.before,
       is_place c.before.before,
       ne_eqb _ _ c.if-hint-eq3.false,
-      ne_eqb _ _ (λ e. c.if-places-ne49.true (read.byte_at-places.ensures ∙ e)),
+      ne_eqb _ _ (λ e. c.if-places-ne49.true (c.byte_at-places.ensures ∙ e)),
     )
 
 byte-at-requires-2 : tie.Need-byte_at-requires
@@ -58,40 +57,35 @@ byte-at-requires-2 c κs = search rules
 returns-5 : tie.Need-returns-then-byte_at-ne48
 unfolding places_fault
 returns-5 c =
-    let one = c in
     simp (
-      no_zero one.before.before.before.before.before.before,
-      is_place one.before.before.before.before,
-      ne_eqb _ _ one.if-hint-eq3.false,
-      is_one one.before.before,
+      no_zero c.before.before.before.before.before.before,
+      is_place c.before.before.before.before,
+      ne_eqb _ _ c.if-hint-eq3.false,
+      is_one c.before.before,
       ne_eqb _ _ (λ e. c.if-byte_at-ne48.true (c.byte_at.ensures ∙ e)),
     )
 
 returns-6 : tie.Need-returns-then-hint-eq4
 unfolding places_fault
 returns-6 c =
-    let ten = c in
-    let one = ten in
     simp (
-      no_zero one.before.before.before.before.before.before.before,
-      is_place one.before.before.before.before.before,
-      ne_eqb _ _ one.if-hint-eq3.false,
-      is_one one.before.before.before,
-      eq-eqb _ _ (sym ten.byte_at.ensures ∙ ten.if-byte_at-ne48.false),
+      no_zero c.before.before.before.before.before.before.before,
+      is_place c.before.before.before.before.before,
+      ne_eqb _ _ c.if-hint-eq3.false,
+      is_one c.before.before.before,
+      eq-eqb _ _ (sym c.byte_at.ensures ∙ c.if-byte_at-ne48.false),
       eq-eqb _ _ c.if-hint-eq4.true,
     )
 
 returns-7 : tie.Need-returns
 unfolding places_fault
 returns-7 c =
-    let ten = c in
-    let one = ten in
     simp (
-      no_zero one.before.before.before.before.before.before.before,
-      is_place one.before.before.before.before.before,
-      ne_eqb _ _ one.if-hint-eq3.false,
-      is_one one.before.before.before,
-      eq-eqb _ _ (sym ten.byte_at.ensures ∙ ten.if-byte_at-ne48.false),
+      no_zero c.before.before.before.before.before.before.before,
+      is_place c.before.before.before.before.before,
+      ne_eqb _ _ c.if-hint-eq3.false,
+      is_one c.before.before.before,
+      eq-eqb _ _ (sym c.byte_at.ensures ∙ c.if-byte_at-ne48.false),
       ne_eqb _ _ c.if-hint-eq4.false,
     )
 

@@ -20,17 +20,14 @@ byte-at-requires-2 c κs = search rules
 returns-2 : tie.Need-returns-then-byte_at-ne45
 unfolding point_fault
 returns-2 c =
-    let d = c in
-    simp (eq-eqb _ _ (sym d.byte_at.ensures ∙ d.if-byte_at-ne100.false), ne_eqb _ _ (λ e. c.if-byte_at-ne45.true (c.byte_at-2.ensures ∙ e)))
+    simp (eq-eqb _ _ (sym c.byte_at.ensures ∙ c.if-byte_at-ne100.false), ne_eqb _ _ (λ e. c.if-byte_at-ne45.true (c.byte_at-2.ensures ∙ e)))
 
 returns-3 : tie.Need-returns-then-hint-eq2
 unfolding point_fault
 returns-3 c =
-    let minus = c in
-    let d = minus in
     simp (
-      eq-eqb _ _ (sym d.byte_at.ensures ∙ d.if-byte_at-ne100.false),
-      eq-eqb _ _ (sym minus.byte_at-2.ensures ∙ minus.if-byte_at-ne45.false),
+      eq-eqb _ _ (sym c.byte_at.ensures ∙ c.if-byte_at-ne100.false),
+      eq-eqb _ _ (sym c.byte_at-2.ensures ∙ c.if-byte_at-ne45.false),
       eq-eqb _ _ c.if-hint-eq2.true,
     )
 
@@ -40,11 +37,9 @@ places-fault-requires c κs = search rules
 returns-4 : tie.Need-returns
 unfolding point_fault
 returns-4 c =
-    let minus = c in
-    let d = minus in
     simp (
-      eq-eqb _ _ (sym d.byte_at.ensures ∙ d.if-byte_at-ne100.false),
-      eq-eqb _ _ (sym minus.byte_at-2.ensures ∙ minus.if-byte_at-ne45.false),
+      eq-eqb _ _ (sym c.byte_at.ensures ∙ c.if-byte_at-ne100.false),
+      eq-eqb _ _ (sym c.byte_at-2.ensures ∙ c.if-byte_at-ne45.false),
       ne_eqb _ _ c.if-hint-eq2.false,
     ) c.places_fault.ensures
 

@@ -13,52 +13,52 @@ use Rattle.oid_tree.proofs.Counted.{long_test}
 use Rattle.oid_tree.proofs.room.judge_long.Statement.{statement}
 use Rattle.oid_tree.proofs.room.judge_long.Tie as tie
 
-abbrev invariant-loop : tie.invariant-loop
+abbrev invariant-loop : tie.invariant-loop-k
 invariant-loop definitions c k₀ k = Judging (long_by_count (definitions_in definitions)) c k
 
-abbrev decreases-loop : tie.decreases-loop
+abbrev decreases-loop : tie.decreases-loop-k
 decreases-loop definitions c k₀ k = c - k
 
-count-requires : tie.Need-count-requires invariant-loop decreases-loop
+count-requires : tie.Need-count-c-requires invariant-loop decreases-loop
 count-requires c κs = tt
 
 -- what the code tests is the rule's breach
-test : (r : tie.After-definition-at invariant-loop decreases-loop)
-    → ltb longest_oid r.definition-at.result.count ≡ (long_by_count (definitions_in r.before.before.before.before.before.args.definitions.now)).breach r.before.before.loop.k
-test r = long_test _ _ _ r.definition-at.ensures
+test : (r : tie.After-definition_at-own invariant-loop decreases-loop)
+    → ltb longest_oid r.definition_at-own.result.count ≡ (long_by_count (definitions_in r.args.definitions.now)).breach r.loop-k.k
+test r = long_test _ _ _ r.definition_at-own.ensures
 
-loop-holds : tie.Need-loop-init invariant-loop decreases-loop
+loop-holds : tie.Need-loop-k-init invariant-loop decreases-loop
 unfolding long_by_count
-loop-holds c = judging_start _ refl (sym c.count.ensures)
+loop-holds c = judging_start _ refl (sym c.count-c.ensures)
 
-definition-at-requires : tie.Need-definition-at-requires invariant-loop decreases-loop
+definition-at-requires : tie.Need-definition_at-own-requires invariant-loop decreases-loop
 definition-at-requires c κs = tt
 
-finding-at-requires : tie.Need-finding-at-requires invariant-loop decreases-loop
+finding-at-requires : tie.Need-finding_at-requires invariant-loop decreases-loop
 finding-at-requires c κs = tt
 
-returns : tie.Need-returns invariant-loop decreases-loop
+returns : tie.Need-returns-then-own-gt-LONGEST_OID invariant-loop decreases-loop
 unfolding long_by_count
 returns c =
-    let r = c.before.before.before in
-    let t = r.before in
-    judging_broken t.before.loop.invariant t.loop-test.true (test r) (lt-ltb _ _ c.before.if1.true) _ c.finding_at.ensures
+    let r = c in
+    let t = r in
+    judging_broken t.loop-k.invariant t.loop-k-test.true (test r.before.before.before) (lt-ltb _ _ c.if-own-gt-LONGEST_OID.true) _ c.finding_at.ensures
 
-add-k : tie.Need-overflow-add-k invariant-loop decreases-loop
+add-k : tie.Need-overflow_add-k invariant-loop decreases-loop
 add-k c = search rules
 
-loop-less : tie.Need-loop-smaller invariant-loop decreases-loop
-loop-less c = omega (arith, c.before.before.before.loop-test.true)
+loop-less : tie.Need-loop-k-smaller invariant-loop decreases-loop
+loop-less c = omega (arith, c.loop-k-test.true)
 
-loop-again : tie.Need-loop-preserved invariant-loop decreases-loop
+loop-again : tie.Need-loop-k-preserved invariant-loop decreases-loop
 loop-again c =
-    let r = c.before.before in
-    let t = r.before in
-    judging_next t.before.loop.invariant t.loop-test.true (test r) (le-ltb _ _ c.if1.false)
+    let r = c in
+    let t = r in
+    judging_next t.loop-k.invariant t.loop-k-test.true (test r.before.before) (le-ltb _ _ c.if-own-gt-LONGEST_OID.false)
 
-returns-2 : tie.Need-returns-2 invariant-loop decreases-loop
+returns-2 : tie.Need-returns invariant-loop decreases-loop
 unfolding long_by_count
-returns-2 c = judging_kept c.before.loop.invariant c.loop-test.false
+returns-2 c = judging_kept c.loop-k.invariant c.loop-k-test.false
 
 pub judge_long_spec : {M : Type 1} → statement M
 judge_long_spec =

@@ -31,36 +31,36 @@ counted s = omega (arith, head_count s)
 room : (s : tie.Start) → s.args.own.start.0 + length (head_numbers s ++ own_numbers s) ≤ length s.args.numbers.now
 room s = omega (arith, head_count s, length-append (head_numbers s) (own_numbers s), s.requires.1)
 
-copy-numbers-requires : tie.Need-copy-numbers-requires
+copy-numbers-requires : tie.Need-copy_numbers-requires
 copy-numbers-requires c κs = search rules
 
-add_at : tie.Need-overflow-add-at
+add_at : tie.Need-overflow_add-at
 add_at c = search rules
 
-mul-rest : tie.Need-overflow-mul-rest
+mul-rest : tie.Need-offset_bounds-numbers-at
 mul-rest c = search rules
 
-sub-rest : tie.Need-overflow-sub-rest
+sub-rest : tie.Need-slice_bounds-rest-count
 sub-rest c = search rules
 
-part-rest-start : tie.Need-slice-bounds-rest-start
+part-rest-start : tie.Need-slice_bounds-rest-start
 part-rest-start c = search rules
 
-part-rest-end : tie.Need-slice-bounds-rest-end
+part-rest-end : tie.Need-slice_bounds-rest-end
 part-rest-end c = search rules
 
-write-parts-requires : tie.Need-write-parts-requires
+write-parts-requires : tie.Need-write_parts-requires
 write-parts-requires c κs = search rules
 
-same_length : tie.Need-same-length
+same_length : tie.Need-shape_of-numbers
 same_length c = search rules
 
 returns : tie.Need-returns
 returns c =
-    let p = c.before.before in
-    let w = p.before.before.before.before.before in
-    let s = w.before.before.before.before.before in
-    laid_both s.args.own.start.0 (head_numbers s) (own_numbers s) s.args.numbers.now _ _ (room s) w.copy-numbers.ensures (counted s) _ _ p.write-parts.ensures
+    let p = c in
+    let w = p in
+    let s = w in
+    laid_both s.args.own.start.0 (head_numbers s.before.before.before.before.before.before.before.before.before.before.before.before.before.before.before) (own_numbers s.before.before.before.before.before.before.before.before.before.before.before.before.before.before.before) s.args.numbers.now _ _ (room s.before.before.before.before.before.before.before.before.before.before.before.before.before.before.before) w.copy_numbers.ensures (counted s.before.before.before.before.before.before.before.before.before.before.before.before.before.before.before) _ _ p.write_parts.ensures
 
 pub write_behind_spec : {M : Type 1} → statement M
 write_behind_spec =

@@ -10,42 +10,42 @@ use borrow.Author.Rules.{rules}
 use Rattle.oid_tree.proofs.writer.write_followed.Statement.{statement}
 use Rattle.oid_tree.proofs.writer.write_followed.Tie as tie
 
-count-requires : tie.Need-count-requires
+count-requires : tie.Need-count-left-requires
 count-requires c κs = search rules
 
-mul-rest : tie.Need-overflow-mul-rest
+mul-rest : tie.Need-offset_bounds-numbers-start
 mul-rest c = search rules
 
-sub-rest : tie.Need-overflow-sub-rest
+sub-rest : tie.Need-slice_bounds-rest-count
 sub-rest c = search rules
 
-part-rest-start : tie.Need-slice-bounds-rest-start
+part-rest-start : tie.Need-slice_bounds-rest-start
 part-rest-start c = search rules
 
-part-rest-end : tie.Need-slice-bounds-rest-end
+part-rest-end : tie.Need-slice_bounds-rest-end
 part-rest-end c = search rules
 
-write-definition-requires : tie.Need-write-definition-requires
+write-definition-requires : tie.Need-write_definition-requires
 unfolding reaches
 write-definition-requires c κs =
-    let n = c.before in
-    let s = n.before.before.before.before.before in
+    let n = c in
+    let s = n in
     let m = named_in s.args.classes.now s.args.values.now s.args.definitions.now in
     let i = s.args.at.0 in (
-      ap (λ (x : ℕ). reached_in m x (name_of s.args.k.0)) n.count.ensures ∙ s.requires.0,
+      ap (λ (x : ℕ). reached_in m x (name_of s.args.k.0)) n.count-left.ensures ∙ s.requires.0,
       laid_room i [] (resolved_oid m s.args.k.0) s.args.numbers.now s.args.numbers.now i s.requires.1 (laid_none i [] _ refl) (omega arith),
     )
 
-same_length : tie.Need-same-length
+same_length : tie.Need-shape_of-numbers
 same_length c = search rules
 
 returns : tie.Need-returns
 returns c =
-    let w = c.before.before in
-    let s = w.before.before.before.before.before.before.before in
+    let w = c in
+    let s = w in
     let m = named_in s.args.classes.now s.args.values.now s.args.definitions.now in
     let i = s.args.at.0 in
-    laid_both i [] (resolved_oid m s.args.k.0) s.args.numbers.now s.args.numbers.now i s.requires.1 (laid_none i [] _ refl) (omega arith) _ _ w.write-definition.ensures
+    laid_both i [] (resolved_oid m s.args.k.0) s.args.numbers.now s.args.numbers.now i s.requires.1 (laid_none i [] _ refl) (omega arith) _ _ w.write_definition.ensures
 
 pub write_followed_spec : {M : Type 1} → statement M
 write_followed_spec =

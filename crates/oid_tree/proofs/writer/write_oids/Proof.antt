@@ -15,73 +15,73 @@ use Rattle.overlay.proofs.Writing.{overlaid_length}
 use Rattle.oid_tree.proofs.writer.write_oids.Statement.{statement}
 use Rattle.oid_tree.proofs.writer.write_oids.Tie as tie
 
-abbrev invariant-loop : tie.invariant-loop
+abbrev invariant-loop : tie.invariant-loop-k
 invariant-loop classes values definitions numbers₀ c k₀ numbers k =
     (numbers ≡ overlaid (numbers_before (named_in classes values definitions) k) numbers₀) × (k ≤ c)
 
-abbrev decreases-loop : tie.decreases-loop
+abbrev decreases-loop : tie.decreases-loop-k
 decreases-loop classes values definitions numbers₀ c k₀ numbers k = c - k
 
-abbrev start : tie.At-loop invariant-loop decreases-loop → tie.Start invariant-loop decreases-loop
+abbrev start : tie.At-loop-k invariant-loop decreases-loop → tie.Start invariant-loop decreases-loop
 start l = l.before.before.before.before.before.before
 
 -- the module that the heads are followed in
 abbrev module_of : tie.Start invariant-loop decreases-loop → Module
 module_of s = named_in s.args.classes.now s.args.values.now s.args.definitions.now
 
-as_long : (l : tie.At-loop invariant-loop decreases-loop) → length l.loop.numbers ≡ length (start l).args.numbers.now
+as_long : (l : tie.At-loop-k invariant-loop decreases-loop) → length l.loop-k.numbers ≡ length (start l).args.numbers.now
 as_long l =
     let s = start l in
-    ap length l.loop.invariant.0
-    ∙ overlaid_length (numbers_before (module_of s) l.loop.k) s.args.numbers.now
-    (omega (arith, s.pre.1.1, before_grows (module_of s) l.loop.k (count_of (module_of s)) (omega (arith, l.loop.invariant.1, l.before.count.ensures))))
+    ap length l.loop-k.invariant.0
+    ∙ overlaid_length (numbers_before (module_of s) l.loop-k.k) s.args.numbers.now
+    (omega (arith, s.requires.1.1, before_grows (module_of s) l.loop-k.k (count_of (module_of s)) (omega (arith, l.loop-k.invariant.1, l.count-c.ensures))))
 
-count-requires : tie.Need-count-requires invariant-loop decreases-loop
+count-requires : tie.Need-count-c-requires invariant-loop decreases-loop
 count-requires c κs = tt
 
-loop-holds : tie.Need-loop-init invariant-loop decreases-loop
+loop-holds : tie.Need-loop-k-init invariant-loop decreases-loop
 unfolding numbers_before
 loop-holds c = (refl, omega arith)
 
-write-oid-requires : tie.Need-write-oid-requires invariant-loop decreases-loop
+write-oid-requires : tie.Need-write_oid-requires invariant-loop decreases-loop
 write-oid-requires c κs =
-    let t = c.before in
-    let s = start t.before in (
-      s.pre.0,
+    let t = c in
+    let s = start t.before.before in (
+      s.requires.0,
       (
-        s.pre.1.0,
+        s.requires.1.0,
         (
-          omega (arith, as_long t.before, s.pre.1.1, before_grows (module_of s) (t.before.loop.k + 1) (count_of (module_of s)) (omega (arith, t.loop-test.true, t.before.before.count.ensures))),
-          overlaid_first (numbers_before (module_of s) t.before.loop.k) s.args.numbers.now _ t.before.loop.invariant.0,
+          omega (arith, as_long t.before.before, s.requires.1.1, before_grows (module_of s) (t.loop-k.k + 1) (count_of (module_of s)) (omega (arith, t.loop-k-test.true, t.count-c.ensures))),
+          overlaid_first (numbers_before (module_of s) t.loop-k.k) s.args.numbers.now _ t.loop-k.invariant.0,
         ),
       ),
     )
 
-add-k : tie.Need-overflow-add-k invariant-loop decreases-loop
-add-k c = omega (arith, c.before.before.before.before.loop-test.true)
+add-k : tie.Need-overflow_add-k invariant-loop decreases-loop
+add-k c = omega (arith, c.loop-k-test.true)
 
-loop-less : tie.Need-loop-smaller invariant-loop decreases-loop
-loop-less c = omega (arith, c.before.before.before.before.loop-test.true)
+loop-less : tie.Need-loop-k-smaller invariant-loop decreases-loop
+loop-less c = omega (arith, c.loop-k-test.true)
 
-loop-again : tie.Need-loop-preserved invariant-loop decreases-loop
+loop-again : tie.Need-loop-k-preserved invariant-loop decreases-loop
 loop-again c =
-    let w = c.before.before in
-    let t = w.before.before in
-    let s = start t.before in (
-      w.write-oid.ensures ∙ overlaid_more (numbers_before (module_of s) t.before.loop.k) (resolved_oid (module_of s) t.before.loop.k) s.args.numbers.now _ _ t.before.loop.invariant.0 refl
-          ∙ ap (λ (l : List ℕ). overlaid l s.args.numbers.now) (sym (before_more (module_of s) t.before.loop.k)),
-      omega (arith, t.loop-test.true),
+    let w = c in
+    let t = w in
+    let s = start t.before.before.before.before.before in (
+      w.write_oid.ensures ∙ overlaid_more (numbers_before (module_of s) t.loop-k.k) (resolved_oid (module_of s) t.loop-k.k) s.args.numbers.now _ _ t.loop-k.invariant.0 refl
+          ∙ ap (λ (l : List ℕ). overlaid l s.args.numbers.now) (sym (before_more (module_of s) t.loop-k.k)),
+      omega (arith, t.loop-k-test.true),
     )
 
-same_length : tie.Need-same-length invariant-loop decreases-loop
+same_length : tie.Need-shape_of-numbers invariant-loop decreases-loop
 same_length c = as_long c.before
 
 returns : tie.Need-returns invariant-loop decreases-loop
 returns c =
-    let l = c.before in
-    let s = start l in
-    let all : l.loop.k ≡ count_of (module_of s) = omega (arith, c.loop-test.false, l.loop.invariant.1, l.before.count.ensures) in
-    l.loop.invariant.0 ∙ ap (λ (n : ℕ). overlaid (numbers_before (module_of s) n) s.args.numbers.now) all
+    let l = c in
+    let s = start l.before in
+    let all : l.loop-k.k ≡ count_of (module_of s) = omega (arith, c.loop-k-test.false, l.loop-k.invariant.1, l.count-c.ensures) in
+    l.loop-k.invariant.0 ∙ ap (λ (n : ℕ). overlaid (numbers_before (module_of s) n) s.args.numbers.now) all
 
 pub write_oids_spec : {M : Type 1} → statement M
 write_oids_spec =

@@ -33,14 +33,13 @@ loop-less c = search rules
 
 loop-again : tie.Need-loop-i-preserved-then-is_end invariant-loop decreases-loop
 loop-again c =
-    let here = c in
-    let text = here.args.text.now in
+    let text = c.args.text.now in
     let ends = sym c.is_end.ensures ∙ c.if-is_end.true in (
       search rules,
       search rules,
       search rules,
-      ap (λ (n : ℕ). n + 1) here.loop-i.invariant.3 ∙ sym (line_more text here.loop-i.i ends),
-      sym (start_more text here.loop-i.i ends),
+      ap (λ (n : ℕ). n + 1) c.loop-i.invariant.3 ∙ sym (line_more text c.loop-i.i ends),
+      sym (start_more text c.loop-i.i ends),
     )
 
 add-i-2 : tie.Need-overflow_add-i-else-is_end invariant-loop decreases-loop
@@ -51,22 +50,20 @@ loop-less-2 c = search rules
 
 loop-again-2 : tie.Need-loop-i-preserved invariant-loop decreases-loop
 loop-again-2 c =
-    let here = c in
-    let text = here.args.text.now in
+    let text = c.args.text.now in
     let goes_on = sym c.is_end.ensures ∙ c.if-is_end.false in (
       search rules,
       search rules,
       search rules,
-      here.loop-i.invariant.3 ∙ sym (line_same text here.loop-i.i goes_on),
-      here.loop-i.invariant.4 ∙ sym (start_same text here.loop-i.i goes_on),
+      c.loop-i.invariant.3 ∙ sym (line_same text c.loop-i.i goes_on),
+      c.loop-i.invariant.4 ∙ sym (start_same text c.loop-i.i goes_on),
     )
 
 returns : tie.Need-returns invariant-loop decreases-loop
 returns c =
-    let here = c in
-    let text = here.args.text.now in
-    let end : here.loop-i.i ≡ here.args.place = omega arith in
-    (here.loop-i.invariant.3 ∙ ap (line_at text) end, (here.loop-i.invariant.4 ∙ ap (start_at text) end, omega arith))
+    let text = c.args.text.now in
+    let end : c.loop-i.i ≡ c.args.place = omega arith in
+    (c.loop-i.invariant.3 ∙ ap (line_at text) end, (c.loop-i.invariant.4 ∙ ap (start_at text) end, omega arith))
 
 pub locate_spec : {M : Type 1} → statement M
 locate_spec =

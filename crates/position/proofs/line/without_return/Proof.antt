@@ -19,14 +19,12 @@ sub-result c = search rules
 returns : tie.Need-returns-then-byte_at-eq-CARRIAGE_RETURN
 unfolding without_return
 returns c =
-    let read = c in
-    (simp (lt-ltb _ _ read.if-place-end.true, ← read.byte_at.ensures, eq-eqb _ _ c.if-byte_at-eq-CARRIAGE_RETURN.true), (omega arith, omega arith))
+    (simp (lt-ltb _ _ c.if-place-end.true, ← c.byte_at.ensures, eq-eqb _ _ c.if-byte_at-eq-CARRIAGE_RETURN.true), (omega arith, omega arith))
 
 returns-2 : tie.Need-returns-else-byte_at-eq-CARRIAGE_RETURN
 unfolding without_return
 returns-2 c =
-    let read = c in
-    (simp (lt-ltb _ _ read.if-place-end.true, ← read.byte_at.ensures, ne_eqb _ _ c.if-byte_at-eq-CARRIAGE_RETURN.false), (omega arith, omega arith))
+    (simp (lt-ltb _ _ c.if-place-end.true, ← c.byte_at.ensures, ne_eqb _ _ c.if-byte_at-eq-CARRIAGE_RETURN.false), (omega arith, omega arith))
 
 returns-3 : tie.Need-returns-else-place-end
 unfolding without_return

@@ -34,10 +34,9 @@ loop-less c = search rules
 
 loop-again : tie.Need-loop-i-preserved-then-is_inside invariant-loop decreases-loop
 loop-again c =
-    let here = c in
-    let a = here.args in
+    let a = c.args in
     let inside = sym c.is_inside.ensures ∙ c.if-is_inside.true in
-    (search rules, search rules, search rules, passed a.text.now here.loop-i.out a.start here.loop-i.n here.loop-i.i inside here.loop-i.invariant.3)
+    (search rules, search rules, search rules, passed a.text.now c.loop-i.out a.start c.loop-i.n c.loop-i.i inside c.loop-i.invariant.3)
 
 add-byte-at : tie.Need-overflow_add-start-else-is_inside invariant-loop decreases-loop
 add-byte-at c = search rules
@@ -62,11 +61,10 @@ loop-less-2 c = search rules
 
 loop-again-2 : tie.Need-loop-i-preserved invariant-loop decreases-loop
 loop-again-2 c =
-    let here = c in
-    let a = here.args in
+    let a = c.args in
     let starts = sym c.is_inside.ensures ∙ c.if-is_inside.false in
     let byte = c.below.ensures ∙ ap below c.byte_at.ensures in
-    let laid = marked a.text.now here.loop-i.out a.start here.loop-i.n here.loop-i.i (omega arith) starts here.loop-i.invariant.3 in
+    let laid = marked a.text.now c.loop-i.out a.start c.loop-i.n c.loop-i.i (omega arith) starts c.loop-i.invariant.3 in
     (search rules, search rules, search rules, rw byte laid)
 
 same_length : tie.Need-shape_of-out invariant-loop decreases-loop
@@ -74,10 +72,9 @@ same_length c = search rules
 
 returns : tie.Need-returns invariant-loop decreases-loop
 returns c =
-    let here = c in
-    let a = here.args in
-    let end : here.loop-i.i ≡ a.count = omega arith in
-    (search rules, here.loop-i.invariant.3 ∙ ap (margin a.text.now a.start) end)
+    let a = c.args in
+    let end : c.loop-i.i ≡ a.count = omega arith in
+    (search rules, c.loop-i.invariant.3 ∙ ap (margin a.text.now a.start) end)
 
 pub write_margin_spec : {M : Type 1} → statement M
 write_margin_spec =
