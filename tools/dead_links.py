@@ -14,7 +14,7 @@ KIT = {"std"}
 
 def crates():
     with open("crates.txt") as file:
-        return [line.split(":")[0] for line in file if ":" in line and not line.startswith("#")]
+        return [line.split(":")[0].split()[0] for line in file if ":" in line and not line.startswith("#")]
 
 
 def code_of(crate):
