@@ -20,7 +20,7 @@
  * The library allocates nothing, keeps nothing between calls, opens nothing and prints nothing, so calls may run in
  * several threads at once, with buffers of their own. mib_read works on the stack: see MIB_STACK_BYTES.
  *
- * Link target/staticlib/libmib.a, which `rt staticlib mib` writes. It is for x86-64.
+ * Link target/staticlib/libmib.a, which `tools/staticlib` writes. It is for x86-64.
  */
 #ifndef MIB_H
 #define MIB_H

@@ -9,12 +9,12 @@ import sys
 
 TEXTS = ["README.md", "crates.txt"] + glob.glob("docs/*.md") + glob.glob("include/*.h")
 SOURCES = [f for ending in ("rt", "antt") for f in glob.glob("crates/*/*/**/*." + ending, recursive=True)]
-KIT = {"std", "check", "libc", "io", "os", "bytes"}
+KIT = {"std"}
 
 
 def crates():
     with open("crates.txt") as file:
-        return [line.split(":")[0] for line in file if ":" in line and not line.startswith("#")]
+        return [line.split(":")[0].split()[0] for line in file if ":" in line and not line.startswith("#")]
 
 
 def code_of(crate):

@@ -364,9 +364,9 @@ class Printer:
         lines += [
             "    []",
             "",
-            "unfoldable pub module-automaton : Automaton",
+            "unfoldable pub module_automaton : Automaton",
             "unfolding transitions",
-            "module-automaton =",
+            "module_automaton =",
             f"    record {{ states = {len(a.rules)}; width = terminals; table = dense terminals transitions; start = 1; accepting = {a.accepting} }}",
             "",
         ]

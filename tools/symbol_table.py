@@ -14,7 +14,10 @@ from pathlib import Path
 ROOT = Path(__file__).resolve().parent.parent
 SYMBOLS = ROOT / "crates/symbol/specs/Symbol.antt"
 TABLE = ROOT / "crates/symbol/src/table.rt"
-OFFERED = ["of-smi", "of-tc"]
+OFFERED = ["of_smi", "of_tc"]
+
+# How wide rt fmt makes a line.
+LINE = 100
 
 
 def defined(text, name):
@@ -34,14 +37,14 @@ def symbols(text):
     """Each symbol: its name, its module's index, what it is, its numbers."""
     internet = numbers_in(defined(text, "internet"))
     found = []
-    for offered, name, what in re.findall(r'(of-smi|of-tc) "([^"]+)" (.*)', defined(text, "symbols")):
+    for offered, name, what in re.findall(r'(of_smi|of_tc) "([^"]+)" (.*)', defined(text, "symbols")):
         module = OFFERED.index(offered)
         if what == "macro":
             found.append((name, module, "Sort::Macro", []))
         elif what.startswith("(type "):
             kind = re.fullmatch(r"\(type (\S+)\)", what).group(1)
             found.append((name, module, f"Sort::Type({int(defined(text, kind))})", []))
-        elif what.startswith("(below-internet "):
+        elif what.startswith("(below_internet "):
             found.append((name, module, "Sort::Oid", internet + numbers_in(what)))
         elif what.startswith("(oid "):
             found.append((name, module, "Sort::Oid", numbers_in(what)))
@@ -59,8 +62,16 @@ def entries(values, notes):
 
 
 def spelled(names):
-    """The names' bytes, one after the other."""
-    return [f"    b'{byte}'," + (f" // {name}" if i == 0 else "") for name in names for i, byte in enumerate(name)]
+    """The names' bytes, one after the other, as rt fmt lays them out: as many a line as fit, up to one with a comment."""
+    lines, line = [], ""
+    for name in names:
+        for i, byte in enumerate(name):
+            line += f" b'{byte}'," if line else f"    b'{byte}',"
+            if i == 0:
+                line += f" // {name}"
+            if i == 0 or len(line) + len(" b'x',") > LINE:
+                lines, line = lines + [line], ""
+    return lines + [line] * bool(line)
 
 
 def starts(lists, notes):
@@ -73,7 +84,7 @@ def table():
     text = SYMBOLS.read_text()
     names, offered, sorts, oids = zip(*symbols(text))
     modules = names_in(defined(text, "modules"))
-    iso = names_in(defined(text, "iso-name"))
+    iso = names_in(defined(text, "iso_name"))
     bytes_in_names = sum(map(len, names))
     lines = ["// The tables of the built-in symbols, as tools/symbol_table.py prints them.", "use crate::Sort;", ""]
     lines += ["// How many symbols there are.", f"pub const SYMBOLS: usize = {len(names)};", ""]

@@ -2,7 +2,8 @@
 """Names that an antt or Rattle file brings in and doesn't use.
 
 unused_imports.py [--fix] [FOLDER...]     default: crates
-Lists them, a line a file, and exits 1 where there are any; with --fix it takes them out of the `use` lines.
+Lists them, a line a file, and exits 1 where there are any; with --fix it takes them out of the `use` lines. What rt makes, in the folders
+out, is not read.
 """
 import pathlib
 import re
@@ -25,8 +26,8 @@ def words_of(text):
 
 
 def is_used(name, words, body):
-    """A name with places for arguments, as _+_, is used where each of its parts stands; one of marks alone, as [], where it does."""
-    parts = [part for part in name.split("_") if part]
+    """A name with places for arguments, as ◌+◌, is used where each of its parts stands; one of marks alone, as [], where it does."""
+    parts = [part for part in name.split("◌") if part]
     if all(part in words for part in parts):
         return True
     return not any(character.isalnum() for character in name) and all(part in body for part in parts)
@@ -71,7 +72,7 @@ def main():
     found = False
     for folder in folders:
         for path in sorted(pathlib.Path(folder).rglob("*")):
-            if path.suffix not in (".antt", ".rt") or not path.is_file():
+            if path.suffix not in (".antt", ".rt") or "out" in path.parts or not path.is_file():
                 continue
             text, unused = cleaned(path)
             if unused:

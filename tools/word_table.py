@@ -24,13 +24,13 @@ def multipliers():
     """The numbers of the hash: those by which first byte, last byte and length count, and the number of slots."""
     text = WORDS.read_text()
     hashing = re.search(r"^slot first last size = .*$", text, re.M).group()
-    size = re.search(r"^slot-count = (\d+)$", text, re.M).group(1)
+    size = re.search(r"^slot_count = (\d+)$", text, re.M).group(1)
     return [int(n) for n in re.findall(r"(\d+) \*", hashing)] + [int(size)]
 
 
 def row_width():
     """How many bytes the row of a word has."""
-    return int(re.search(r"^row-width = (\d+)$", WORDS.read_text(), re.M).group(1))
+    return int(re.search(r"^row_width = (\d+)$", WORDS.read_text(), re.M).group(1))
 
 
 def slot(word, first, last, length, size):
@@ -52,7 +52,7 @@ def table():
         slots[place] = word
     width = row_width()
     if max(map(len, found)) + 1 != width:
-        sys.exit(f"word_table: the longest word has {max(map(len, found))} bytes; row-width in {WORDS.name} is one more")
+        sys.exit(f"word_table: the longest word has {max(map(len, found))} bytes; row_width in {WORDS.name} is one more")
     lines = [
         "// The table by which words are looked up, as tools/word_table.py prints it.",
         "",

@@ -4,7 +4,7 @@
  *
  * Build and run, in the repository:
  *
- *   rt staticlib mib
+ *   tools/staticlib
  *   cc -std=c99 -I include examples/c/read_module.c target/staticlib/libmib.a -o target/read_module
  *   target/read_module examples/QUAY-UPS-MIB
  *

@@ -17,7 +17,7 @@ fn main() {
     println!("cargo:rerun-if-changed={}", archive.display());
     if !archive.is_file() {
         eprintln!(
-            "mib: {} is missing. Run `rt staticlib mib` in the repository, which writes it to target/staticlib, \
+            "mib: {} is missing. Run `tools/staticlib` in the repository, which writes it to target/staticlib, \
              or set MIB_LIBRARY_DIR to the folder that holds libmib.a.",
             archive.display()
         );

@@ -129,21 +129,30 @@ $(line printed -0.05)" ] && [ "$(grep -c 'proving and linking the programs' "$sc
 }
 
 # prepare proves all at once, says how far it is, that it is done once and where the log is; after it nothing waits. A kit that is slow
-# stands in for the real one, and has two crates proved at once.
+# stands in for the real one: it proves what a program stands on, and has a line for each crate that is proved.
 test_front_prepare() {
     mkdir "$scratch/bin" "$scratch/copy" "$scratch/copy/crates"
+    for program in card card_words explain shelf tokens hint_tool row; do
+        mkdir "$scratch/copy/crates/$program"
+    done
     cp mib "$scratch/copy"
     printf '%s\n' 'base:' 'card: base' 'card_words: base' 'explain: base' 'shelf: base' 'tokens: base' 'hint_tool: base' 'row: base more' 'more: a b c' 'apart: base' 'a: base' 'b: base' 'c:' >"$scratch/copy/crates.txt"
     cat >"$scratch/bin/rt" <<'END OF TEXT'
 #!/bin/sh
-mkdir -p target/bin
-for crate in base a b c more card card_words explain shelf tokens; do echo "rt: $crate proved (1 s)"; done
-sleep 3
-for crate in hint_tool row; do echo "rt: $crate proved (1 s)"; done
-for program in card card_words explain shelf tokens hint_tool row; do
-    printf '#!/bin/sh\necho answered; echo 0 >&3\n' >"target/bin/$program"
-    chmod +x "target/bin/$program"
-done
+program=$(basename "$PWD")
+proved() { for crate in "$@"; do echo "logic=proved functions=1"; done; }
+case $program in
+card) proved base ;;
+row)
+    proved a b c
+    sleep 3
+    proved more
+    ;;
+esac
+mkdir -p out
+printf '#!/bin/sh\necho answered; echo 0 >&3\n' >"out/$program"
+chmod +x "out/$program"
+proved "$program"
 END OF TEXT
     chmod +x "$scratch/bin/rt"
     PATH=$scratch/bin:$PATH "$scratch/copy/mib" prepare >"$scratch/output" 2>"$scratch/errors" </dev/null
@@ -164,7 +173,7 @@ END OF TEXT
 # Without rt, and with sources that are newer than the build, mib says what to install. Where nothing can be written, it says so in a
 # sentence.
 test_front_building_refused() {
-    cp -R mib crates.txt crates "$scratch"
+    tar --exclude=out -cf - mib crates.txt crates | tar -xf - -C "$scratch"
     PATH=/usr/bin:/bin "$scratch/mib" row 3 no yes >"$scratch/output" 2>"$scratch/errors" </dev/null
     [ $? = 2 ] && [ ! -s "$scratch/output" ] && grep -q 'install the Rattle kit' "$scratch/errors"
     report "mib without rt" "$?"

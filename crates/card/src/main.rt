@@ -12,6 +12,7 @@ ghost use Rattle.card.specs.Page.{longest_path, page_size, full};
 use card_line::{write_head, write_record};
 use output::Output;
 use reader::{Answer, FILE_BYTES, NUMBER_WORDS, RECORD_WORDS};
+use std::io;
 
 // Once the page holds so many bytes it is written out. Behind them there is room for what comes next, which is a line at most.
 const FULL: usize = 8192;
@@ -23,22 +24,25 @@ struct Laid {
     out: Output,
 }
 
-fn main() {
-    let count = os::arg_count();
-    let out = start(count);
+// How many bytes a file's name may have.
+const NAME: usize = 4096;
+
+fn main(rt: HostRuntime) {
+    let count = command::count_arguments(&rt);
+    let out = start(&rt, count);
     let mut page = [0u8; 16384];
     let mut laid = Laid { at: 0, out };
     let mut i = 1;
     while i < count {
-        laid = print_argument(i, 2 < count, &mut page, laid);
+        laid = print_argument(&rt, i, 2 < count, &mut page, laid);
         i += 1;
     }
     let done = write_out(&page, laid);
-    output::finish(done.out);
+    output::finish(&rt, done.out);
 }
 
-fn start(count: usize) -> Output {
-    output::start_on_files(count, b"mib card", b"mib card FILE...")
+fn start(rt: &HostRuntime, count: usize) -> Output {
+    output::start_on_files(rt, count, b"mib card", b"mib card FILE...")
 }
 
 // More is laid, up to this place.
@@ -84,30 +88,30 @@ fn make_room(page: &[u8], laid: Laid) -> Laid
 }
 
 // Says why a file cannot be read. What is laid is written out first, so that the two stand in order on a terminal.
-fn fail(page: &[u8], laid: Laid, name: &[u8]) -> Laid
+fn fail(page: &[u8], laid: Laid, error: io::Error, name: &[u8]) -> Laid
     requires { laid.at ≤ length page.now }
     ensures { result.at ≡ 0 }
 {
     let done = write_out(page, laid);
     Laid {
         at: 0,
-        out: output::fail(done.out, name),
+        out: output::fail(done.out, error, name),
     }
 }
 
 // Lays the card of the file that argument i names into the page, behind a line with its name where it is named; or says why the file
 // cannot be read.
-fn print_argument(i: usize, named: bool, page: &mut [u8], laid: Laid) -> Laid
+fn print_argument(rt: &HostRuntime, i: usize, named: bool, page: &mut [u8], laid: Laid) -> Laid
     requires size { length page.old ≡ page_size }
     requires inside { laid.at ≤ page_size }
     ensures { result.at ≤ page_size }
 {
-    let mut name = io::buffer();
+    let mut name = [0u8; NAME];
     let mut buf = [0u8; FILE_BYTES];
-    let file = command::read_argument(i, &mut name, &mut buf);
+    let file = command::read_argument(rt, i, &mut name, &mut buf);
     let n = file.name;
-    if file.failed {
-        return fail(page, laid, &name[0..n]);
+    if let Some(error) = file.failure {
+        return fail(page, laid, error, &name[0..n]);
     }
     let count = file.count;
     if named {

@@ -1,5 +1,5 @@
 // Columns: with a tab behind each, or at a terminal with blanks up to the next.
-use crate::{RECORDS, record_at};
+use crate::{LINE, RECORDS, record_at};
 use output::{Output, print};
 
 // How wide each column is. 0 is one that is not aligned.
@@ -68,7 +68,7 @@ fn longest_in(records: &[u32], numbers: &[u32]) -> Longest {
 // The same with one record more.
 fn with_record(longest: Longest, words: &[u32], numbers: &[u32]) -> Longest {
     let name = card_line::word(words, card_line::NAME_LENGTH) as usize;
-    let mut line = io::buffer();
+    let mut line = [0u8; LINE];
     let oid = card_line::write_oid_of(words, numbers, &mut line, 0);
     Longest {
         name: larger(longest.name, name),

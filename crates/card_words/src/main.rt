@@ -16,29 +16,35 @@ use reader::{Answer, FILE_BYTES, NUMBER_WORDS, RECORD_WORDS};
 // The most records that there are.
 const RECORDS: usize = RECORD_WORDS / records::WIDTH;
 
-fn main() {
-    let count = os::arg_count();
-    let mut out = start(count);
+// How many bytes a file's name may have.
+const NAME: usize = 4096;
+
+// How many bytes the numbers of an OID may take.
+const LINE: usize = 4096;
+
+fn main(rt: HostRuntime) {
+    let count = command::count_arguments(&rt);
+    let mut out = start(&rt, count);
     let mut i = 1;
     while i < count {
-        out = print_argument(i, 2 < count, out);
+        out = print_argument(&rt, i, 2 < count, out);
         i += 1;
     }
-    output::finish(out);
+    output::finish(&rt, out);
 }
 
-fn start(count: usize) -> Output {
-    output::start_on_files(count, b"mib card", b"mib card --words FILE...")
+fn start(rt: &HostRuntime, count: usize) -> Output {
+    output::start_on_files(rt, count, b"mib card", b"mib card --words FILE...")
 }
 
 // Prints the card of the file that argument i names, behind a line with its name where it is named; or says why it cannot be read.
-fn print_argument(i: usize, named: bool, out: Output) -> Output {
-    let mut name = io::buffer();
+fn print_argument(rt: &HostRuntime, i: usize, named: bool, out: Output) -> Output {
+    let mut name = [0u8; NAME];
     let mut buf = [0u8; FILE_BYTES];
-    let file = command::read_argument(i, &mut name, &mut buf);
+    let file = command::read_argument(rt, i, &mut name, &mut buf);
     let n = file.name;
-    if file.failed {
-        return output::fail(out, &name[0..n]);
+    if let Some(error) = file.failure {
+        return output::fail(out, error, &name[0..n]);
     }
     let count = file.count;
     if named {
@@ -115,7 +121,7 @@ fn print_definition(
     let kind = card_line::word(words, card_line::KIND);
     let out = meaning::print_kind(kind, widths.kind, out);
     let out = print_column(card_line::name_of(text, words), widths.name, out);
-    let mut line = io::buffer();
+    let mut line = [0u8; LINE];
     let end = card_line::write_oid_of(words, numbers, &mut line, 0);
     print_column(&line[0..end], widths.oid, out)
 }

@@ -19,7 +19,7 @@ pub record PartWithin (from to size : ℕ) : Type 0 where
 abbrev pub LineWithin : Line → ℕ → Type 0
 LineWithin (line.At from to rest) size = PartWithin from to size × LinesWithin rest size
 LineWithin (line.TooLong rest) size = LinesWithin rest size
-LineWithin line.Failed size = Unit {0}
+LineWithin (line.Failed error) size = Unit {0}
 LineWithin line.End size = Unit {0}
 
 -- the number that stands for no line

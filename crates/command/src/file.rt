@@ -1,13 +1,29 @@
 // The bytes of a file.
-ghost use Rattle.io.specs.Counts.{IsPrefixLen};
+ghost use Rattle.std.specs.Prelude.{◌≡◌, ◌≤◌, length};
 
-use libc::STDIN_FILENO;
+use std::fs::File;
+use std::io::{ErrorKind, Read};
+use std::rt::Files;
+use std::{io, str};
 
-// What a file holds: so many bytes, at the start of the buffer; or it cannot be opened or read, and errno says why.
+// The system's number for an argument that it does not take.
+const EINVAL: i32 = 22;
+
+// What a file holds: so many bytes, at the start of the buffer; or why it cannot be opened or read.
 #[derive(Clone, Copy)]
 pub struct Content {
     pub count: usize,
-    pub failed: bool,
+    pub failure: Option<io::Error>,
+}
+
+// A file that cannot be opened or read.
+fn unread(error: io::Error) -> Content
+    ensures { result.count ≡ 0 }
+{
+    Content {
+        count: 0,
+        failure: Some(error),
+    }
 }
 
 // Whether a name is that of standard input: a hyphen.
@@ -19,56 +35,54 @@ fn is_standard_input(name: &[u8]) -> bool {
 }
 
 // Reads what a word names until it ends or buf is full: standard input, or the file of that name.
-pub fn read_named(name: &[u8], buf: &mut [u8]) -> Content
-    ensures { IsPrefixLen result.count buf.new }
+pub fn read_named(rt: &(impl Files + Input), name: &[u8], buf: &mut [u8]) -> Content
+    ensures { result.count ≤ length buf.new }
 {
     if is_standard_input(name) {
-        return read_all(STDIN_FILENO, buf);
+        let mut input = rt.reader();
+        return read_all(&mut input, buf);
     }
-    read_file(name, buf)
+    read_file(rt, name, buf)
 }
 
 // Reads the file of that name until it ends or buf is full.
-pub fn read_file(name: &[u8], buf: &mut [u8]) -> Content
-    ensures { IsPrefixLen result.count buf.new }
+pub fn read_file(rt: &impl Files, name: &[u8], buf: &mut [u8]) -> Content
+    ensures { result.count ≤ length buf.new }
 {
-    let fd = os::open_read(name);
-    if fd < 0 {
-        return Content {
-            count: 0,
-            failed: true,
-        };
+    match open(rt, name) {
+        Ok(file) => {
+            let mut input = file;
+            read_all(&mut input, buf)
+        }
+        Err(error) => unread(error),
     }
-    let content = read_all(fd, buf);
-    libc::close(fd);
-    content
+}
+
+// Opens the file of that name. A name that no file can have, by a byte 0 in it, is refused as the system does.
+fn open<R: Files>(rt: &R, name: &[u8]) -> io::Result<R::File> {
+    if name.contains(&0) {
+        return Err(io::Error::from_raw_os_error(EINVAL));
+    }
+    match str::from_utf8(name) {
+        Ok(path) => File::open(rt, path),
+        Err(_) => Err(io::Error::new(ErrorKind::InvalidInput, "the name is not UTF-8")),
+    }
 }
 
 // Reads until the input ends or buf is full.
-fn read_all(fd: i32, buf: &mut [u8]) -> Content
-    ensures { IsPrefixLen result.count buf.new }
+fn read_all<R: Read>(input: &mut R, buf: &mut [u8]) -> Content
+    ensures { result.count ≤ length buf.new }
 {
     let mut n = 0;
     while n < buf.len() {
-        let rest = &mut buf[n..];
-        let got = libc::read(fd, rest);
-        if got < 0 {
-            return Content {
-                count: 0,
-                failed: true,
-            };
+        match input.read(&mut buf[n..]) {
+            Ok(0) => break,
+            Ok(more) => n += more,
+            Err(error) => return unread(error),
         }
-        let more = io::count(got, rest);
-        if more == 0 {
-            return Content {
-                count: n,
-                failed: false,
-            };
-        }
-        n += more;
     }
     Content {
         count: n,
-        failed: false,
+        failure: None,
     }
 }

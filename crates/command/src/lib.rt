@@ -6,6 +6,6 @@ mod file;
 mod line;
 mod list;
 
-pub use argument::{Named, arguments, read_argument};
+pub use argument::{Named, argument_at, arguments, count_arguments, read_argument};
 pub use file::{Content, read_file};
 pub use list::{List, NO_LINE, first_ended_by, first_in_list, next_in_list};

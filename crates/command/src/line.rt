@@ -1,6 +1,9 @@
 // The lines of a list that is read through a buffer.
-ghost use Rattle.std.specs.Prelude.{◌≡◌, ℕ, ◌+◌, ◌≤◌, ◌<◌, length};
+ghost use Rattle.std.specs.Prelude.{◌≡◌, ◌≢◌, ℕ, ◌+◌, ◌≤◌, ◌<◌, length, slice_index};
 ghost use Rattle.command.specs.Within.{LineWithin, LinesWithin, PartWithin};
+
+use std::io;
+use std::io::Read;
 
 // The bytes of the buffer that are read and not used yet: from `from` up to, not including, `to`; and the byte that ends a line.
 #[derive(Clone, Copy)]
@@ -17,8 +20,8 @@ pub enum Line {
     At(usize, usize, Lines),
     // A line that the buffer cannot hold. It is passed over.
     TooLong(Lines),
-    // The input cannot be read, and errno says why.
-    Failed,
+    // The input cannot be read.
+    Failed(io::Error),
     // The input has ended.
     End,
 }
@@ -40,6 +43,23 @@ fn before_return(buf: &[u8], from: usize, last: usize, end: u8) -> usize
     last
 }
 
+// The first place from `from` on, and before `to`, where this byte stands; or `to`.
+fn find(buf: &[u8], from: usize, to: usize, byte: u8) -> usize
+    requires ordered { from ≤ to }
+    requires inside { to ≤ length buf.now }
+    ensures low { from ≤ result }
+    ensures high { result ≤ to }
+    ensures before { (k : ℕ) → from ≤ k → k < result → slice_index buf.now k ≢ byte }
+    ensures found { result < to → slice_index buf.now result ≡ byte }
+{
+    for i in from..to {
+        if buf[i] == byte {
+            return i;
+        }
+    }
+    to
+}
+
 // What stands behind the end of a line.
 fn behind(found: usize, to: usize, end: u8) -> Lines
     requires { found < to }
@@ -55,21 +75,21 @@ fn behind(found: usize, to: usize, end: u8) -> Lines
 
 // The next line of the input. It is in the buffer already, or what the buffer holds is moved to its front and more is
 // read behind it. A last line needs no line end, and one of two bytes, as CRLF, is one.
-pub fn next_line(fd: i32, buf: &mut [u8], lines: Lines) -> Line
+pub fn next_line(rt: &impl Input, buf: &mut [u8], lines: Lines) -> Line
     requires { LinesWithin lines (length buf.old) }
     ensures { LineWithin result (length buf.old) }
 {
     let from = lines.from;
     let to = lines.to;
     let end = lines.end;
-    let found = bytes::scan::find(buf, from, to, end);
+    let found = find(buf, from, to, end);
     if found < to {
         let last = before_return(buf, from, found, end);
         return Line::At(from, last, behind(found, to, end));
     }
     let held = to - from;
     move_to_front(buf, from, held);
-    read_line(fd, buf, held, end)
+    read_line(rt, buf, held, end)
 }
 
 // Moves the `held` bytes from index `from` on to the front of the buffer.
@@ -86,7 +106,7 @@ fn move_to_front(buf: &mut [u8], from: usize, held: usize)
 
 // Reads on behind the buffer's first `held` bytes, which hold no line end, until a line is whole. The turns are
 // counted, since nothing says that an input ends; no run uses them up.
-fn read_line(fd: i32, buf: &mut [u8], held: usize, end: u8) -> Line
+fn read_line(rt: &impl Input, buf: &mut [u8], held: usize, end: u8) -> Line
     requires { held ≤ length buf.old }
     ensures { LineWithin result (length buf.old) }
 {
@@ -95,17 +115,17 @@ fn read_line(fd: i32, buf: &mut [u8], held: usize, end: u8) -> Line
     while turns > 0 {
         turns -= 1;
         if to == buf.len() {
-            return Line::TooLong(skip_line(fd, buf, end));
+            return Line::TooLong(skip_line(rt, buf, end));
         }
-        let came = read_more(fd, buf, to);
-        if came.failed {
-            return Line::Failed;
+        let came = read_more(rt, buf, to);
+        if let Some(error) = came.failure {
+            return Line::Failed(error);
         }
         let more = came.count;
         if more == 0 {
             return last_line(buf, to, end);
         }
-        let found = bytes::scan::find(buf, to, to + more, end);
+        let found = find(buf, to, to + more, end);
         to += more;
         if found < to {
             let last = before_return(buf, 0, found, end);
@@ -127,39 +147,44 @@ fn last_line(buf: &[u8], to: usize, end: u8) -> Line
     Line::At(0, last, Lines { from: to, to, end })
 }
 
-// How many bytes came in: none at the end of the input, and where it cannot be read.
+// How many bytes came in: none at the end of the input, and where it cannot be read, which has its reason.
 #[derive(Clone, Copy)]
 struct More {
     count: usize,
-    failed: bool,
+    failure: Option<io::Error>,
 }
 
 // Reads once into the buffer behind its first `held` bytes.
-fn read_more(fd: i32, buf: &mut [u8], held: usize) -> More
+fn read_more(rt: &impl Input, buf: &mut [u8], held: usize) -> More
     requires { held ≤ length buf.old }
     ensures inside { held + result.count ≤ length buf.old }
     ensures size { length buf.new ≡ length buf.old }
 {
-    let rest = &mut buf[held..];
-    let got = libc::read(fd, rest);
-    More {
-        count: io::count(got, rest),
-        failed: got < 0,
+    let mut input = rt.reader();
+    match input.read(&mut buf[held..]) {
+        Ok(count) => More {
+            count,
+            failure: None,
+        },
+        Err(error) => More {
+            count: 0,
+            failure: Some(error),
+        },
     }
 }
 
 // Reads on to the end of a line, and answers what stands behind it. Where the input cannot be read, the next line says so.
-fn skip_line(fd: i32, buf: &mut [u8], end: u8) -> Lines
+fn skip_line(rt: &impl Input, buf: &mut [u8], end: u8) -> Lines
     ensures { LinesWithin result (length buf.old) }
 {
     let mut turns = u64::MAX;
     while turns > 0 {
         turns -= 1;
-        let to = read_more(fd, buf, 0).count;
+        let to = read_more(rt, buf, 0).count;
         if to == 0 {
             break;
         }
-        let found = bytes::scan::find(buf, 0, to, end);
+        let found = find(buf, 0, to, end);
         if found < to {
             return behind(found, to, end);
         }

@@ -3,7 +3,7 @@ ghost use Rattle.std.specs.Prelude.{◌≡◌, ◌<◌, length};
 ghost use Rattle.command.specs.Within.{ListWithin, no_line};
 
 use crate::line::{Line, Lines, next_line};
-use libc::STDIN_FILENO;
+use std::io;
 
 // The number that stands for no line: the list has ended. The lines are counted in 64 bits, which no run uses up.
 pub const NO_LINE: u64 = u64::MAX;
@@ -19,26 +19,26 @@ pub struct List {
     pub long: bool,
     // What is read behind it.
     pub rest: Lines,
-    // The list has ended because the input cannot be read, and errno says why.
-    pub failed: bool,
+    // Why the input cannot be read, where the list has ended by that.
+    pub failure: Option<io::Error>,
 }
 
 // The first line of a list.
-pub fn first_in_list(buf: &mut [u8]) -> List
+pub fn first_in_list(rt: &impl Input, buf: &mut [u8]) -> List
     ensures { ListWithin result (length buf.old) }
 {
-    first_ended_by(buf, b'\n')
+    first_ended_by(rt, buf, b'\n')
 }
 
 // The first line of a list whose lines end with this byte.
-pub fn first_ended_by(buf: &mut [u8], end: u8) -> List
+pub fn first_ended_by(rt: &impl Input, buf: &mut [u8], end: u8) -> List
     ensures { ListWithin result (length buf.old) }
 {
-    next_in_list(buf, nothing_read(0, end, false))
+    next_in_list(rt, buf, nothing_read(0, end, None))
 }
 
 // The line behind the last one.
-pub fn next_in_list(buf: &mut [u8], list: List) -> List
+pub fn next_in_list(rt: &impl Input, buf: &mut [u8], list: List) -> List
     requires within { ListWithin list (length buf.old) }
     requires more { list.line < no_line }
     ensures within { ListWithin result (length buf.old) }
@@ -47,14 +47,14 @@ pub fn next_in_list(buf: &mut [u8], list: List) -> List
     let line = list.line + 1;
     let before = list.rest;
     let end = before.end;
-    match next_line(STDIN_FILENO, buf, before) {
+    match next_line(rt, buf, before) {
         Line::At(from, to, rest) => List {
             line,
             from,
             to,
             long: false,
             rest,
-            failed: false,
+            failure: None,
         },
         Line::TooLong(rest) => List {
             line,
@@ -62,15 +62,15 @@ pub fn next_in_list(buf: &mut [u8], list: List) -> List
             to: 0,
             long: true,
             rest,
-            failed: false,
+            failure: None,
         },
-        Line::Failed => nothing_read(NO_LINE, end, true),
-        Line::End => nothing_read(NO_LINE, end, false),
+        Line::Failed(error) => nothing_read(NO_LINE, end, Some(error)),
+        Line::End => nothing_read(NO_LINE, end, None),
     }
 }
 
 // A list of which nothing is in the buffer, whatever its size.
-fn nothing_read(line: u64, end: u8, failed: bool) -> List
+fn nothing_read(line: u64, end: u8, failure: Option<io::Error>) -> List
     ensures within { ListWithin result 0 }
     ensures line { result.line ≡ line }
 {
@@ -85,6 +85,6 @@ fn nothing_read(line: u64, end: u8, failed: bool) -> List
         to: 0,
         long: false,
         rest,
-        failed,
+        failure,
     }
 }

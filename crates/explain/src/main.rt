@@ -21,29 +21,32 @@ use output::Output;
 use reader::{Examined, FILE_BYTES, NUMBER_WORDS, RECORD_WORDS, Refusal};
 use source::print_source;
 
-fn main() {
-    let count = os::arg_count();
-    let mut out = start(count);
+// How many bytes a file's name may have.
+const NAME: usize = 4096;
+
+fn main(rt: HostRuntime) {
+    let count = command::count_arguments(&rt);
+    let mut out = start(&rt, count);
     let mut i = 1;
     while i < count {
-        out = explain_argument(i, out);
+        out = explain_argument(&rt, i, out);
         i += 1;
     }
-    output::finish(out);
+    output::finish(&rt, out);
 }
 
-fn start(count: usize) -> Output {
-    output::start_on_files(count, b"mib explain", b"mib explain FILE...")
+fn start(rt: &HostRuntime, count: usize) -> Output {
+    output::start_on_files(rt, count, b"mib explain", b"mib explain FILE...")
 }
 
 // Explains the file that argument i names; or says why it cannot be read.
-fn explain_argument(i: usize, out: Output) -> Output {
-    let mut name = io::buffer();
+fn explain_argument(rt: &HostRuntime, i: usize, out: Output) -> Output {
+    let mut name = [0u8; NAME];
     let mut buf = [0u8; FILE_BYTES];
-    let file = command::read_argument(i, &mut name, &mut buf);
+    let file = command::read_argument(rt, i, &mut name, &mut buf);
     let n = file.name;
-    if file.failed {
-        return output::fail(out, &name[0..n]);
+    if let Some(error) = file.failure {
+        return output::fail(out, error, &name[0..n]);
     }
     let count = file.count;
     explain_text(&name[0..n], &buf[0..count], out)

@@ -16,37 +16,45 @@ use hint::Answer;
 use output::{Output, print, print_number};
 use words::{Number, Octets};
 
+// How many bytes the arguments, a line of the list, or the octets of a value may have.
+const SPACE: usize = 65536;
+
+// How many bytes a printed text may have.
+const TEXT: usize = 4096;
+
 // The refusal of a hint that is none.
 const BAD_HINT: u64 = 32;
 
-fn main() {
-    let mut space = io::large_buffer();
-    output::finish(answer(&mut space, output::start()));
+fn main(rt: HostRuntime) {
+    let mut space = [0u8; SPACE];
+    let out = answer(&rt, &mut space, output::start(&rt));
+    output::finish(&rt, out);
 }
 
 // Answers the case that the arguments are; without arguments, the list on standard input.
-fn answer(space: &mut [u8], out: Output) -> Output {
-    if os::arg_count() <= 1 {
+fn answer(rt: &HostRuntime, space: &mut [u8], out: Output) -> Output {
+    if command::count_arguments(rt) <= 1 {
         output::say_waiting(
+            rt,
             b"mib hint: waiting for cases, a line each, tabs between the words: octets HINT HEX, or integer HINT NUMBER; Ctrl-D ends them\n",
         );
-        return answer_list(space, out);
+        return answer_list(rt, space, out);
     }
-    let n = command::arguments(space);
+    let n = command::arguments(rt, space);
     if space.len() < n {
         return complain_long(out, 0);
     }
     answer_case(&space[0..n], 0, 0, out)
 }
 
-fn answer_list(space: &mut [u8], out: Output) -> Output {
-    let mut list = command::first_in_list(space);
+fn answer_list(rt: &HostRuntime, space: &mut [u8], out: Output) -> Output {
+    let mut list = command::first_in_list(rt, space);
     let mut next = out;
     while list.line < NO_LINE {
         next = answer_line(space, list, next);
-        list = command::next_in_list(space, list);
+        list = command::next_in_list(rt, space, list);
     }
-    output::fail_if(next, list.failed, b"mib hint: standard input")
+    output::fail_if(next, list.failure, b"mib hint: standard input")
 }
 
 // Answers the last line of the list.
@@ -86,7 +94,7 @@ fn answer_case(case: &[u8], separator: u8, line: u64, out: Output) -> Output {
 
 // Prints octets, which are written in hexadecimal as tools print them, by a hint.
 fn answer_octets(hint_word: &[u8], hex: &[u8], line: u64, out: Output) -> Output {
-    let mut space = io::large_buffer();
+    let mut space = [0u8; SPACE];
     let Octets::Are(n) = words::read_octets(hex, &mut space) else {
         return complain(
             out,
@@ -99,9 +107,9 @@ fn answer_octets(hint_word: &[u8], hex: &[u8], line: u64, out: Output) -> Output
 }
 
 fn print_octets(hint_word: &[u8], octets: &[u8], line: u64, out: Output) -> Output {
-    let mut text = io::buffer();
+    let mut text = [0u8; TEXT];
     let answer = hint::octets(hint_word, octets, &mut text);
-    explain_octets(answer, hint_word, line);
+    explain_octets(answer, hint_word, line, out);
     print_answer(answer, &text, line, out)
 }
 
@@ -111,16 +119,16 @@ fn is_explained(answer: Answer, line: u64) -> bool {
 }
 
 // Says what is wrong with a hint for octets, if it is.
-fn explain_octets(answer: Answer, hint_word: &[u8], line: u64) {
+fn explain_octets(answer: Answer, hint_word: &[u8], line: u64, out: Output) {
     if is_explained(answer, line) {
-        reason::explain(hint_word, hint_form::octets_fault(hint_word));
+        reason::explain(hint_word, hint_form::octets_fault(hint_word), out);
     }
 }
 
 // The same of a hint for integers.
-fn explain_integer(answer: Answer, hint_word: &[u8], line: u64) {
+fn explain_integer(answer: Answer, hint_word: &[u8], line: u64, out: Output) {
     if is_explained(answer, line) {
-        reason::explain(hint_word, hint_form::integer_fault(hint_word));
+        reason::explain(hint_word, hint_form::integer_fault(hint_word), out);
     }
 }
 
@@ -134,9 +142,9 @@ fn answer_integer(hint_word: &[u8], number: &[u8], line: u64, out: Output) -> Ou
 }
 
 fn print_integer(hint_word: &[u8], value: i64, line: u64, out: Output) -> Output {
-    let mut text = io::buffer();
+    let mut text = [0u8; TEXT];
     let answer = hint::integer(hint_word, value, &mut text);
-    explain_integer(answer, hint_word, line);
+    explain_integer(answer, hint_word, line, out);
     print_answer(answer, &text, line, out)
 }
 

@@ -4,15 +4,20 @@
 ghost use Rattle.std.specs.Prelude.{◌≡◌, false};
 ghost use Rattle.output.specs.Status.{accepted, refused, rating, larger, Rated, Printed};
 
+mod cause;
 mod message;
 mod shown;
 
-use libc::{STDERR_FILENO, STDOUT_FILENO};
-pub use message::{complain, fail, fail_if, misfit, say_waiting, start_on_files};
+use cause::write_cause;
+pub use message::{complain, fail, fail_if, misfit, say, say_number, say_waiting, start_on_files};
 pub use shown::{manner, show, show_in_list};
+use std::fs::OpenOptions;
+use std::io::{IsTerminal, Stderr, Stdout, Write};
+use std::rt::Files;
+use std::{fs, io};
 
-// The descriptor on which a program says its status, since the language has none: one digit, as it ends. Nobody need read it.
-const STATUS_FILENO: i32 = 3;
+// Where a program says its status: descriptor 3, which is one digit as it ends. Nobody need read it.
+const STATUS_FILE: &str = "/dev/fd/3";
 
 // The statuses: all was answered and accepted; something was refused; there was a complaint.
 const ACCEPTED: u8 = 0;
@@ -30,17 +35,23 @@ pub struct Output {
     // Whether standard output is a terminal, and whether standard error is one.
     pub terminal: bool,
     pub console: bool,
+    pub stdout: Stdout,
+    pub stderr: Stderr,
 }
 
-pub fn start() -> Output
+pub fn start(rt: &HostRuntime) -> Output
     ensures status { result.status ≡ accepted }
     ensures lost { result.lost ≡ false }
 {
+    let stdout = rt.stdout();
+    let stderr = rt.stderr();
     Output {
         status: ACCEPTED,
         lost: false,
-        terminal: libc::isatty(STDOUT_FILENO) == 1,
-        console: libc::isatty(STDERR_FILENO) == 1,
+        terminal: stdout.is_terminal(),
+        console: stderr.is_terminal(),
+        stdout,
+        stderr,
     }
 }
 
@@ -53,6 +64,8 @@ fn rated(out: Output, status: u8) -> Output
         lost: out.lost,
         terminal: out.terminal,
         console: out.console,
+        stdout: out.stdout,
+        stderr: out.stderr,
     }
 }
 
@@ -83,22 +96,33 @@ pub fn print(out: Output, bytes: &[u8]) -> Output
     if out.lost {
         return out;
     }
-    if io::write_all(STDOUT_FILENO, bytes) {
-        return out;
-    }
-    lose(out)
+    let written = out.stdout.write_all(bytes);
+    unless_lost(out, written)
 }
 
-// A write failed: says why, by errno.
-fn lose(out: Output) -> Output
+// How the output went with one write more.
+fn unless_lost(out: Output, written: io::Result<()>) -> Output
     ensures { Printed out result }
 {
-    os::fail(b"mib: standard output");
+    match written {
+        Ok(()) => out,
+        Err(error) => lose(out, error),
+    }
+}
+
+// A write failed: says why.
+fn lose(out: Output, error: io::Error) -> Output
+    ensures { Printed out result }
+{
+    say(out, b"mib: standard output");
+    write_cause(&out.stderr, error);
     Output {
         status: COMPLAINT,
         lost: true,
         terminal: out.terminal,
         console: out.console,
+        stdout: out.stdout,
+        stderr: out.stderr,
     }
 }
 
@@ -106,9 +130,11 @@ fn lose(out: Output) -> Output
 pub fn print_number(out: Output, n: u64) -> Output
     ensures { Printed out result }
 {
-    let mut digits = [0u8; 20];
-    let count = io::decimal(n, &mut digits);
-    print(out, &digits[..count])
+    if out.lost {
+        return out;
+    }
+    let written = out.stdout.print(n);
+    unless_lost(out, written)
 }
 
 // What stands between the words of a line, and behind the last.
@@ -125,6 +151,19 @@ pub fn end_line(out: Output) -> Output
 }
 
 // Says the status. It is the last thing that a program does.
-pub fn finish(out: Output) {
-    io::print_decimal(STATUS_FILENO, out.status as u64);
+pub fn finish(rt: &impl Files, out: Output) {
+    let _ = write_status(rt, out.status);
+}
+
+// Where the descriptor is not open for writing, nobody reads the status. Else it is opened once more by its name, and written behind what
+// is there.
+fn write_status(rt: &impl Files, status: u8) -> io::Result<()> {
+    if fs::symlink_metadata(rt, STATUS_FILE)?
+        .permissions()
+        .readonly()
+    {
+        return Ok(());
+    }
+    let mut file = OpenOptions::new().append(true).open(rt, STATUS_FILE)?;
+    write!(file, "{status}")
 }

@@ -2,9 +2,9 @@
 ghost use Rattle.std.specs.Prelude.{◌+◌, ◌*◌, ◌≤◌, length};
 ghost use Rattle.output.specs.Status.{Printed};
 
-use crate::{Output, lose, print};
-use libc::STDOUT_FILENO;
-use visible::{Manner, write_visible};
+use crate::{Output, print, unless_lost};
+use std::io;
+use visible::{Manner, WIDEST, write_visible};
 
 // As many bytes are made visible at a time as have room in a buffer, whatever they are.
 const CHUNK: usize = 1024;
@@ -47,16 +47,14 @@ fn show_by(out: Output, bytes: &[u8], manner: Manner) -> Output
     if out.lost {
         return out;
     }
-    if write_by(STDOUT_FILENO, bytes, manner) {
-        return out;
-    }
-    lose(out)
+    let written = write_by(&out.stdout, bytes, manner);
+    unless_lost(out, written)
 }
 
 // Writes bytes to a terminal.
-pub fn write_at_terminal(fd: i32, bytes: &[u8]) {
-    write_by(
-        fd,
+pub fn write_at_terminal(to: &impl Print, bytes: &[u8]) {
+    let _ = write_by(
+        to,
         bytes,
         Manner {
             line: false,
@@ -65,18 +63,16 @@ pub fn write_at_terminal(fd: i32, bytes: &[u8]) {
     );
 }
 
-// Writes what is seen of bytes, and answers whether all was written.
-fn write_by(fd: i32, bytes: &[u8], manner: Manner) -> bool {
+// Writes what is seen of bytes.
+fn write_by(to: &impl Print, bytes: &[u8], manner: Manner) -> io::Result<()> {
     let mut i = 0;
     while i < bytes.len() {
         let count = chunk(bytes.len() - i);
-        let mut space = io::buffer();
-        if !write_chunk(fd, bytes, i, count, manner, &mut space) {
-            return false;
-        }
+        let mut space = [0u8; WIDEST * CHUNK];
+        write_chunk(to, bytes, i, count, manner, &mut space)?;
         i += count;
     }
-    true
+    Ok(())
 }
 
 // How many of so many bytes are written next.
@@ -90,16 +86,16 @@ fn chunk(left: usize) -> usize
 }
 
 fn write_chunk(
-    fd: i32,
+    to: &impl Print,
     bytes: &[u8],
     from: usize,
     count: usize,
     manner: Manner,
     space: &mut [u8],
-) -> bool
+) -> io::Result<()>
     requires inside { from + count ≤ length bytes.now }
     requires room { 4 * count ≤ length space.old }
 {
     let n = write_visible(bytes, from, count, manner, space);
-    io::write_all(fd, &space[0..n])
+    to.write_all(&space[0..n])
 }

@@ -13,6 +13,9 @@ use output::{Output, print, print_number, print_tab};
 use row_status::Answer;
 use words::{Flag, Natural, Number};
 
+// How many bytes the arguments, or a line of the list, may have.
+const SPACE: usize = 65536;
+
 // What stands for a state of more digits than a number here can have: a state over 3, as it is.
 const LONG_STATE: u64 = u64::MAX;
 
@@ -25,17 +28,18 @@ const NO_DIGIT: u8 = 0;
 // Where a case starts behind the word --words and a byte 0.
 const CASE_START: usize = 8;
 
-fn main() {
-    let mut space = io::large_buffer();
-    output::finish(answer(&mut space, output::start()));
+fn main(rt: HostRuntime) {
+    let mut space = [0u8; SPACE];
+    let out = answer(&rt, &mut space, output::start(&rt));
+    output::finish(&rt, out);
 }
 
 // Answers the case that the arguments are; without one, the list on standard input.
-fn answer(space: &mut [u8], out: Output) -> Output {
-    if os::arg_count() <= 1 {
-        return wait_for_list(space, false, out);
+fn answer(rt: &HostRuntime, space: &mut [u8], out: Output) -> Output {
+    if command::count_arguments(rt) <= 1 {
+        return wait_for_list(rt, space, false, out);
     }
-    let n = command::arguments(space);
+    let n = command::arguments(rt, space);
     if space.len() < n {
         return complain_long(out, 0);
     }
@@ -43,26 +47,27 @@ fn answer(space: &mut [u8], out: Output) -> Output {
         return answer_case(&space[0..n], 0, 0, false, out);
     }
     if n < CASE_START {
-        return wait_for_list(space, true, out);
+        return wait_for_list(rt, space, true, out);
     }
     answer_case(&space[CASE_START..n], 0, 0, true, out)
 }
 
-fn wait_for_list(space: &mut [u8], in_words: bool, out: Output) -> Output {
+fn wait_for_list(rt: &HostRuntime, space: &mut [u8], in_words: bool, out: Output) -> Output {
     output::say_waiting(
+        rt,
         b"mib row: waiting for cases, a line each, tabs between the words: STATE yes|no yes|no [VALUE]; Ctrl-D ends them\n",
     );
-    answer_list(space, in_words, out)
+    answer_list(rt, space, in_words, out)
 }
 
-fn answer_list(space: &mut [u8], in_words: bool, out: Output) -> Output {
-    let mut list = command::first_in_list(space);
+fn answer_list(rt: &HostRuntime, space: &mut [u8], in_words: bool, out: Output) -> Output {
+    let mut list = command::first_in_list(rt, space);
     let mut next = out;
     while list.line < NO_LINE {
         next = answer_line(space, list, in_words, next);
-        list = command::next_in_list(space, list);
+        list = command::next_in_list(rt, space, list);
     }
-    output::fail_if(next, list.failed, b"mib row: standard input")
+    output::fail_if(next, list.failure, b"mib row: standard input")
 }
 
 // Answers the last line of the list.

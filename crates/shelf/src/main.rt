@@ -10,9 +10,9 @@ ghost use Rattle.command.specs.Within.{ListWithin};
 
 use card_line::write_head;
 use command::{List, NO_LINE};
-use libc::{STDERR_FILENO, STDOUT_FILENO};
-use output::Output;
+use output::{Output, say, say_number};
 use reader::{Answer, Examined, FILE_BYTES, NUMBER_WORDS, RECORD_WORDS, Refusal};
+use std::io;
 
 // The files are counted by their answers: accepted, each refusal by its number, which is a byte, and those that cannot be read.
 const ACCEPTED: usize = 0;
@@ -25,27 +25,33 @@ const OUTSIDE: usize = 257;
 // At a terminal the count of files is shown whenever so many more are read.
 const STRIDE: u64 = 64;
 
-fn main() {
+// How many bytes a file's name may have.
+const NAME: usize = 4096;
+
+// How many bytes a line of the list may have.
+const SPACE: usize = 65536;
+
+fn main(rt: HostRuntime) {
     let mut counts = [0u64; 258];
-    let out = read_files(&mut counts, output::start());
-    print_summary(&counts);
-    output::finish(out);
+    let out = read_files(&rt, &mut counts, output::start(&rt));
+    print_summary(&counts, out);
+    output::finish(&rt, out);
 }
 
-fn read_files(counts: &mut [u64], out: Output) -> Output {
-    if os::arg_count() <= 1 {
-        return read_list(b'\n', counts, out);
+fn read_files(rt: &HostRuntime, counts: &mut [u64], out: Output) -> Output {
+    if command::count_arguments(rt) <= 1 {
+        return read_list(rt, b'\n', counts, out);
     }
-    if is_ended_by_zero() {
-        return read_list(0, counts, out);
+    if is_ended_by_zero(rt) {
+        return read_list(rt, 0, counts, out);
     }
-    read_arguments(counts, out)
+    read_arguments(rt, counts, out)
 }
 
 // Whether the one argument is -0: the names come on standard input, and a byte 0 ends each.
-fn is_ended_by_zero() -> bool {
-    let mut word = io::buffer();
-    let n = os::arg(1, &mut word);
+fn is_ended_by_zero(rt: &HostRuntime) -> bool {
+    let mut word = [0u8; NAME];
+    let n = command::argument_at(rt, 1, &mut word);
     if n != 2 {
         return false;
     }
@@ -56,49 +62,56 @@ fn is_ended_by_zero() -> bool {
 }
 
 // Reads the files that the arguments name.
-fn read_arguments(counts: &mut [u64], out: Output) -> Output {
-    let count = os::arg_count();
+fn read_arguments(rt: &HostRuntime, counts: &mut [u64], out: Output) -> Output {
+    let count = command::count_arguments(rt);
     let mut next = out;
     let mut i = 1;
     while i < count {
-        next = read_argument(i, counts, next);
-        show_progress(i as u64);
+        next = read_argument(rt, i, counts, next);
+        show_progress(i as u64, next);
         i += 1;
     }
     next
 }
 
 // Reads the file that argument i names.
-fn read_argument(i: usize, counts: &mut [u64], out: Output) -> Output {
-    let mut name = io::buffer();
+fn read_argument(rt: &HostRuntime, i: usize, counts: &mut [u64], out: Output) -> Output {
+    let mut name = [0u8; NAME];
     let mut text = [0u8; FILE_BYTES];
-    let file = command::read_argument(i, &mut name, &mut text);
+    let file = command::read_argument(rt, i, &mut name, &mut text);
     let n = file.name;
     let count = file.count;
-    answer_file(&name[0..n], file.failed, &text[0..count], counts, out)
+    answer_file(&name[0..n], file.failure, &text[0..count], counts, out)
 }
 
 // Reads the files that the lines of standard input name, which end with this byte.
-fn read_list(end: u8, counts: &mut [u64], out: Output) -> Output {
-    let mut space = io::large_buffer();
+fn read_list(rt: &HostRuntime, end: u8, counts: &mut [u64], out: Output) -> Output {
+    let mut space = [0u8; SPACE];
     output::say_waiting(
+        rt,
         b"mib shelf: waiting for the names of files, a line each; Ctrl-D ends them\n",
     );
-    read_lines(end, &mut space, counts, out)
+    read_lines(rt, end, &mut space, counts, out)
 }
 
-fn read_lines(end: u8, space: &mut [u8], counts: &mut [u64], out: Output) -> Output {
-    let mut list = command::first_ended_by(space, end);
+fn read_lines(
+    rt: &HostRuntime,
+    end: u8,
+    space: &mut [u8],
+    counts: &mut [u64],
+    out: Output,
+) -> Output {
+    let mut list = command::first_ended_by(rt, space, end);
     let mut next = out;
     while list.line < NO_LINE {
-        next = read_line(space, list, counts, next);
-        list = command::next_in_list(space, list);
+        next = read_line(rt, space, list, counts, next);
+        list = command::next_in_list(rt, space, list);
     }
-    output::fail_if(next, list.failed, b"mib shelf: standard input")
+    output::fail_if(next, list.failure, b"mib shelf: standard input")
 }
 
 // Reads the file that the last line of the list names.
-fn read_line(space: &[u8], list: List, counts: &mut [u64], out: Output) -> Output
+fn read_line(rt: &HostRuntime, space: &[u8], list: List, counts: &mut [u64], out: Output) -> Output
     requires { ListWithin list (length space.now) }
 {
     if list.long {
@@ -106,16 +119,16 @@ fn read_line(space: &[u8], list: List, counts: &mut [u64], out: Output) -> Outpu
     }
     let from = list.from;
     let to = list.to;
-    let next = read_named(&space[from..to], counts, out);
-    show_progress(list.line);
+    let next = read_named(rt, &space[from..to], counts, out);
+    show_progress(list.line, next);
     next
 }
 
-fn read_named(name: &[u8], counts: &mut [u64], out: Output) -> Output {
+fn read_named(rt: &HostRuntime, name: &[u8], counts: &mut [u64], out: Output) -> Output {
     let mut text = [0u8; FILE_BYTES];
-    let content = command::read_file(name, &mut text);
+    let content = command::read_file(rt, name, &mut text);
     let n = content.count;
-    answer_file(name, content.failed, &text[..n], counts, out)
+    answer_file(name, content.failure, &text[..n], counts, out)
 }
 
 fn complain_long(line: u64, counts: &mut [u64], out: Output) -> Output {
@@ -131,10 +144,16 @@ fn complain_long(line: u64, counts: &mut [u64], out: Output) -> Output {
 }
 
 // Counts a file and prints its line; or says why it cannot be read.
-fn answer_file(name: &[u8], failed: bool, text: &[u8], counts: &mut [u64], out: Output) -> Output {
-    if failed {
+fn answer_file(
+    name: &[u8],
+    failure: Option<io::Error>,
+    text: &[u8],
+    counts: &mut [u64],
+    out: Output,
+) -> Output {
+    if let Some(error) = failure {
         count_one(counts, UNREAD);
-        return output::fail(out, name);
+        return output::fail(out, error, name);
     }
     let examined = read_text(text);
     count_examined(text, examined, counts);
@@ -204,59 +223,56 @@ fn count_one(counts: &mut [u64], number: usize) {
 }
 
 // Whether the count of files is shown: at a terminal, unless the lines of the files go there too, which show it themselves.
-fn shows_progress() -> bool {
-    if libc::isatty(STDERR_FILENO) != 1 {
-        return false;
-    }
-    libc::isatty(STDOUT_FILENO) != 1
+fn shows_progress(out: Output) -> bool {
+    out.console && !out.terminal
 }
 
 // Says how many files were read, in a line that the next one takes the place of.
-fn show_progress(files: u64) {
+fn show_progress(files: u64, out: Output) {
     if files % STRIDE != 0 {
         return;
     }
-    if shows_progress() {
-        io::print_decimal(STDERR_FILENO, files);
-        io::write_all(STDERR_FILENO, b" files\r");
+    if shows_progress(out) {
+        say_number(out, files);
+        say(out, b" files\r");
     }
 }
 
 // Blanks in the place of that line.
-fn clear_progress() {
-    if shows_progress() {
-        io::write_all(STDERR_FILENO, b"                          \r");
+fn clear_progress(out: Output) {
+    if shows_progress(out) {
+        say(out, b"                          \r");
     }
 }
 
 // How many files there were, how many of them were accepted, how many refused by each number, how many of these are outside what is read,
 // and how many could not be read.
-fn print_summary(counts: &[u64]) {
-    clear_progress();
-    print_count(b"files\t", total(counts));
-    print_count(b"accepted\t", count_at(counts, ACCEPTED));
+fn print_summary(counts: &[u64], out: Output) {
+    clear_progress(out);
+    print_count(b"files\t", total(counts), out);
+    print_count(b"accepted\t", count_at(counts, ACCEPTED), out);
     let mut number = 1;
     while number < UNREAD {
-        print_refused(number, count_at(counts, number));
+        print_refused(number, count_at(counts, number), out);
         number += 1;
     }
-    print_count(b"outside\t", count_at(counts, OUTSIDE));
-    print_count(b"unread\t", count_at(counts, UNREAD));
+    print_count(b"outside\t", count_at(counts, OUTSIDE), out);
+    print_count(b"unread\t", count_at(counts, UNREAD), out);
 }
 
-fn print_count(what: &[u8], count: u64) {
-    io::write_all(STDERR_FILENO, what);
-    io::print_decimal(STDERR_FILENO, count);
-    io::write_all(STDERR_FILENO, b"\n");
+fn print_count(what: &[u8], count: u64, out: Output) {
+    say(out, what);
+    say_number(out, count);
+    say(out, b"\n");
 }
 
-fn print_refused(number: usize, count: u64) {
+fn print_refused(number: usize, count: u64, out: Output) {
     if count == 0 {
         return;
     }
-    io::write_all(STDERR_FILENO, b"refused\t");
-    io::print_decimal(STDERR_FILENO, number as u64);
-    print_count(b"\t", count);
+    say(out, b"refused\t");
+    say_number(out, number as u64);
+    print_count(b"\t", count, out);
 }
 
 // How many files have this answer.

@@ -14,30 +14,33 @@ use output::{Output, print, print_number, print_tab};
 use syntax::Answer;
 use token::LONGEST_TEXT;
 
-fn main() {
-    let count = os::arg_count();
-    let mut out = start(count);
+// How many bytes a file's name may have.
+const NAME: usize = 4096;
+
+fn main(rt: HostRuntime) {
+    let count = command::count_arguments(&rt);
+    let mut out = start(&rt, count);
     let mut i = 1;
     while i < count {
-        out = list_argument(i, 2 < count, out);
+        out = list_argument(&rt, i, 2 < count, out);
         i += 1;
     }
-    output::finish(out);
+    output::finish(&rt, out);
 }
 
-fn start(count: usize) -> Output {
-    output::start_on_files(count, b"mib tokens", b"mib tokens FILE...")
+fn start(rt: &HostRuntime, count: usize) -> Output {
+    output::start_on_files(rt, count, b"mib tokens", b"mib tokens FILE...")
 }
 
 // Lists the file that argument i names, behind a line with its name where it is named; or says why it cannot be read. The buffer has a
 // byte more than a text may have, to tell a longer file.
-fn list_argument(i: usize, named: bool, out: Output) -> Output {
-    let mut name = io::buffer();
+fn list_argument(rt: &HostRuntime, i: usize, named: bool, out: Output) -> Output {
+    let mut name = [0u8; NAME];
     let mut buf = [0u8; LONGEST_TEXT + 1];
-    let file = command::read_argument(i, &mut name, &mut buf);
+    let file = command::read_argument(rt, i, &mut name, &mut buf);
     let n = file.name;
-    if file.failed {
-        return output::fail(out, &name[0..n]);
+    if let Some(error) = file.failure {
+        return output::fail(out, error, &name[0..n]);
     }
     let count = file.count;
     if named {

@@ -3,7 +3,7 @@
 //!
 //! Run, in the repository:
 //!
-//!   rt staticlib mib
+//!   tools/staticlib
 //!   cargo run --release --manifest-path examples/rust/Cargo.toml --target-dir target/cargo -- examples/QUAY-UPS-MIB
 //!
 //! Exit status: 0 accepted, 1 refused, 2 the file can't be read.
