@@ -11,49 +11,49 @@ use Rattle.mib.proofs.Laying.{laid_next, laid_full}
 use Rattle.mib.proofs.lay.Statement.{statement}
 use Rattle.mib.proofs.lay.Tie as tie
 
-abbrev invariant-loop : tie.invariant-loop
+abbrev invariant-loop : tie.invariant-loop-i
 invariant-loop words answer₀ i₀ answer i = (answer ≡ laid (take i words) answer₀) × (i ≤ length words) × (length answer ≡ length answer₀)
 
-abbrev decreases-loop : tie.decreases-loop
+abbrev decreases-loop : tie.decreases-loop-i
 decreases-loop words answer₀ i₀ answer i = length words - i
 
-loop-holds : tie.Need-loop-init invariant-loop decreases-loop
+loop-holds : tie.Need-loop-i-init invariant-loop decreases-loop
 unfolding laid
 loop-holds c = (refl, omega arith, refl)
 
-same_length : tie.Need-same-length invariant-loop decreases-loop
-same_length c = c.before.before.loop.invariant.2
+same_length : tie.Need-shape_of-answer-then-answer-i invariant-loop decreases-loop
+same_length c = c.loop-i.invariant.2
 
-returns : tie.Need-returns invariant-loop decreases-loop
+returns : tie.Need-returns-then-answer-i invariant-loop decreases-loop
 returns c =
-    let inv = c.before.before.loop.invariant in
-    let a = c.before.before.before.args in
-    let full : length a.answer.now ≤ c.before.before.loop.i = omega arith in
-    inv.0 ∙ laid_full a.words.now a.answer.now c.before.before.loop.i full
+    let inv = c.loop-i.invariant in
+    let a = c.args in
+    let full : length a.answer.now ≤ c.loop-i.i = omega arith in
+    inv.0 ∙ laid_full a.words.now a.answer.now c.loop-i.i full
 
-mul-answer : tie.Need-overflow-mul-answer invariant-loop decreases-loop
+mul-answer : tie.Need-offset_bounds-words-i invariant-loop decreases-loop
 mul-answer c = omega arith
 
-shared-slice-read-answer : tie.Need-shared-slice-read-answer invariant-loop decreases-loop
+shared-slice-read-answer : tie.Need-bounds-words-i invariant-loop decreases-loop
 shared-slice-read-answer c = omega arith
 
-mul-answer-2 : tie.Need-overflow-mul-answer-2 invariant-loop decreases-loop
+mul-answer-2 : tie.Need-offset_bounds-answer-i invariant-loop decreases-loop
 mul-answer-2 c = omega arith
 
-slice-write-answer : tie.Need-slice-write-answer invariant-loop decreases-loop
+slice-write-answer : tie.Need-bounds-answer-i invariant-loop decreases-loop
 slice-write-answer c = omega arith
 
-add-i : tie.Need-overflow-add-i invariant-loop decreases-loop
+add-i : tie.Need-overflow_add-i invariant-loop decreases-loop
 add-i c = omega arith
 
-loop-less : tie.Need-loop-smaller invariant-loop decreases-loop
+loop-less : tie.Need-loop-i-smaller invariant-loop decreases-loop
 loop-less c = omega arith
 
-loop-again : tie.Need-loop-preserved invariant-loop decreases-loop
+loop-again : tie.Need-loop-i-preserved invariant-loop decreases-loop
 loop-again c =
-    let inv = c.before.before.before.loop.invariant in
-    let i = c.before.before.before.loop.i in
-    let a = c.before.before.before.before.args in
+    let inv = c.loop-i.invariant in
+    let i = c.loop-i.i in
+    let a = c.args in
     let word : i < length a.words.now = omega arith in
     let room : i < length a.answer.now = omega arith in (
       ap (λ (l : List ℕ). set l i (get_or a.words.now i 0)) inv.0 ∙ laid_next a.words.now a.answer.now i word room,
@@ -61,14 +61,14 @@ loop-again c =
       simp length-set inv.2,
     )
 
-same-length-2 : tie.Need-same-length-2 invariant-loop decreases-loop
-same-length-2 c = c.before.loop.invariant.2
+same-length-2 : tie.Need-shape_of-answer invariant-loop decreases-loop
+same-length-2 c = c.loop-i.invariant.2
 
-returns-2 : tie.Need-returns-2 invariant-loop decreases-loop
+returns-2 : tie.Need-returns invariant-loop decreases-loop
 returns-2 c =
-    let inv = c.before.loop.invariant in
-    let a = c.before.before.args in
-    let end : c.before.loop.i ≡ length a.words.now = omega arith in
+    let inv = c.loop-i.invariant in
+    let a = c.args in
+    let end : c.loop-i.i ≡ length a.words.now = omega arith in
     inv.0 ∙ ap (λ (k : ℕ). laid (take k a.words.now) a.answer.now) end
     ∙ ap (λ (l : List ℕ). laid l a.answer.now) (take-length a.words.now)
 
