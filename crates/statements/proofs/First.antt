@@ -2,7 +2,7 @@
 -- Assumes nothing.
 use mathlib.Core.Path.{◌≡◌, refl, sym, ap, subst, ◌∙◌}
 use mathlib.Core.Logic.{inl, inr}
-use mathlib.Core.List.{List, ◌∷◌}
+use mathlib.Core.List.{List, [], ◌∷◌}
 use Prim.Native.Nat.{ℕ, ◌≤◌, ◌<◌}
 use native.Mathlib.Decide.{dec_lt}
 use native.Mathlib.Omega.{arith}
@@ -11,7 +11,7 @@ use Rattle.rule.specs.Rule.{Rule}
 use Rattle.index.proofs.Search.{true_false}
 use Rattle.rule.proofs.Judged.{AllKept, NeverBroken, BrokenAt, FirstBroken, here, later}
 use Rattle.statements.specs.Order.{rank}
-use Rattle.statements.proofs.Ordered.{NoLater, Broken, Rises, Before, BeforeAll, InOrder, Placed, ◌listed-in◌, BrokenIn}
+use Rattle.statements.proofs.Ordered.{NoLater, Broken, Rises, Before, BeforeAll, InOrder, Placed, ◌listed_in◌, BrokenIn}
 
 -- where a rule is broken first, it is broken
 broken_here : {r : Rule} {f : Finding} → (b : BrokenAt r f) → Broken r b.index
@@ -50,17 +50,20 @@ never_here : {r : Rule} {k : ℕ} → NeverBroken r → Broken r k → ⊥
 never_here {k = k} never b = true_false b.breaks (never k b.from b.below)
 
 -- rules that are kept have none
-pub kept_none : (rs : List Rule) → AllKept rs → (s : Rule) → s Listed-in rs → (k : ℕ) → Broken s k → ⊥
+pub kept_none : (rs : List Rule) → AllKept rs → (s : Rule) → s listed_in rs → (k : ℕ) → Broken s k → ⊥
+kept_none [] kept s none k b = elim none [ ]
 kept_none (r ∷ rs) kept s (inl same) k b = never_here kept.0 (subst (λ (x : Rule). Broken x k) same b)
 kept_none (r ∷ rs) kept s (inr l) k b = kept_none rs kept.1 s l k b
 
 -- a rule comes before each that is listed after it
-pub before_listed : (r : Rule) (rs : List Rule) → BeforeAll r rs → (s : Rule) → s Listed-in rs → Before r s
+pub before_listed : (r : Rule) (rs : List Rule) → BeforeAll r rs → (s : Rule) → s listed_in rs → Before r s
+before_listed r [] all s none = elim none [ ]
 before_listed r (x ∷ rs) all s (inl same) = subst (Before r) (sym same) all.0
 before_listed r (x ∷ rs) all s (inr l) = before_listed r rs all.1 s l
 
 -- where each of a list is broken at one of the first n tokens, so is one that is listed
-pub placed_listed : (n : ℕ) (rs : List Rule) → Placed n rs → (s : Rule) → s Listed-in rs → (k : ℕ) → Broken s k → s.place k < n
+pub placed_listed : (n : ℕ) (rs : List Rule) → Placed n rs → (s : Rule) → s listed_in rs → (k : ℕ) → Broken s k → s.place k < n
+placed_listed n [] all s none k b = elim none [ ]
 placed_listed n (r ∷ rs) all s (inl same) k b =
     subst (λ (x : Rule). Broken x k → x.place k < n) (sym same) (all.0 k) b
 placed_listed n (r ∷ rs) all s (inr l) k b = placed_listed n rs all.1 s l k b
@@ -83,7 +86,8 @@ least_after {f} r s b before k broken =
 
 -- of all of them
 pub first_least : {f : Finding} (rs : List Rule) → FirstBroken f rs → InOrder rs
-    → (s : Rule) → s Listed-in rs → (k : ℕ) → Broken s k → NoLater f.number f.token.0 s.number (s.place k)
+    → (s : Rule) → s listed_in rs → (k : ℕ) → Broken s k → NoLater f.number f.token.0 s.number (s.place k)
+first_least {f = f} [] found order s none k broken = elim found [ ]
 first_least {f} (r ∷ rs) (here b) order s (inl same) k broken =
     subst (λ (x : Rule). Broken x k → NoLater f.number f.token.0 x.number (x.place k)) (sym same) (least_here r b order.0 k) broken
 first_least (r ∷ rs) (here b) order s (inr l) k broken = least_after r s b (before_listed r rs order.1 s l) k broken

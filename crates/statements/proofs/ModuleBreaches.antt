@@ -25,7 +25,7 @@ use Rattle.access_check.specs.Access.{access_broken}
 use Rattle.access_check.specs.Notification.{notification_broken}
 use Rattle.reader.specs.Reading.{numbered, classed, module_of, oid_rules, object_rules, later_rules, rules}
 use Rattle.statements.specs.Breach.{definition_count, ModuleBreach, definition_513, iso_introduced, introduced_twice, unoffered, unknown, other_kind, unreached, long_oid, many_numbers, held_twice, misplaced, misfit, misnumbered, indirect, table_rules, access_rules, notification_rules}
-use Rattle.statements.proofs.Ordered.{Broken, ◌listed-in◌, BrokenIn, broken_in, listed_before, listed_after, listed_each}
+use Rattle.statements.proofs.Ordered.{Broken, ◌listed_in◌, BrokenIn, broken_in, listed_before, listed_after, listed_each}
 use Rattle.statements.proofs.Rising.{classed_keeps, module_keeps, uses_inside}
 use Rattle.statements.proofs.NameBreaches.{many_told, many_broken, again_told, iso_broken, twice_broken, offer_told, offer_broken, use_told, unknown_broken, kind_broken}
 use Rattle.statements.proofs.OidBreaches.{all_there, definition_broken, definition_told, unreached_told, unreached_broken, long_told, long_broken, room_told, room_broken, held_told, held_broken}
@@ -43,7 +43,8 @@ module _ (ms : List Meaning) where
   AllTold [] = Unit {0}
   AllTold (r ∷ rs) = Told r × AllTold rs
 
-  told_listed : (rs : List Rule) → AllTold rs → (r : Rule) → r Listed-in rs → Told r
+  told_listed : (rs : List Rule) → AllTold rs → (r : Rule) → r listed_in rs → Told r
+  told_listed [] all r none = elim none [ ]
   told_listed (s ∷ rs) all r (inl same) = subst Told (sym same) all.0
   told_listed (s ∷ rs) all r (inr l) = told_listed rs all.1 r l
 
@@ -151,53 +152,53 @@ module _ (ms : List Meaning) where
 
   -- ---- a row breaks its rule
 
-  by_names : (r : Rule) → r Listed-in name_rules ms → r Listed-in rules ms
+  by_names : (r : Rule) → r listed_in name_rules ms → r listed_in rules ms
   unfolding rules
   by_names r l = listed_before r (name_rules ms) (later_rules ms) l
 
-  by_uses : (i : ℕ) → imports_end (classes_of ms) ≤ i → i < length ms → unfit_use ms i Listed-in rules ms
+  by_uses : (i : ℕ) → imports_end (classes_of ms) ≤ i → i < length ms → unfit_use ms i listed_in rules ms
   unfolding each
   by_uses i l h = by_names _ (inr (inr (inr (listed_each (unfit_use ms) end (length ms - end) i l (omega arith)))))
 
-  by_oids : (r : Rule) → r Listed-in oid_rules (named ms) → r Listed-in rules ms
+  by_oids : (r : Rule) → r listed_in oid_rules (named ms) → r listed_in rules ms
   unfolding rules later_rules
   by_oids r l = listed_after r (name_rules ms) (later_rules ms) (listed_before r (oid_rules (named ms)) (of_syntax ++ of_objects) l)
 
-  by_syntax : (r : Rule) → r Listed-in of_syntax → r Listed-in rules ms
+  by_syntax : (r : Rule) → r listed_in of_syntax → r listed_in rules ms
   unfolding rules later_rules
   by_syntax r l =
       listed_after r (name_rules ms) (later_rules ms)
       (listed_after r (oid_rules (named ms)) (of_syntax ++ of_objects) (listed_before r of_syntax of_objects l))
 
-  by_objects : (r : Rule) → r Listed-in of_objects → r Listed-in rules ms
+  by_objects : (r : Rule) → r listed_in of_objects → r listed_in rules ms
   unfolding rules later_rules
   by_objects r l =
       listed_after r (name_rules ms) (later_rules ms)
       (listed_after r (oid_rules (named ms)) (of_syntax ++ of_objects) (listed_after r of_syntax of_objects l))
 
   -- one of a rule for each definition
-  one_of : (f : ℕ → Rule) (k : ℕ) → k < definition_count ms → f k Listed-in each f 0 (length shapes.definitions)
+  one_of : (f : ℕ → Rule) (k : ℕ) → k < definition_count ms → f k listed_in each f 0 (length shapes.definitions)
   unfolding each
   one_of f k h = listed_each f 0 (length shapes.definitions - 0) k (omega arith) (omega (arith, all_there ms (classed_keeps ms)))
 
-  by_ranges : (k : ℕ) → k < definition_count ms → ranges Places k Listed-in of_syntax
+  by_ranges : (k : ℕ) → k < definition_count ms → ranges Places k listed_in of_syntax
   unfolding rules_over
   by_ranges k h = listed_before (ranges Places k) (each (ranges Places) 0 (length shapes.definitions)) _ (one_of (ranges Places) k h)
 
-  by_limits : (k : ℕ) → k < definition_count ms → ranges Limits k Listed-in of_syntax
+  by_limits : (k : ℕ) → k < definition_count ms → ranges Limits k listed_in of_syntax
   unfolding rules_over
   by_limits k h =
       listed_after (ranges Limits k) (each (ranges Places) 0 (length shapes.definitions)) _
       (listed_before (ranges Limits k) (each (ranges Limits) 0 (length shapes.definitions)) _ (one_of (ranges Limits) k h))
 
-  by_items : (k : ℕ) → k < definition_count ms → items k Listed-in of_syntax
+  by_items : (k : ℕ) → k < definition_count ms → items k listed_in of_syntax
   unfolding rules_over
   by_items k h =
       listed_after (items k) (each (ranges Places) 0 (length shapes.definitions)) _
       (listed_after (items k) (each (ranges Limits) 0 (length shapes.definitions)) _
       (listed_before (items k) (each items 0 (length shapes.definitions)) (conventions ∷ []) (one_of items k h)))
 
-  by_conventions : conventions Listed-in of_syntax
+  by_conventions : conventions listed_in of_syntax
   unfolding rules_over
   by_conventions =
       listed_after conventions (each (ranges Places) 0 (length shapes.definitions)) _

@@ -51,21 +51,21 @@ pub record BrokenBy (r : Rule) (token : ℕ) : Type 0 where
   pub placed : r.place index ≡ token
 
 -- the rule is one of these
-infix 50 ◌listed-in◌
-abbrev pub ◌listed-in◌ : Rule → List Rule → Type 0
-r Listed-in [] = ⊥
-r Listed-in (s ∷ rs) = (r ≡ s) ⊎ (r Listed-in rs)
+infix 50 ◌listed_in◌
+abbrev pub ◌listed_in◌ : Rule → List Rule → Type 0
+r listed_in [] = ⊥
+r listed_in (s ∷ rs) = (r ≡ s) ⊎ (r listed_in rs)
 
 -- one of the rules, of this number, is broken at this token
 pub record BrokenIn (rs : List Rule) (number token : ℕ) : Type 0 where
   pub rule : Rule
-  pub listed : rule Listed-in rs
+  pub listed : rule listed_in rs
   pub numbered : rule.number ≡ number
   pub index : ℕ
   pub broken : Broken rule index
   pub placed : rule.place index ≡ token
 
-pub broken_in : {rs : List Rule} {number token : ℕ} (r : Rule) → r Listed-in rs → r.number ≡ number → BrokenBy r token → BrokenIn rs number token
+pub broken_in : {rs : List Rule} {number token : ℕ} (r : Rule) → r listed_in rs → r.number ≡ number → BrokenBy r token → BrokenIn rs number token
 broken_in r listed numbered b = record {
   rule = r;
   listed = listed;
@@ -76,19 +76,20 @@ broken_in r listed numbered b = record {
 }
 
 -- a rule of a part of a row is one of the row
-pub listed_before : (r : Rule) (rs ss : List Rule) → r Listed-in rs → r Listed-in (rs ++ ss)
+pub listed_before : (r : Rule) (rs ss : List Rule) → r listed_in rs → r listed_in (rs ++ ss)
+listed_before r [] ss none = elim none [ ]
 listed_before r (s ∷ rs) ss (inl same) = inl same
 listed_before r (s ∷ rs) ss (inr l) = inr (listed_before r rs ss l)
 
-pub listed_after : (r : Rule) (rs ss : List Rule) → r Listed-in ss → r Listed-in (rs ++ ss)
+pub listed_after : (r : Rule) (rs ss : List Rule) → r listed_in ss → r listed_in (rs ++ ss)
 listed_after r [] ss l = l
 listed_after r (s ∷ rs) ss l = inr (listed_after r rs ss l)
 
-pub listed_each : (rule : ℕ → Rule) (a n k : ℕ) → a ≤ k → k < a + n → rule k Listed-in each_of rule a n
+pub listed_each : (rule : ℕ → Rule) (a n k : ℕ) → a ≤ k → k < a + n → rule k listed_in each_of rule a n
 unfolding each_of
 listed_each rule a zero k l h = absurd (omega arith)
 listed_each rule a (suc n) k l h = go (dec_lt a k) (λ more. listed_each rule (suc a) n k more (omega arith))
   where
-    go : Dec (a < k) → (a < k → rule k Listed-in each_of rule (suc a) n) → rule k Listed-in each_of rule a (suc n)
+    go : Dec (a < k) → (a < k → rule k listed_in each_of rule (suc a) n) → rule k listed_in each_of rule a (suc n)
     go (yes more) rest = inr (rest more)
     go (no less) rest = let same : k ≡ a = omega arith in inl (ap rule same)

@@ -7,7 +7,7 @@ use Prim.Native.Nat.{ℕ, zero, suc, ◌+◌, ◌≤◌, ◌<◌}
 use native.Mathlib.Omega.{arith}
 use Rattle.rule.specs.Rule.{Rule, each_of}
 use Rattle.statements.specs.Order.{rank}
-use Rattle.statements.proofs.Ordered.{Broken, Before, BeforeAll, InOrder, Placed, ◌listed-in◌}
+use Rattle.statements.proofs.Ordered.{Broken, Before, BeforeAll, InOrder, Placed, ◌listed_in◌}
 use Rattle.statements.proofs.RisingHits.{Confined}
 
 -- all have ranks from n on, below m
@@ -21,7 +21,8 @@ pub record Run (n m : ℕ) (rs : List Rule) : Type 0 where
   pub in_order : InOrder rs
 
 -- so has one that is listed
-pub ranked_listed : {n m : ℕ} (rs : List Rule) → Ranked n m rs → (s : Rule) → s Listed-in rs → (n ≤ rank s.number) × (rank s.number < m)
+pub ranked_listed : {n m : ℕ} (rs : List Rule) → Ranked n m rs → (s : Rule) → s listed_in rs → (n ≤ rank s.number) × (rank s.number < m)
+ranked_listed {n = n} {m = m} [] p s none = elim none [ ]
 ranked_listed (r ∷ rs) p s (inl same) = let equal = ap (λ (x : Rule). rank x.number) same in (omega (arith, p.0, equal), omega (arith, p.1, equal))
 ranked_listed (r ∷ rs) p s (inr l) = ranked_listed rs p.2 s l
 

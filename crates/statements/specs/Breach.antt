@@ -21,7 +21,7 @@ use Rattle.definition.specs.declared.Restriction.TheVariants.{Ranges, Sizes, Enu
 use Rattle.definition.specs.declared.Syntax.{Syntax}
 use Rattle.definition.specs.declared.Syntax.TheVariants as syntax
 use Rattle.module_table.specs.declared.Definition.{Definition}
-use Rattle.module◌table.specs.Module.{Module, most_definitions, at, oid_of}
+use Rattle.module_table.specs.Module.{Module, most_definitions, at, oid_of}
 use Rattle.outline.specs.Outline.{outline}
 use Rattle.scope.specs.Token.{classes_of, spelled}
 use Rattle.scope.specs.Import.{imports_end, is_import, source}
