@@ -1,6 +1,6 @@
 // The clauses on tables, rows and their INDEX.
 ghost use Rattle.std.specs.Prelude.{◌≡◌, ◌+◌, ◌≤◌, ◌<◌, length};
-ghost use Rattle.module_table.specs.Definition.{definitions_in, entry};
+ghost use Rattle.module_table.specs.Definition.{definitions_in};
 ghost use Rattle.module_table.specs.Module.{most_definitions, oid_in};
 ghost use Rattle.clause_table.specs.Clause.{ends_in_one, has_its_row, rowless_table, is_row_in, stray_row};
 ghost use Rattle.clause_table.specs.Held.{RowsFrom, index_clause, row_clause, ClauseTable};

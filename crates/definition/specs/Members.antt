@@ -1,6 +1,6 @@
 -- What stands in a field's span: the names and the numbers of a list, by the indices of their tokens.
 -- Assumes nothing.
-use Rattle.std.specs.Prelude.{Bool, List, ℕ, ◌-◌, eqb}
+use Rattle.std.specs.Prelude.{Bool, List, ℕ, eqb}
 use Rattle.index.specs.First.{hits}
 use Rattle.terminal.specs.Terminal.{number}
 use Rattle.definition.specs.Landmark.{class_at, is_lower}

@@ -3,7 +3,7 @@
 ghost use Rattle.std.specs.Prelude.{◌≡◌, ◌-◌, ◌≤◌, ◌<◌, length, take};
 ghost use Rattle.chain.specs.Chain.{Chained};
 ghost use Rattle.chain.specs.Key.{list_key};
-ghost use Rattle.module_table.specs.Definition.{definitions_in, entry, changed};
+ghost use Rattle.module_table.specs.Definition.{definitions_in, changed};
 ghost use Rattle.module_table.specs.Module.{most_definitions, oid_in};
 ghost use Rattle.object_tree.specs.Tree.{is_parent, parent_of, with_parent, with_parents_of, parents_added, key_of, ParentTable};
 

@@ -4,7 +4,7 @@
 // and are copied.
 ghost use Rattle.std.specs.Prelude.{◌≡◌, true, ◌++◌, ◌+◌, ◌≤◌, ◌<◌, length, take};
 ghost use Rattle.token.specs.Table.{overlaid};
-ghost use Rattle.module_table.specs.Definition.{definitions_in, entry};
+ghost use Rattle.module_table.specs.Definition.{definitions_in};
 ghost use Rattle.module_table.specs.Module.{oid_in};
 ghost use Rattle.oid_number.specs.Number.{parts_in};
 ghost use Rattle.oid_head.specs.Oid.{named_in, reached_in, reaches, name_numbers, resolved_oid, numbers_before, first_number};

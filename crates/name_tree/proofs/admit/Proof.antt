@@ -9,7 +9,6 @@ use lib.ListN.{length, get_or, length-set}
 use borrow.Author.Rules.{rules}
 use Rattle.lexicon.specs.Word.{same, between}
 use Rattle.bit_tree.specs.Bit.{name_bit}
-use Rattle.bit_tree.specs.Tree.{child}
 use Rattle.name_tree.specs.Key.{key_count, name_key}
 use Rattle.name_tree.specs.Tree.{part_at}
 use Rattle.name_tree.proofs.Keyed.{key_few}

@@ -1,6 +1,6 @@
 -- `row_status::create_and_wait` meets its contract: its tests are those of `createAndWait`, the outer ones first.
 -- Assumes nothing.
-use borrow.Author.Tests.{eq-eqb, ne_eqb, not-true, not-false}
+use borrow.Author.Tests.{eq-eqb, ne_eqb}
 use Rattle.row_status.proofs.create_and_wait.Statement.{statement}
 use Rattle.row_status.proofs.create_and_wait.Tie as tie
 

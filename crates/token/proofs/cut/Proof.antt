@@ -12,7 +12,6 @@ use Rattle.token.specs.Table.{longest_text}
 use Rattle.piece.specs.Found.{found_at}
 use Rattle.piece.specs.declared.Found.{Found}
 use Rattle.token.specs.declared.Answer.TheVariants.{Tokens}
-use Rattle.lexicon.proofs.Bytes.{class_table}
 use Rattle.token.proofs.Left.{step_end}
 use Rattle.token.proofs.Progress.{Progress, progress_start, progress_blank, progress_done, read_forward, read_gap, read_token}
 use Rattle.token.proofs.Progress.{read_refusal}

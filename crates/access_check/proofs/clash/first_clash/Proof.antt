@@ -12,7 +12,6 @@ use Rattle.module_table.specs.Definition.{definitions_in}
 use Rattle.sequence_list.specs.Held.{places}
 use Rattle.sequence_list.proofs.Asking.{Asking, asking_miss, asking_hit, asking_end, first_asked, none_asked}
 use Rattle.access_check.specs.Access.{has_access, creates, clashes}
-use Rattle.access_check.specs.Found.{written_type}
 use Rattle.access_check.proofs.Clashing.{Clear, clear_start, clear_more, clash_by_type, written_few}
 use Rattle.access_check.proofs.clash.first_clash.Statement.{statement}
 use Rattle.access_check.proofs.clash.first_clash.Tie as tie

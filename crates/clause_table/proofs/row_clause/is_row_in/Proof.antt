@@ -1,7 +1,6 @@
 -- `is_row_in` is right, test by test.
 -- Assumes nothing.
 use mathlib.Core.Path.{sym, ◌∙◌}
-use borrow.Author.Tests.{not-true, not-false}
 use Rattle.clause_table.proofs.Clauses.{no_table, other_type, same_type}
 use borrow.Author.Rules.{rules}
 use Rattle.clause_table.proofs.row_clause.is_row_in.Statement.{statement}

@@ -2,7 +2,6 @@
 -- Assumes nothing.
 use mathlib.Core.Path.{◌≡◌, sym, ap, ◌∙◌}
 use mathlib.Core.Bool.{not}
-use borrow.Author.Tests.{not-true, not-false}
 use Rattle.module_table.specs.Definition.{definitions_in, entry}
 use Rattle.object_tree.specs.Words.{is_table}
 use Rattle.clause_table.specs.Clause.{rowless_table}

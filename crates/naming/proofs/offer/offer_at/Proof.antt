@@ -5,7 +5,6 @@ use mathlib.Core.Bool.{Bool}
 use mathlib.Core.List.{List}
 use Prim.Native.Nat.{ℕ}
 use native.Mathlib.Omega.{arith}
-use borrow.Author.Tests.{not-true, not-false}
 use Rattle.token.specs.Cut.{meanings_in}
 use Rattle.symbol.specs.Symbol.{symbol_of}
 use Rattle.scope.specs.Token.{classes_of, spelled}

@@ -2,7 +2,6 @@
 -- Assumes nothing.
 use Rattle.oid_run.specs.Run.{is_below}
 use mathlib.Core.Path.{sym, ◌∙◌}
-use borrow.Author.Tests.{not-true, not-false}
 use Rattle.object_tree.proofs.Parents.{no_child, not_parent, parent_below, below_same}
 use borrow.Author.Rules.{rules}
 use Rattle.object_tree.proofs.parent.is_parent.Statement.{statement}

@@ -2,7 +2,6 @@
 -- Assumes nothing.
 use mathlib.Core.Path.{sym, ◌∙◌}
 use native.Mathlib.Omega.{arith}
-use borrow.Author.Tests.{not-true, not-false}
 use Rattle.range_list.proofs.Spreading.{spread_skip, spread_below, spread_above}
 use borrow.Author.Rules.{rules}
 use Rattle.range_list.proofs.spread.widen.Statement.{statement}

@@ -7,7 +7,6 @@ use Prim.Native.Nat.{ℕ}
 use native.Mathlib.Omega.{arith}
 use lib.Dec.{ltb}
 use lib.ListN.{get_or}
-use borrow.Author.Rules.{rules}
 use Rattle.index.specs.First.{first, first_of, any}
 use Rattle.lexicon.specs.Word.{bytes, same, joined}
 use Rattle.lexicon.proofs.Words.{starts_there}

@@ -7,7 +7,7 @@ use native.Mathlib.Omega.{arith}
 use Rattle.rule.proofs.Judged.{Judging, judging_start, judging_next, judging_broken, judging_kept}
 use Rattle.module_table.specs.Definition.{definitions_in, entry}
 use Rattle.table_check.specs.Refusal.{clause_of, table_broken}
-use Rattle.table_check.specs.Found.{picked, found}
+use Rattle.table_check.specs.Found.{found}
 use Rattle.table_check.proofs.Picked.{clause_picked, picked_same, nonzero_breach, zero_kept}
 use Rattle.table_check.proofs.judge.judge_tables.Statement.{statement}
 use Rattle.table_check.proofs.judge.judge_tables.Tie as tie
