@@ -89,6 +89,12 @@ def in_rt(text, rows):
     return re.sub(r"(?P<comment>//[^\n]*)|(?P<text>b?\"(?:\\.|[^\"\\])*\"|b?'(?:\\.|[^'\\])')|(?P<code>(?:(?!//)[^\"'])+|')", piece, text)
 
 
+def in_edit(text, rows):
+    """The lines of an edit that stand for lines of a file."""
+    turn = in_rt if re.search(r"(?m)^file: .*\.rt$", text) else in_antt
+    return re.sub(r"(?m)^((?:old|new): )(.*)$", lambda m: m[1] + turn(m[2], rows), text)
+
+
 def words(text, rows):
     return WORD.sub(lambda m: rows.get(m[0], m[0]), text)
 
@@ -126,7 +132,7 @@ def main(argv):
                 file.write(made)
     for path in [*files(".rt"), *files(".edit")]:
         text = read(path)
-        made = in_rt(text, rows)
+        made = in_edit(text, rows) if path.endswith(".edit") else in_rt(text, rows)
         if made != text:
             with open(path, "w", encoding="utf-8") as file:
                 file.write(made)
