@@ -8,7 +8,6 @@ use Rattle.card_line.specs.Line.{accepted_line}
 use Rattle.card_line.proofs.write_accepted.Statement.{statement}
 use Rattle.card_line.proofs.write_accepted.Tie as tie
 
-
 copy-requires : tie.Need-copy-next-requires
 copy-requires c κs = search rules
 

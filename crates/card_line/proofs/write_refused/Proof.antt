@@ -8,7 +8,6 @@ use Rattle.card_line.specs.Line.{refused_line}
 use Rattle.card_line.proofs.write_refused.Statement.{statement}
 use Rattle.card_line.proofs.write_refused.Tie as tie
 
-
 copy-requires : tie.Need-copy-next-requires
 copy-requires c κs = search rules
 
