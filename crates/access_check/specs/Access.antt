@@ -48,7 +48,7 @@ is_counter d = eqb d.class counter32 || eqb d.class counter64
 abbrev pub is_counter_access : Definition → Bool
 is_counter_access d = eqb d.access read_only || eqb d.access accessible_for_notify
 
--- 4: a counter that is neither read_only nor accessible-for-notify, or has DEFVAL
+-- 4: a counter that is neither read-only nor accessible-for-notify, or has DEFVAL
 abbrev pub unfit_counter : Definition → Bool
 unfit_counter d = is_counter d && (not (is_counter_access d) || eqb d.default 1)
 

@@ -24,7 +24,7 @@ unfoldable pub pointed : ℕ → ℕ → List ℕ
 pointed zero n = digits 10 n ++ (code "." ∷ [])
 pointed (suc places) n = pointed places (n / 10) ++ (glyph (n % 10) ∷ [])
 
--- octets as a big_endian unsigned number, after octets that were worth n
+-- octets as a big-endian unsigned number, after octets that were worth n
 unfoldable pub big_endian : ℕ → List ℕ → ℕ
 big_endian n [] = n
 big_endian n (octet ∷ rest) = big_endian (n * 256 + octet) rest

@@ -46,7 +46,7 @@ pub fn print_pointed(n: u64, places: u64, out: &mut [u8], at: usize) -> usize
     put(out, next, glyph_of(n % 10))
 }
 
-// Octets as a big_endian number.
+// Octets as a big-endian number.
 pub fn big_endian(s: &[u8]) -> u64
     requires { length s.now ≤ 8 }
     ensures { result ≡ big_endian 0 s.now }

@@ -25,7 +25,7 @@ unfoldable pub passed : ℕ → List ℕ → Cut → Outcome
 passed at octets (whole places) = printed octets
 passed at octets (stuck i) = fault (at + i)
 
--- the octets of one use, which start at a place of the value: a and t pass them on, x d o print a big_endian number
+-- the octets of one use, which start at a place of the value: a and t pass them on, x d o print a big-endian number
 unfoldable pub use_text : ℕ → ℕ → List ℕ → Outcome
 use_text format at octets =
     cond (passes format) (passed at octets (characters format octets))

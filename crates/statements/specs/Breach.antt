@@ -197,7 +197,7 @@ pub data AccessFault (m : Module) (k : ℕ) : Type 0 where
   accessible : (is_table (at m k) ≡ true) ⊎ (is_row (at m k) ≡ true) → ((at m k).access ≡ not_accessible → ⊥) → AccessFault m k
   -- "read-create only in columns"
   created : is_object (at m k) ≡ true → (at m k).access ≡ read_create → is_row (above m k) ≡ false → AccessFault m k
-  -- "objects of classes 7 and 12 are read_only or accessible-for-notify"
+  -- "objects of classes 7 and 12 are read-only or accessible-for-notify"
   counter : is_object (at m k) ≡ true → ((at m k).class ≡ counter32) ⊎ ((at m k).class ≡ counter64)
       → ((at m k).access ≡ read_only → ⊥) → ((at m k).access ≡ accessible_for_notify → ⊥) → AccessFault m k
   -- ", without DEFVAL"
