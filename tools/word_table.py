@@ -69,7 +69,7 @@ def table():
         "const NONE: u8 = 0;",
         "",
         "// The class of the word in each slot; then the row of each word.",
-        "pub const LOOKUP: [u8; LOOKUP_SIZE] = [",
+        "pub static LOOKUP: [u8; LOOKUP_SIZE] = [",
     ]
     lines += [f"    {constant(slots[i]) if i in slots else 'NONE'}, // {i}" for i in range(hashing[-1])]
     for word in found:

@@ -11,9 +11,12 @@ use native.Mathlib.Omega.{arith}
 use lib.Dec.{T, eqb, eqb→eq, ltb, ltb→lt}
 use lib.ListN.{length, get_or, take, drop, length-append, length-take, length-drop}
 use lib.Seq.{take-suc, get_or-drop, take-append_seam, drop-append_seam, drop-append-add, get_or-take, length-take-le}
-use borrow.Author.Tests.{eq-eqb, ne_eqb, eqb-true}
+use Rattle.std.proofs.lemmas.List.{take_all}
+use borrow.Author.Tests.{eq-eqb, ne_eqb, eqb-true, lt-ltb, le-ltb}
+use Rattle.std.specs.Prelude.{Option, None, Some}
+use Rattle.std.specs.Bool.{then_some}
 use Rattle.terminal.specs.Terminal.{terminals, first_word, word_count}
-use Rattle.lexicon.specs.Word.{words, word_table, word_classes, word, bytes, same, place_in, joined, start_of}
+use Rattle.lexicon.specs.Word.{words, word_table, word_classes, word, bytes, same, some_place, place_in, joined, start_of}
 use Rattle.lexicon.specs.Word.{between, Within, slot, slot_of, slot_count, SlotWord, row_start, lookup_size, LookupTable}
 use Rattle.lexicon.proofs.Places.{byte_there}
 use Rattle.index.proofs.Tested.{passes, tested}
@@ -143,6 +146,42 @@ module _ (s : List ℕ) (class : ℕ) (held : SlotWord (slot_of s) class) where
           let t : same s (get_or words (place_in s words) []) ≡ true = place_same s words q in
           absurd (true_false t f)
 
+  -- so that the code's answer is the place, if the name is a word
+  pub not_named : ((k : ℕ) → class ≡ first_word + k → same s (get_or words k []) ≡ false) → None ≡ some_place word_count (place_in s words)
+  not_named h =
+      let none : word_count ≤ place_in s words = omega (arith, not_found h) in
+      simp (le-ltb _ _ none)
+
+  pub named : (is : Bool) → first_word ≤ class → is ≡ same s (get_or words (class - first_word) [])
+      → then_some is (class - first_word) ≡ some_place word_count (place_in s words)
+  named true h q =
+      let few = held.few in
+      let e : class - first_word ≡ place_in s words = found (class - first_word) (omega arith) (omega arith) (sym q) in
+      let inside : place_in s words < word_count = omega arith in
+      rw e (simp (lt-ltb _ _ inside))
+  named false h q = not_named (λ k e. let is : k ≡ class - first_word = omega arith in rw is (sym q))
+
+-- what the answer says of the place
+pub some_word : (place k : ℕ) → Some k ≡ some_place word_count place → (place < word_count) × (k ≡ place)
+some_word place k e = go (dec_lt place word_count)
+  where
+    go : Dec (place < word_count) → (place < word_count) × (k ≡ place)
+    go (yes h) =
+        let is : Some k ≡ Some place = e ∙ simp (lt-ltb place word_count h) in
+        (h, cc)
+    go (no h) =
+        let is : Some k ≡ None = e ∙ simp (le-ltb place word_count (omega arith)) in
+        cc
+
+pub no_word : (place : ℕ) → None ≡ some_place word_count place → word_count ≤ place
+no_word place e = go (dec_lt place word_count)
+  where
+    go : Dec (place < word_count) → word_count ≤ place
+    go (yes h) =
+        let is : ◌≡◌ {A = Option ℕ} None (Some place) = e ∙ simp (lt-ltb place word_count h) in
+        cc
+    go (no h) = omega arith
+
 -- among the joined spellings, a word's own stands where it starts
 pub word_part : (ws : List (List ℕ)) (k : ℕ) → k < length ws
     → drop (start_of ws k) (joined ws) ≡ get_or ws k [] ++ drop (start_of ws (suc k)) (joined ws)
@@ -254,6 +293,10 @@ module _ (ws : List (List ℕ)) where
 
     pub word_compared : (name : List ℕ) {r : Bool} → r ≡ same name (between spellings from to) → r ≡ same name (get_or ws k [])
     word_compared name q = q ∙ ap (same name) word_between
+
+-- a part that is the whole text is the text
+pub whole_text : (t : List ℕ) → between t 0 (length t) ≡ t
+whole_text t = take_all (length t - 0) t (omega arith)
 
 -- a part of a text has as many bytes as its ends lie apart
 pub between_length : (t : List ℕ) (start end : ℕ) → Within t start end → length (between t start end) ≡ end - start

@@ -1,6 +1,6 @@
 -- The words of the grammar: the capital words, and the status and access words. One table serves the code and the definition.
 -- Assumes nothing.
-use Rattle.std.specs.Prelude.{Bool, true, false, cond, ◌&&◌, ◌≡◌, List, [], ◌∷◌, ◌++◌, map, ℕ, suc, ◌+◌, ◌-◌, ◌*◌, ◌%◌, ◌≤◌, ◌<◌, eqb, leb, ltb, length, get_or, take, drop}
+use Rattle.std.specs.Prelude.{Option, None, Some, Bool, true, false, cond, ◌&&◌, ◌≡◌, List, [], ◌∷◌, ◌++◌, map, ℕ, suc, ◌+◌, ◌-◌, ◌*◌, ◌%◌, ◌≤◌, ◌<◌, eqb, leb, ltb, length, get_or, take, drop}
 use Prim.Native.Char.{code}
 use Prim.Native.String.{String, [] as none, ◌∷◌ as char-and}
 use Rattle.index.specs.Choice.{when◌then◌else◌}
@@ -106,6 +106,10 @@ same (x ∷ xs) (y ∷ ys) = eqb x y && same xs ys
 unfoldable pub place_in : List ℕ → List (List ℕ) → ℕ
 place_in s [] = 0
 place_in s (w ∷ ws) = cond (same s w) 0 (suc (place_in s ws))
+
+-- a place among n, if it is one
+abbrev pub some_place : ℕ → ℕ → Option ℕ
+some_place n place = when ltb place n then Some place else None
 
 -- the words' spellings, one after the other
 unfoldable pub joined : List (List ℕ) → List ℕ

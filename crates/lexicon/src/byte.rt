@@ -1,6 +1,6 @@
 // The class of each of the 256 byte values. specs/Byte.antt has the rule, and the numbers under the same names.
 ghost use Rattle.std.specs.Prelude.{◌≡◌};
-ghost use Rattle.lexicon.specs.Byte.{class_of, ClassTable, blank_byte};
+ghost use Rattle.lexicon.specs.Byte.{class_of, blank_byte};
 
 // A mark of one byte has its token's number. Letters and digits are the classes up to CAPITAL, below the marks; hex digits are
 // those from SMALL_HEX to CAPITAL_HEX.
@@ -40,7 +40,7 @@ pub const QUOTE: u8 = terminal::BAR + 9;
 pub const OTHER: u8 = terminal::BAR + 10;
 
 // The class of each byte; a mark of one byte has its token's.
-const CLASSES: [u8; 256] = [
+static CLASSES: [u8; 256] = [
     OTHER, // 0
     OTHER, // 1
     OTHER, // 2
@@ -299,26 +299,16 @@ const CLASSES: [u8; 256] = [
     OTHER, // 255
 ];
 
-// The class table. Who scans bytes takes it once and lends it on, since a constant is built anew wherever it is used.
-pub fn class_table() -> [u8; 256]
-    ensures { ClassTable result }
-{
-    CLASSES
-}
-
 // The class of the byte b.
-pub fn class_of(table: &[u8; 256], b: u8) -> u8
-    requires { ClassTable table.now }
+pub fn class_of(b: u8) -> u8
     ensures { result ≡ class_of b }
 {
-    table[b as usize]
+    CLASSES[b as usize]
 }
 
 // Whether the byte b is a blank.
-pub fn is_blank(table: &[u8; 256], b: u8) -> bool
-    requires { ClassTable table.now }
+pub fn is_blank(b: u8) -> bool
     ensures { result ≡ blank_byte b 0 }
 {
-    let class = class_of(table, b);
-    (NEWLINE <= class) & (class <= FEED)
+    (NEWLINE..=FEED).contains(&class_of(b))
 }

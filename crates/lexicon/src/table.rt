@@ -13,7 +13,7 @@ pub const LOOKUP_SIZE: usize = SLOT_COUNT + ROW_WIDTH * terminal::WORDS;
 const NONE: u8 = 0;
 
 // The class of the word in each slot; then the row of each word.
-pub const LOOKUP: [u8; LOOKUP_SIZE] = [
+pub static LOOKUP: [u8; LOOKUP_SIZE] = [
     NONE, // 0
     NONE, // 1
     NONE, // 2

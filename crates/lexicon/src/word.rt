@@ -1,23 +1,14 @@
 // The words of the grammar, looked up by a hash of a name's first byte, last byte and length: no two words share a slot, so
 // one comparison decides. specs/Word.antt has the words; the table of the code, in table.rt, has them in the same order.
-ghost use Rattle.std.specs.Prelude.{◌≡◌, ◌+◌, ◌-◌, ◌<◌, ◌≤◌, length, get_or, take, drop, []};
+ghost use Rattle.std.specs.Prelude.{◌≡◌, ◌+◌, ◌<◌, ◌≤◌, length, get_or, take, drop, []};
 ghost use Rattle.terminal.specs.Terminal.{word_count};
-ghost use Rattle.lexicon.specs.Word.{words, same, between, Within, NameWithin, place_in, name_class};
-ghost use Rattle.lexicon.specs.Word.{slot_count, SlotWord, LookupTable};
-ghost use Rattle.lexicon.specs.Byte.{ClassTable};
+ghost use Rattle.lexicon.specs.Word.{words, same, between, Within, longest_name, some_place, place_in, name_class};
+ghost use Rattle.lexicon.specs.Word.{slot_count, SlotWord};
 
 use crate::byte::{CAPITAL_HEX, class_of};
-pub use crate::table::LOOKUP_SIZE;
 use crate::table::{LOOKUP, ROW_WIDTH, SLOT_COUNT};
 use index::wide_byte;
-use terminal::{FIRST_WORD, WORDS};
-
-// The table of the look-up. Who looks words up takes it once and lends it on, as the class table.
-pub fn lookup_table() -> [u8; LOOKUP_SIZE]
-    ensures { LookupTable result }
-{
-    LOOKUP
-}
+use terminal::FIRST_WORD;
 
 // Whether n bytes of a, from its place i on, are those of b from its place j on. The names of one module mostly begin alike, so the
 // last bytes are looked at first.
@@ -26,9 +17,7 @@ fn same_part(a: &[u8], i: usize, b: &[u8], j: usize, n: usize) -> bool
     requires in_b { j + n ≤ length b.now }
     ensures { result ≡ same (take n (drop i a.now)) (take n (drop j b.now)) }
 {
-    let mut k = n;
-    while 0 < k {
-        k -= 1;
+    for k in (0..n).rev() {
         if a[i + k] != b[j + k] {
             return false;
         }
@@ -49,69 +38,50 @@ pub fn same_spelling(a: &[u8], from: usize, to: usize, b: &[u8], start: usize, e
     same_part(a, from, b, start, n)
 }
 
-// Whether the name from start to end of the text is the word k.
-fn is_word(lookup: &[u8; LOOKUP_SIZE], text: &[u8], start: usize, end: usize, k: usize) -> bool
-    requires part { Within text.now start end }
-    requires word { k < word_count }
-    requires lookup { LookupTable lookup.now }
-    ensures { result ≡ same (between text.now start end) (get_or words k []) }
+// Whether the name is the word k.
+fn is_word(name: &[u8], k: usize) -> bool
+    requires { k < word_count }
+    ensures { result ≡ same name.now (get_or words k []) }
 {
     let row = SLOT_COUNT + ROW_WIDTH * k;
     let from = row + 1;
-    let to = from + wide_byte(lookup[row]);
-    same_spelling(text, start, end, lookup, from, to)
+    let to = from + wide_byte(LOOKUP[row]);
+    same_spelling(name, 0, name.len(), &LOOKUP, from, to)
 }
 
 // The class of the word in a slot of the hash, or one that is no word's.
-fn slot_class(lookup: &[u8; LOOKUP_SIZE], slot: usize) -> usize
-    requires slot { slot < slot_count }
-    requires lookup { LookupTable lookup.now }
+fn slot_class(slot: usize) -> usize
+    requires { slot < slot_count }
     ensures { SlotWord slot result }
 {
-    wide_byte(lookup[slot])
+    wide_byte(LOOKUP[slot])
 }
 
-// Which word the name from start to end of the text is, or WORDS where it is none.
-fn word_of(lookup: &[u8; LOOKUP_SIZE], text: &[u8], start: usize, end: usize) -> usize
-    requires name { NameWithin text.now start end }
-    requires lookup { LookupTable lookup.now }
-    ensures { result ≡ place_in (between text.now start end) words }
+// Which word the name is, if it is one.
+fn word_of(name: &[u8]) -> Option<usize>
+    requires some { 0 < length name.now }
+    requires short { length name.now ≤ longest_name }
+    ensures { result ≡ some_place word_count (place_in name.now words) }
 {
-    let first = text[start] as usize;
-    let last = text[end - 1] as usize;
-    let class = slot_class(
-        lookup,
-        (5 * first + 3 * last + 7 * (end - start)) % SLOT_COUNT,
-    );
+    let first = name[0] as usize;
+    let last = name[name.len() - 1] as usize;
+    let class = slot_class((5 * first + 3 * last + 7 * name.len()) % SLOT_COUNT);
     if class < FIRST_WORD {
-        return WORDS;
+        return None;
     }
     let k = class - FIRST_WORD;
-    if is_word(lookup, text, start, end, k) {
-        return k;
-    }
-    WORDS
+    is_word(name, k).then_some(k)
 }
 
-// The class of the name from start to end of the text: a word's own, UPPER or LOWER.
-pub fn name_class(
-    table: &[u8; 256],
-    lookup: &[u8; LOOKUP_SIZE],
-    text: &[u8],
-    start: usize,
-    end: usize,
-) -> u8
-    requires name { NameWithin text.now start end }
-    requires table { ClassTable table.now }
-    requires lookup { LookupTable lookup.now }
-    ensures { result ≡ name_class (between text.now start end) }
+// The class of a name: a word's own, UPPER or LOWER.
+pub fn name_class(name: &[u8]) -> u8
+    requires some { 0 < length name.now }
+    requires short { length name.now ≤ longest_name }
+    ensures { result ≡ name_class name.now }
 {
-    let k = word_of(lookup, text, start, end);
-    if k < WORDS {
-        return (FIRST_WORD + k) as u8;
+    match word_of(name) {
+        Some(k) => (FIRST_WORD + k) as u8,
+        None if CAPITAL_HEX <= class_of(name[0]) => terminal::UPPER,
+        None => terminal::LOWER,
     }
-    if CAPITAL_HEX <= class_of(table, text[start]) {
-        return terminal::UPPER;
-    }
-    terminal::LOWER
 }
