@@ -2,6 +2,7 @@
 -- A text is the list of its bytes. `cond t a b` is a where the test t holds, and b where it doesn't.
 -- Assumes nothing.
 use Rattle.std.specs.Prelude.{Bool, cond, ◌&&◌, ◌||◌, List, [], ◌∷◌, ℕ, suc, ◌+◌, leb, ltb, eqb, length, get_or, take, drop}
+use Rattle.std.specs.List.{starts_with}
 use Rattle.index.specs.Choice.{when◌then◌else◌}
 use Rattle.terminal.specs.Terminal.{number, negative, text, hex, assign, dots, left_brace, bar}
 use Rattle.lexicon.specs.Byte.{class_of, quote, hyphen, apostrophe, colon, dot, digit, blank_byte, digit_byte, hex_byte, text_byte, name_byte, alphanumeric, comment_byte, two_hyphens}
@@ -115,6 +116,10 @@ after_colon s = cond (eqb (get_or s 0 0) 58 && eqb (get_or s 1 0) 61) (token ass
 -- where a dot is followed by s: `..`, whose other byte is 46
 unfoldable pub after_dot : List ℕ → Piece
 after_dot s = cond (eqb (get_or s 0 0) 46) (token dots 2) (refusal no_token 0)
+
+-- where the first byte of a mark of this class is followed by s: the mark, where s begins with the rest of its bytes
+unfoldable pub marked : List ℕ → ℕ → List ℕ → Piece
+marked rest class s = cond (starts_with eqb s rest) (token class (suc (length rest))) (refusal no_token 0)
 
 -- where a byte of the class c, which is no letter, no digit and no blank, is followed by s
 unfoldable pub punctuation : ℕ → List ℕ → Piece

@@ -1,12 +1,11 @@
--- The runs of bytes that the code scans.
+-- The run of bytes that the code passes.
 -- Assumes nothing.
-use Rattle.std.specs.Prelude.{Bool, ℕ}
-use Rattle.lexicon.specs.Byte.{classed, name_byte, comment_byte}
-use Rattle.piece.specs.declared.scan.Run.{Run}
-use Rattle.piece.specs.declared.scan.Run.TheVariants.{Classes, Name, Comment}
+use Rattle.std.specs.Prelude.{Bool, true, false, ℕ, ◌≤◌, ◌<◌}
 
--- a byte belongs to a run, by it and the byte after it
-abbrev pub belongs_to : Run → ℕ → ℕ → Bool
-belongs_to (Classes low high) = classed low high
-belongs_to Name = name_byte
-belongs_to Comment = comment_byte
+-- where a test of the places of a text, told by what its calls may answer, ends a run that starts at `at`: each place of the run
+-- passed it, and the place at the end did not, or is the text's end
+pub record EndsRun (answers : ℕ → Bool → Type 0) (size at end : ℕ) : Type 0 where
+  pub from : at ≤ end
+  pub inside : end ≤ size
+  pub passed : (i : ℕ) → at ≤ i → i < end → answers i true
+  pub stopped : end < size → answers end false

@@ -1,46 +1,52 @@
 -- `piece_at` is right because it asks the first byte's class what the definition asks.
 -- Assumes nothing.
-use Rattle.std.proofs.Common.{◌+◌, refl, ap}
+use Rattle.std.proofs.Common.{◌≡◌, ◌+◌, ◌≤◌, ◌<◌, refl, List, ℕ, rules, arith}
 use borrow.Author.Tests.{le-leb, lt-leb, ne_eqb}
-use Rattle.piece.specs.Piece.{piece}
-use Rattle.piece.specs.declared.Found.TheVariants.{Piece}
-use Rattle.piece.specs.Found.{gap_class}
+use Rattle.lexicon.specs.Byte.{blank_byte, digit, capital, newline, feed}
 use Rattle.lexicon.proofs.Places.{first_class, rest_at}
-use Rattle.piece.proofs.piece_at.Goals.{then-class-ge-NEWLINE+else-class-le-FEED, else-class-ge-NEWLINE}
+use Rattle.piece.specs.Piece.{piece}
+use Rattle.piece.proofs.Span.{run_span}
+use Rattle.piece.proofs.Answered.{gap}
+use Rattle.piece.proofs.piece_at.Goals.{in_default-2-via-then-this-lt18, in_default-2-via-else-this-lt18+else-this-lt21}
 use Rattle.piece.proofs.piece_at.Goals as goal
 
-pub returns-then-class-eq-DIGIT : goal.returns-then-class-eq-DIGIT
+pub returns-in-2 : goal.returns-in-2
 unfolding piece
-returns-then-class-eq-DIGIT c =
-    let asked = first_class c.args.text.now c.args.at c.class_of-class.ensures in
-    simp (asked, c.if-class-eq-DIGIT.true) c.number_at.ensures
+returns-in-2 c = simp (first_class c.args.text.now c.args.at c.class_of.ensures, c.in-2.is) c.number_at.ensures
 
-pub returns-then-class-le-CAPITAL : goal.returns-then-class-le-CAPITAL
+pub returns-in-0-to-4 : goal.returns-in-0-to-4
 unfolding piece
-returns-then-class-le-CAPITAL c =
-    let asked = first_class c.args.text.now c.args.at c.class_of-class.ensures in
-    simp (asked, le-leb _ _ c.if-class-le-CAPITAL.true, ne_eqb _ _ c.if-class-eq-DIGIT.false) c.name_at.ensures
+returns-in-0-to-4 c =
+    let k : ℕ = c.class_of.result in
+    let letter : k ≤ capital = omega arith in
+    let other : k ≡ digit → ⊥ = λ e. omega arith in
+    simp (first_class c.args.text.now c.args.at c.class_of.ensures, le-leb _ _ letter, ne_eqb _ _ other) c.name_at.ensures
 
-pub returns-then-class-le-FEED : goal.returns-then-class-le-FEED
+pub returns-in-18-to-20 : goal.returns-in-18-to-20
 unfolding piece
-returns-then-class-le-FEED c =
-    let asked = first_class c.args.text.now c.args.at c.class_of-class.ensures in
-    simp (
-      asked,
-      lt-leb _ _ c.if-class-le-CAPITAL.false,
-      le-leb _ _ c.if-class-ge-NEWLINE.true,
-      le-leb _ _ c.if-class-le-FEED.true,
-    )
-    (ap (Piece gap_class) c.run_end.ensures)
+returns-in-18-to-20 c =
+    let t : List ℕ = c.args.text.now in
+    let k : ℕ = c.class_of.result in
+    let e = run_span blank_byte _ t c.args.at c.run_end.result c.run_end.ensures (λ i h r k. search rules) in
+    let low : newline ≤ k = omega arith in
+    let high : k ≤ feed = omega arith in
+    let no_letter : capital < k = omega arith in
+    simp (first_class t c.args.at c.class_of.ensures, lt-leb _ _ no_letter, le-leb _ _ low, le-leb _ _ high) (gap _ _ e)
 
-pub returns : goal.returns
+pub returns-in_default : goal.returns-in_default
 unfolding piece
-returns c =
-    let a = c.args in
-    let asked = first_class a.text.now a.at c.class_of-class.ensures in
-    let no_letter = lt-leb _ _ c.if-class-le-CAPITAL.false in
-    let rest = rest_at a.text.now a.at 1 (a.at + 1) refl in
-    elim c.if-class-ge-NEWLINE.branch [
-      | then-class-ge-NEWLINE+else-class-le-FEED w ↦ simp (asked, no_letter, le-leb _ _ w.if-class-ge-NEWLINE.true, lt-leb _ _ w.if-class-le-FEED.false, rest) c.punctuation_at.ensures
-      | else-class-ge-NEWLINE w ↦ simp (asked, no_letter, lt-leb _ _ w.if-class-ge-NEWLINE.false, rest) c.punctuation_at.ensures
+returns-in_default c =
+    let t : List ℕ = c.args.text.now in
+    let k : ℕ = c.class_of.result in
+    let asked = first_class t c.args.at c.class_of.ensures in
+    let rest = rest_at t c.args.at 1 (c.args.at + 1) refl in
+    let no_letter : capital < k = omega arith in
+    elim c.in_default-2.branch [
+      | in_default-2-via-then-this-lt18 w ↦
+          let low : k < newline = omega arith in
+          simp (asked, lt-leb _ _ no_letter, lt-leb newline k low, rest) c.punctuation_at.ensures
+      | in_default-2-via-else-this-lt18+else-this-lt21 w ↦
+          let low : newline ≤ k = omega arith in
+          let high : feed < k = omega arith in
+          simp (asked, lt-leb _ _ no_letter, le-leb newline k low, lt-leb k feed high, rest) c.punctuation_at.ensures
     ]
