@@ -2,7 +2,7 @@
 -- Assumes nothing.
 use mathlib.Core.Path.{◌≡◌, refl, sym, ap}
 use mathlib.Core.List.{List, map}
-use Prim.Native.Nat.{ℕ, ◌-◌, ◌≤◌, ◌<◌}
+use Prim.Native.Nat.{ℕ, ◌≤◌, ◌<◌}
 use native.Mathlib.Omega.{arith}
 use lib.ListN.{length, get_or, length-map, length-append, length-drop}
 use Rattle.lexicon.specs.Word.{between}
@@ -10,12 +10,11 @@ use Rattle.token.specs.Token.{Tok, tok, meaning, no_token, class_of_token}
 use Rattle.token.specs.Cut.{Ending, whole, refused, cut}
 use Rattle.token.specs.Law.{Sound}
 use Rattle.token.specs.Table.{longest_text, token_entry, TokenTable, Lent, overlaid, answer_to, Held}
-use Rattle.token.specs.declared.Answer.{Answer}
-use Rattle.token.specs.declared.Answer.TheVariants.{Tokens}
+use Rattle.std.specs.Prelude.{Result, Ok}
 use Rattle.token.proofs.Laws.{rising, few, sound_at, held_at}
 
 -- an answer that counts tokens counts them all, and the whole text is cut
-pub counted : (count n : ℕ) (ending : Ending) → Tokens count ≡ answer_to n ending → (count ≡ n) × (ending ≡ whole)
+pub counted : (count n : ℕ) (ending : Ending) → Ok count ≡ answer_to n ending → (count ≡ n) × (ending ≡ whole)
 counted count n whole e = (cc, refl)
 counted count n (refused r p) e = let z : ◌≡◌ {A = ℕ} 0 1 = cc in absurd (omega arith)
 
@@ -32,7 +31,7 @@ overlaid_at field ts held old i none is h = rw is (held_at field ts old i no_tok
 
 -- the table of all tokens that the cut of a text read
 module _
-    (text : List ℕ) (answer : Answer) (classes starts ends classes' starts' ends' : List ℕ)
+    (text : List ℕ) (answer : Result ℕ (ℕ × ℕ)) (classes starts ends classes' starts' ends' : List ℕ)
     (lent : Lent text classes starts ends) (held : Held text answer classes starts ends classes' starts' ends')
   where
     read : (i : ℕ) → i < length (cut text).tokens → token_entry text classes' starts' ends' i ≡ get_or (cut text).tokens i no_token

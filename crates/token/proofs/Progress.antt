@@ -13,10 +13,9 @@ use Rattle.lexicon.specs.Byte.{blank_byte}
 use Rattle.token.specs.Token.{Tok, tok, meaning, class_of_token}
 use Rattle.piece.specs.Piece.{Piece, gap, token, refusal, piece}
 use Rattle.token.specs.Cut.{Ending, refused, Cut, cut}
-use Rattle.piece.specs.Found.{gap_class, found_at}
-use Rattle.token.specs.Table.{longest_text, Lent, overlaid, answer_to, Held, refusal_of}
-use Rattle.token.specs.declared.Answer.{Answer}
-use Rattle.index.specs.declared.Place.{Place}
+use Rattle.std.specs.Prelude.{Result, Ok, Err}
+use Rattle.piece.specs.Found.{found_at}
+use Rattle.token.specs.Table.{longest_text, Lent, overlaid, answer_to, Held}
 use Rattle.piece.specs.declared.Found.{Found}
 use Rattle.piece.proofs.Pieces.{Fit}
 use Rattle.token.proofs.Left.{left, ended, step_blank, step_gap, step_token, step_refusal, fit_at}
@@ -124,7 +123,7 @@ module _
           ∙ sets-eq (map field (cut t).tokens) array₀ 0 room
           ∙ ap (λ (k : ℕ). map field (cut t).tokens ++ drop k array₀) (zero-add (length (map field (cut t).tokens)))
 
-      pub progress_done : (answer : Answer) → answer ≡ answer_to n ending
+      pub progress_done : (answer : Result ℕ (ℕ × ℕ)) → answer ≡ answer_to n ending
           → Held t answer classes₀ starts₀ ends₀ classes starts ends
       progress_done answer e =
           let end : ending ≡ (cut t).ending = sym (ap (λ (x : Cut). x.ending) q) ∙ p.ending in
@@ -143,48 +142,41 @@ module _
     (t classes₀ starts₀ ends₀ classes starts ends : List ℕ) (at n : ℕ)
     (p : Progress t classes₀ starts₀ ends₀ classes starts ends at n) (h : at < length t)
   where
-    pub read_forward : (c e : ℕ) → Found.Piece c e ≡ found_at at (piece (drop at t)) → (at < e) × (e ≤ length t)
-    read_forward c e found = go (piece (drop at t)) found (fit_at t at h)
+    pub read_gap : (f : Found) (e : ℕ) → Ok f ≡ found_at at (piece (drop at t)) → f ≡ Found.Gap e
+        → (at < e) × Progress t classes₀ starts₀ ends₀ classes starts ends e n
+    read_gap f e found is = go (piece (drop at t)) refl (ap Ok (sym is) ∙ found) (fit_at t at h)
       where
-        go : (x : Piece) → Found.Piece c e ≡ found_at at x → Fit (drop at t) x → (at < e) × (e ≤ length t)
-        go (gap m) q f = let w : e ≡ at + m = cc in omega (arith, f.fits.0, f.fits.1, length-drop at t)
-        go (token k m) q f = let w : e ≡ at + m = cc in omega (arith, f.fits.some, f.fits.inside, length-drop at t)
-        go (refusal r d) q f = let z : ◌≡◌ {A = ℕ} 0 1 = cc in omega arith
-
-    pub read_gap : (c e : ℕ) → Found.Piece c e ≡ found_at at (piece (drop at t)) → c ≡ gap_class
-        → Progress t classes₀ starts₀ ends₀ classes starts ends e n
-    read_gap c e found is = go (piece (drop at t)) refl found (fit_at t at h)
-      where
-        go : (x : Piece) → piece (drop at t) ≡ x → Found.Piece c e ≡ found_at at x → Fit (drop at t) x
-            → Progress t classes₀ starts₀ ends₀ classes starts ends e n
+        go : (x : Piece) → piece (drop at t) ≡ x → Ok (Found.Gap e) ≡ found_at at x → Fit (drop at t) x
+            → (at < e) × Progress t classes₀ starts₀ ends₀ classes starts ends e n
         go (gap m) r q f =
             let w : e ≡ at + m = cc in
-            rw w (progress_gap _ _ _ _ _ _ _ at n p m h r f.fits)
-        go (token k m) r q f = let w : c ≡ k = cc in absurd (omega (arith, f.fits.terminal))
-        go (refusal k d) r q f = let z : ◌≡◌ {A = ℕ} 0 1 = cc in absurd (omega arith)
+            (omega (arith, f.fits.0), rw w (progress_gap _ _ _ _ _ _ _ at n p m h r f.fits))
+        go (token k m) r q f = cc
+        go (refusal k d) r q f = cc
 
-    pub read_token : (c e : ℕ) → Found.Piece c e ≡ found_at at (piece (drop at t)) → (c ≡ gap_class → ⊥)
-        → Progress t classes₀ starts₀ ends₀ (set classes n c) (set starts n at) (set ends n e) e (n + 1)
-    read_token c e found not = go (piece (drop at t)) refl found (fit_at t at h)
+    pub read_token : (f : Found) (c e : ℕ) → Ok f ≡ found_at at (piece (drop at t)) → f ≡ Found.Token c e
+        → (at < e) × Progress t classes₀ starts₀ ends₀ (set classes n c) (set starts n at) (set ends n e) e (n + 1)
+    read_token f c e found is = go (piece (drop at t)) refl (ap Ok (sym is) ∙ found) (fit_at t at h)
       where
-        go : (x : Piece) → piece (drop at t) ≡ x → Found.Piece c e ≡ found_at at x → Fit (drop at t) x
-            → Progress t classes₀ starts₀ ends₀ (set classes n c) (set starts n at) (set ends n e) e (n + 1)
-        go (gap m) r q f = let w : c ≡ gap_class = cc in absurd (not w)
+        go : (x : Piece) → piece (drop at t) ≡ x → Ok (Found.Token c e) ≡ found_at at x → Fit (drop at t) x
+            → (at < e) × Progress t classes₀ starts₀ ends₀ (set classes n c) (set starts n at) (set ends n e) e (n + 1)
+        go (gap m) r q f = cc
         go (token k m) r q f =
             let v : c ≡ k = cc in
             let w : e ≡ at + m = cc in
-            rw (v, w) (progress_token _ _ _ _ _ _ _ at n p k m h r (f.fits.some, f.fits.inside))
-        go (refusal k d) r q f = let z : ◌≡◌ {A = ℕ} 0 1 = cc in absurd (omega arith)
+            (omega (arith, f.fits.some), rw (v, w) (progress_token _ _ _ _ _ _ _ at n p k m h r (f.fits.some, f.fits.inside)))
+        go (refusal k d) r q f = cc
 
     -- a refusal is the answer, and the cut ends there
-    pub read_refusal : Lent t classes₀ starts₀ ends₀ → (found : Found) (k : ℕ) (place : Place) → found ≡ Found.Refused k place
-        → found ≡ found_at at (piece (drop at t)) → Held t (refusal_of found) classes₀ starts₀ ends₀ classes starts ends
-    read_refusal lent found k place is q = go (piece (drop at t)) refl q
+    pub read_refusal : Lent t classes₀ starts₀ ends₀ → (number place : ℕ) → Err (number, place) ≡ found_at at (piece (drop at t))
+        → Held t (Err (number, place)) classes₀ starts₀ ends₀ classes starts ends
+    read_refusal lent number place q = go (piece (drop at t)) refl q
       where
-        go : (x : Piece) → piece (drop at t) ≡ x → found ≡ found_at at x
-            → Held t (refusal_of found) classes₀ starts₀ ends₀ classes starts ends
-        go (gap m) r q = let z : ◌≡◌ {A = ℕ} 0 1 = cc in absurd (omega arith)
-        go (token c m) r q = let z : ◌≡◌ {A = ℕ} 0 1 = cc in absurd (omega arith)
+        go : (x : Piece) → piece (drop at t) ≡ x → Err (number, place) ≡ found_at at x
+            → Held t (Err (number, place)) classes₀ starts₀ ends₀ classes starts ends
+        go (gap m) r q = cc
+        go (token c m) r q = cc
         go (refusal j d) r q =
             let none = step_refusal t at j d h r in
-            progress_done _ _ _ _ _ _ _ at n p lent (refused j (at + d)) none (refusal_of found) (ap refusal_of q)
+            let e : ◌≡◌ {A = Result ℕ (ℕ × ℕ)} (Err (number, place)) (Err (j, at + d)) = cc in
+            progress_done _ _ _ _ _ _ _ at n p lent (refused j (at + d)) none (Err (number, place)) e

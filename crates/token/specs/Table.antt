@@ -1,13 +1,10 @@
 -- The token table: three parallel arrays that hold the tokens' classes, starts and ends.
 -- Assumes nothing.
-use Rattle.std.specs.Prelude.{◌≡◌, List, ◌++◌, map, ℕ, ◌≤◌, ◌<◌, length, get_or, drop}
+use Rattle.std.specs.Prelude.{Result, Ok, Err, ◌≡◌, List, ◌++◌, map, ℕ, ◌≤◌, ◌<◌, length, get_or, drop}
 use Rattle.lexicon.specs.Word.{between}
 use Rattle.token.specs.Token.{Tok, tok, no_token, class_of_token}
 use Rattle.token.specs.Cut.{Ending, whole, refused, cut}
 use Rattle.token.specs.Law.{Sound}
-use Rattle.piece.specs.declared.Found.{Found}
-use Rattle.token.specs.declared.Answer.{Answer}
-use Rattle.token.specs.declared.Answer.TheVariants.{Tokens, Refused}
 
 -- the longest text, in bytes; the arrays have as many entries, since a token has a byte at least
 abbrev pub longest_text : ℕ
@@ -43,18 +40,13 @@ abbrev pub overlaid : List ℕ → List ℕ → List ℕ
 overlaid new old = new ++ drop (length new) old
 
 -- the answer to a cut: how many tokens the whole text has, or the refusal's number and place
-abbrev pub answer_to : ℕ → Ending → Answer
-answer_to count whole = Tokens count
-answer_to count (refused n p) = Refused n (record { 0 = p })
+abbrev pub answer_to : ℕ → Ending → Result ℕ (ℕ × ℕ)
+answer_to count whole = Ok count
+answer_to count (refused n p) = Err (n, p)
 
 -- What a cut leaves: its answer, and in each array the tokens up to where the cut ends, before what was there.
-pub record Held (text : List ℕ) (answer : Answer) (classes starts ends classes' starts' ends' : List ℕ) : Type 0 where
+pub record Held (text : List ℕ) (answer : Result ℕ (ℕ × ℕ)) (classes starts ends classes' starts' ends' : List ℕ) : Type 0 where
   pub answered : answer ≡ answer_to (length (cut text).tokens) (cut text).ending
   pub classes_held : classes' ≡ overlaid (map class_of_token (cut text).tokens) classes
   pub starts_held : starts' ≡ overlaid (map (λ (t : Tok). t.start) (cut text).tokens) starts
   pub ends_held : ends' ≡ overlaid (map (λ (t : Tok). t.end) (cut text).tokens) ends
-
--- the answer to what the code found, where that is a refusal
-abbrev pub refusal_of : Found → Answer
-refusal_of (Found.Piece c e) = Tokens 0
-refusal_of (Found.Refused n p) = Refused n p
