@@ -402,9 +402,9 @@ class Printer:
             f"pub const ACCEPTING: u8 = {a.accepting};",
             "",
             "// As many rows as there are states, each with an entry for each class.",
-            f"pub const ENTRIES: usize = {size};",
+            f"const ENTRIES: usize = {size};",
             "",
-            "pub const TABLE: [u8; ENTRIES] = [",
+            "pub static TABLE: [u8; ENTRIES] = [",
         ]
         for state, row in enumerate(a.rows):
             lines.append(f"    // state {state}, {self.where(state)}")

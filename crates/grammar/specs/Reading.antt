@@ -1,10 +1,10 @@
 -- The call's answer as a verdict.
 -- Assumes nothing.
 use Rattle.grammar.specs.Answer.{Verdict, derived, refused}
-use Rattle.grammar.specs.declared.Reading.{Reading}
-use Rattle.grammar.specs.declared.Reading.TheVariants.{Derived, Refused}
+use Rattle.std.specs.Prelude.{Result, Ok, Err}
+use Rattle.index.specs.declared.TokenIndex.{TokenIndex}
 
--- `Derived` is derived, and `Refused` is refused at the token of its index
-abbrev pub verdict : Reading → Verdict
-verdict Derived = derived
-verdict (Refused i) = refused i.0
+-- `Ok` is derived, and `Err` is refused at the token of its index
+abbrev pub verdict : {A : Type 0} → Result A TokenIndex → Verdict
+verdict (Ok derives) = derived
+verdict (Err i) = refused i.0

@@ -12,9 +12,9 @@ pub const START: u8 = 1;
 pub const ACCEPTING: u8 = 30;
 
 // As many rows as there are states, each with an entry for each class.
-pub const ENTRIES: usize = 7830;
+const ENTRIES: usize = 7830;
 
-pub const TABLE: [u8; ENTRIES] = [
+pub static TABLE: [u8; ENTRIES] = [
     // state 0, dead: no derived sequence goes on so
     0, 0, 0, 0, 0, 0, 0, 0, 0, 0, 0, 0, 0, 0, 0, 0, 0, 0, 0, 0, 0, 0, 0, 0, 0, 0, 0, 0, 0, 0, 0, 0,
     0, 0, 0, 0, 0, 0, 0, 0, 0, 0, 0, 0, 0, 0, 0, 0, 0, 0, 0, 0, 0, 0, 0, 0, 0, 0,
