@@ -7,14 +7,13 @@ use mathlib.Core.List.{List, [], ◌∷◌, map}
 use native.Mathlib.Omega.{arith}
 use lib.Dec.{ltb, leb-suc-suc}
 use lib.ListN.{length, get_or, take, drop, get_or-append, length-map}
-use lib.Seq.{take_at, take_all}
+use lib.Seq.{take_at, take_all, get_or-take, length-take-le}
 use borrow.Author.Tests.{lt-ltb, le-ltb, ltb-true, ltb-false}
 use Rattle.token.specs.Token.{Tok, class_of_token}
 use Rattle.token.specs.Cut.{Cut, cut, cut_from, Ending, whole, refused}
 use Rattle.token.specs.Law.{QuotedChange}
-use Rattle.token.specs.Table.{TokenTable, Lent, Held, overlaid, answer_to as token-answer}
-use Rattle.token.specs.declared.Answer.{Answer as TokenAnswer}
-use Rattle.token.specs.declared.Answer.TheVariants.{Tokens, Refused}
+use Rattle.token.specs.Table.{longest_text, TokenTable, Lent, Held, overlaid, answer_to as token-answer}
+use Rattle.std.specs.Prelude.{Result, Ok, Err}
 use Rattle.index.specs.declared.Place.{Place}
 use Rattle.token.proofs.Entries.{counted, cut_table}
 use Rattle.token.proofs.Samples.{sample}
@@ -28,8 +27,11 @@ use Rattle.grammar.specs.Derivation.{BeginsTokens, EachTerminal}
 use Rattle.grammar.proofs.Derivation.{token_theorem, one_token_verdict, no_tokens_refused}
 use Rattle.syntax.specs.Parsing.{place_of, count, answer_to, Judges, Parses, Tabled, DerivedText, ThirdDemand}
 use Rattle.syntax.specs.Placing.{placed}
-use Rattle.syntax.specs.declared.Answer.{Answer}
-use Rattle.syntax.specs.declared.Answer.TheVariants.{Derived, Underived, Uncut}
+use Rattle.syntax.specs.Parsing.{Parsing as Answer, Derived, Underived, Uncut}
+
+-- the answer to a cut: the count, or the refusal's number and place
+abbrev TokenAnswer : Type 0
+TokenAnswer = Result ℕ (ℕ × ℕ)
 
 -- each terminal is the class of a token: of one that some text is
 each_terminal : EachTerminal class_of_token
@@ -64,19 +66,35 @@ placed_is : (ts : List Tok) (old : List ℕ) (size : ℕ) (v : Verdict)
 placed_is ts old size derived = refl
 placed_is ts old size (refused-at i) = ap (λ (p : ℕ). Underived (length ts) (record { 0 = p })) (place_held ts old size i)
 
+-- the first n starts place what they all place
+part_place : (n : ℕ) (starts' : List ℕ) (size i : ℕ) (b : Bool) → ltb i n ≡ b
+    → cond b (get_or (take n starts') i 0) size ≡ cond b (get_or starts' i 0) size
+part_place n starts' size i true inside = get_or-take n starts' i 0 (ltb-true i n inside)
+part_place n starts' size i false outside = refl
+
+part_placed : (n : ℕ) (starts' classes : List ℕ) (size : ℕ) (v : Verdict) → n ≤ longest_text → length classes ≡ longest_text
+    → placed (length (take n classes)) (take n starts') size v ≡ placed n starts' size v
+part_placed n starts' classes size v few long =
+    let counted : length (take n classes) ≡ n = length-take-le n classes (omega arith) in
+    rw counted (go v)
+  where
+    go : (v : Verdict) → placed n (take n starts') size v ≡ placed n starts' size v
+    go derived = refl
+    go (refused-at i) = ap (λ (p : ℕ). Underived n (record { 0 = p })) (part_place n starts' size i (ltb i n) refl)
+
 -- what the cut left of a text that may be lent to it
 module _
     (t : List ℕ) (a : TokenAnswer) (old-classes old-starts old-ends classes starts' ends : List ℕ)
     (lent : Lent t old-classes old-starts old-ends) (held : Held t a old-classes old-starts old-ends classes starts' ends)
   where
     -- how many tokens it has
-    all_counted : (n : ℕ) → a ≡ Tokens n → n ≡ length (cut t).tokens
+    all_counted : (n : ℕ) → a ≡ Ok n → n ≡ length (cut t).tokens
     all_counted n is = (counted n (length (cut t).tokens) (cut t).ending (sym is ∙ held.answered)).0
 
     table : TokenTable t (cut t).tokens classes starts' ends (length (cut t).tokens)
     table = cut_table t a old-classes old-starts old-ends classes starts' ends lent held
 
-    pub counted_table : (n : ℕ) → a ≡ Tokens n → TokenTable t (cut t).tokens classes starts' ends n
+    pub counted_table : (n : ℕ) → a ≡ Ok n → TokenTable t (cut t).tokens classes starts' ends n
     counted_table n is = rw (all_counted n is) table
 
     -- its answer is the one to how it ends
@@ -84,14 +102,16 @@ module _
     answer_is x e is ending = sym is ∙ held.answered ∙ ap (token-answer (length (cut t).tokens)) ending
 
     -- a text that the cut refuses
-    pub uncut_parses : (n : ℕ) (p : Place) → a ≡ Refused n p → Parses t (Uncut n p) × Tabled t (Uncut n p) classes starts' ends
+    pub uncut_parses : (n p : ℕ) → a ≡ Err (n, p)
+        → Parses t (Uncut n (record { 0 = p })) × Tabled t (Uncut n (record { 0 = p })) classes starts' ends
     uncut_parses n p is = (
       record {
         uncut = λ m q ending.
-            let same : Refused n p ≡ Refused m (record { 0 = q }) = answer_is _ (refused m q) is ending in
-            cc;
+            let same : ◌≡◌ {A = TokenAnswer} (Err (n, p)) (Err (m, q)) = answer_is _ (refused m q) is ending in
+            let pair : ◌≡◌ {A = ℕ × ℕ} (n, p) (m, q) = cc in
+            λ i. Uncut (pair i).0 (record { 0 = (pair i).1 });
         judged = λ ending.
-            let same : Refused n p ≡ Tokens (length (cut t).tokens) = answer_is _ whole is ending in
+            let same : ◌≡◌ {A = TokenAnswer} (Err (n, p)) (Ok (length (cut t).tokens)) = answer_is _ whole is ending in
             let zero_one : ◌≡◌ {A = ℕ} 0 1 = cc in
             absurd (omega arith);
       },
@@ -103,8 +123,8 @@ module _
     tabled (refused-at i) = table
 
     -- a text that cuts into tokens
-    pub judged_parses : (n : ℕ) (r : Answer) → a ≡ Tokens n
-        → r ≡ placed n starts' (length t) (run module_automaton (take n classes))
+    pub judged_parses : (n : ℕ) (r : Answer) → a ≡ Ok n
+        → r ≡ placed (length (take n classes)) (take n starts') (length t) (run module_automaton (take n classes))
         → Parses t r × Tabled t r classes starts' ends
     judged_parses n r is answer =
         let ts = (cut t).tokens in
@@ -114,10 +134,10 @@ module _
         take_at sequence (drop (length sequence) old-classes) (length ts) (length-map ts class_of_token) in
         let is-placed = placed_is ts old-starts (length t) verdict in
         let right : r ≡ answer_to ts (length t) verdict =
-        answer ∙ rw (all_counted n is, held.classes_held, held.starts_held, all) is-placed in (
+        answer ∙ part_placed n starts' classes (length t) _ (counted_table n is).few (counted_table n is).classes_long ∙ rw (all_counted n is, held.classes_held, held.starts_held, all) is-placed in (
           record {
             uncut = λ m p ending.
-                let same : Tokens n ≡ Refused m (record { 0 = p }) = answer_is _ (refused m p) is ending in
+                let same : ◌≡◌ {A = TokenAnswer} (Ok n) (Err (m, p)) = answer_is _ (refused m p) is ending in
                 let zero_one : ◌≡◌ {A = ℕ} 0 1 = cc in
                 absurd (omega arith);
             judged = λ ending. (verdict, run_judges ts, right);

@@ -1,2 +1,3 @@
 pub mod Parsing
 pub mod Placing
+pub mod Parsed

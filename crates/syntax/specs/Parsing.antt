@@ -9,8 +9,16 @@ use Rattle.grammar.specs.Grammar.{smi_module}
 use Rattle.grammar.specs.Answer.{Verdict, derived}
 use Rattle.grammar.specs.Answer.{refused as refused-at}
 use Rattle.grammar.specs.Derivation.{Derivation, tokens_of, DerivesTokens, BeginsTokens, AnswersTokens}
-use Rattle.syntax.specs.declared.Answer.{Answer}
-use Rattle.syntax.specs.declared.Answer.TheVariants.{Derived, Underived, Uncut}
+use Rattle.index.specs.declared.Place.{Place}
+
+-- What parsing a text comes to. In the code that is a result: `Parsed` says which.
+pub data Parsing : Type 0 where
+  -- the grammar derives the text's tokens: so many of them
+  Derived : ℕ → Parsing
+  -- the text cuts into so many tokens, and the grammar does not derive them
+  Underived : ℕ → Place → Parsing
+  -- the text does not cut into tokens: the refusal's number and place
+  Uncut : ℕ → Place → Parsing
 
 -- a place: the start of the token of that index, or the text's length at its end
 abbrev pub place_of : List Tok → ℕ → ℕ → ℕ
@@ -19,24 +27,24 @@ place_of (t ∷ ts) size zero = t.start
 place_of (t ∷ ts) size (suc i) = place_of ts size i
 
 -- the number of each case of the answer, and its place
-abbrev pub number : Answer → ℕ
+abbrev pub number : Parsing → ℕ
 number (Derived tokens) = 0
 number (Underived tokens at) = 7
 number (Uncut n at) = n
 
-abbrev pub place : Answer → ℕ
+abbrev pub place : Parsing → ℕ
 place (Derived tokens) = 0
 place (Underived tokens at) = at.0
 place (Uncut n at) = at.0
 
 -- how many tokens the text cuts into
-abbrev pub count : Answer → ℕ
+abbrev pub count : Parsing → ℕ
 count (Derived n) = n
 count (Underived n at) = n
 count (Uncut n at) = 0
 
 -- the answer to a verdict of the grammar on all tokens of a text of that size
-abbrev pub answer_to : List Tok → ℕ → Verdict → Answer
+abbrev pub answer_to : List Tok → ℕ → Verdict → Parsing
 answer_to ts size derived = Derived (length ts)
 answer_to ts size (refused-at i) = Underived (length ts) (record { 0 = place_of ts size i })
 
@@ -45,14 +53,14 @@ abbrev pub Judges : List Tok → Verdict → Type 0
 Judges ts v = AnswersTokens class_of_token smi_module ts v
 
 -- The right answer to a text.
-pub record Parses (t : List ℕ) (answer : Answer) : Type 0 where
+pub record Parses (t : List ℕ) (answer : Parsing) : Type 0 where
   -- a text that does not cut into tokens has the cut's refusal, 3 to 6
   pub uncut : (n p : ℕ) → (cut t).ending ≡ refused n p → answer ≡ Uncut n (record { 0 = p })
   -- any other is answered by the right verdict of the grammar on its tokens
   pub judged : (cut t).ending ≡ whole → (v : Verdict) × Judges (cut t).tokens v × (answer ≡ answer_to (cut t).tokens (length t) v)
 
 -- The arrays are the token table of the text: of all its tokens, or of those before a refusal of the cut.
-abbrev pub Tabled : List ℕ → Answer → List ℕ → List ℕ → List ℕ → Type 0
+abbrev pub Tabled : List ℕ → Parsing → List ℕ → List ℕ → List ℕ → Type 0
 Tabled t (Derived n) classes starts ends = TokenTable t (cut t).tokens classes starts ends n
 Tabled t (Underived n at) classes starts ends = TokenTable t (cut t).tokens classes starts ends n
 Tabled t (Uncut n at) classes starts ends = TokenTable t (cut t).tokens classes starts ends (length (cut t).tokens)
@@ -74,7 +82,7 @@ pub record Fault (t : List ℕ) (at : ℕ) : Type 0 where
 
 -- The third demand, of the answer to a text that cuts into tokens: refusal 7 exactly when the grammar derives no such token
 -- sequence, at the place that the demand says; and a derivation is unique.
-pub record ThirdDemand (t : List ℕ) (answer : Answer) : Type 0 where
+pub record ThirdDemand (t : List ℕ) (answer : Parsing) : Type 0 where
   pub exactly : (number answer ≡ 7) ↔ (DerivesTokens class_of_token smi_module (cut t).tokens → ⊥)
   pub otherwise : (number answer ≡ 0) ↔ DerivesTokens class_of_token smi_module (cut t).tokens
   pub at_fault : number answer ≡ 7 → Fault t (place answer)

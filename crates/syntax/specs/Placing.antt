@@ -2,10 +2,9 @@
 -- Assumes nothing.
 use Rattle.std.specs.Prelude.{ℕ, cond, List, ltb, get_or}
 use Rattle.grammar.specs.Answer.{Verdict, derived, refused}
-use Rattle.syntax.specs.declared.Answer.{Answer}
-use Rattle.syntax.specs.declared.Answer.TheVariants.{Derived, Underived}
+use Rattle.syntax.specs.Parsing.{Parsing, Derived, Underived}
 
 -- derived, or refused at the start that the array has for the token, or at the text's length
-abbrev pub placed : ℕ → List ℕ → ℕ → Verdict → Answer
+abbrev pub placed : ℕ → List ℕ → ℕ → Verdict → Parsing
 placed count starts size derived = Derived count
 placed count starts size (refused i) = Underived count (record { 0 = cond (ltb i count) (get_or starts i 0) size })
