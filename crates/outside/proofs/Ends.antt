@@ -1,12 +1,12 @@
 -- Where a piece of a text ends, by what the code found at its place. Assumes nothing.
 use Prim.Native.Nat.{ℕ, ◌+◌, ◌≤◌, ◌<◌}
-use mathlib.Core.Path.{◌≡◌, sym, ◌∙◌, ap}
+use mathlib.Core.Path.{◌≡◌, refl, sym, subst, ◌∙◌, ap}
 use mathlib.Core.List.{List}
 use native.Mathlib.Nat.{add-zero, sub-zero}
 use native.Mathlib.Omega.{arith}
 use lib.ListN.{length, take, drop, length-drop, drop_of_length-le}
 use lib.Seq.{take-length}
-use Rattle.index.specs.declared.Place.{Place}
+use Rattle.std.specs.Prelude.{Result, Ok, Err}
 use Rattle.piece.specs.Piece.{Piece, gap, token, refusal, size, piece, punctuation}
 use Rattle.piece.specs.Found.{found_at}
 use Rattle.piece.specs.declared.Found.{Found}
@@ -21,27 +21,22 @@ pub whole_word : (w : List ℕ) → between w 0 (length w) ≡ w
 whole_word w = ap (λ n. take n (drop 0 w)) (sub-zero (length w)) ∙ take-length w
 
 module _ (t : List ℕ) (at : ℕ) where
-  -- a piece ends where it was found to
-  pub found_end : at < length t → (c e : ℕ) → Found.Piece c e ≡ found_at at (piece (drop at t)) → (e ≡ behind t at) × (at ≤ e) × (e ≤ length t)
-  unfolding behind
-  found_end h c e found = go (piece (drop at t)) found (fit_at t at h)
-    where
-      go : (x : Piece) → Found.Piece c e ≡ found_at at x → Fit (drop at t) x → (e ≡ at + size x) × (at ≤ e) × (e ≤ length t)
-      go (gap m) q f = let w : e ≡ at + m = cc in (w, omega arith, omega (arith, f.fits.1, length-drop at t))
-      go (token k m) q f = let w : e ≡ at + m = cc in (w, omega arith, omega (arith, f.fits.inside, length-drop at t))
-      go (refusal r d) q f = let z : ◌≡◌ {A = ℕ} 0 1 = cc in absurd (omega arith)
+  -- a piece ends where it was found to, and a refusal where it starts
+  abbrev pub Ends : Result Found (ℕ × ℕ) → Type 0
+  Ends (Ok (Found.Gap e)) = (e ≡ behind t at) × (at ≤ e) × (e ≤ length t)
+  Ends (Ok (Found.Token c e)) = (e ≡ behind t at) × (at ≤ e) × (e ≤ length t)
+  Ends (Err refused) = at ≡ behind t at
 
-  -- a refusal ends where it starts
-  pub refused_end : (found : Found) (k : ℕ) (place : Place) → found ≡ Found.Refused k place → found ≡ found_at at (piece (drop at t)) → at ≡ behind t at
+  pub found_end : at < length t → (r : Result Found (ℕ × ℕ)) → r ≡ found_at at (piece (drop at t)) → Ends r
   unfolding behind
-  refused_end found k place is e = go (piece (drop at t)) e
+  found_end h r found = subst Ends (sym found) (go (piece (drop at t)) refl (fit_at t at h))
     where
-      go : (x : Piece) → found ≡ found_at at x → at ≡ at + size x
-      go (gap m) q = let z : ◌≡◌ {A = ℕ} 0 1 = cc in absurd (omega arith)
-      go (token c m) q = let z : ◌≡◌ {A = ℕ} 0 1 = cc in absurd (omega arith)
-      go (refusal r d) q = sym (add-zero at)
+      go : (x : Piece) → piece (drop at t) ≡ x → Fit (drop at t) x → Ends (found_at at x)
+      go (gap m) q f = (ap (λ x. at + size x) (sym q), omega arith, omega (arith, f.fits.1, length-drop at t))
+      go (token k m) q f = (ap (λ x. at + size x) (sym q), omega arith, omega (arith, f.fits.inside, length-drop at t))
+      go (refusal r d) q f = sym (add-zero at) ∙ ap (λ x. at + size x) (sym q)
 
-  -- and so does what lies past the end
+  -- as does what lies past the end
   pub past_end : length t ≤ at → at ≡ behind t at
   unfolding behind piece punctuation class_of class_in rows
   past_end h = sym (add-zero at) ∙ ap (λ s. at + size (piece s)) (sym (drop_of_length-le t h))

@@ -5,8 +5,7 @@ ghost use Rattle.std.specs.Prelude.{◌≡◌, ◌≤◌, length};
 ghost use Rattle.lexicon.specs.Word.{same, between, Within};
 ghost use Rattle.outside.specs.Outside.{among, conformance_words, first_words, kind_of, behind, left_out, is_left, is_outside};
 
-use lexicon::byte::class_table;
-use lexicon::word::{lookup_table, same_spelling};
+use lexicon::word::same_spelling;
 use piece::{Found, piece_at};
 
 // What of SMI is left out.
@@ -93,12 +92,11 @@ fn piece_end(text: &[u8], at: usize) -> usize
     if text.len() <= at {
         return at;
     }
-    let table = class_table();
-    let lookup = lookup_table();
-    let Found::Piece(_, end) = piece_at(&table, &lookup, text, at) else {
-        return at;
-    };
-    end
+    match piece_at(text, at) {
+        Ok(Found::Gap(end)) => end,
+        Ok(Found::Token(_, end)) => end,
+        Err(_) => at,
+    }
 }
 
 // What a text has at a place that is left out.
