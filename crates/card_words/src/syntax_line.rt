@@ -1,11 +1,7 @@
 // A syntax in one line.
 ghost use Rattle.std.specs.Prelude.{◌≡◌, ◌≤◌, ◌<◌, length};
-ghost use Rattle.lexicon.specs.Byte.{ClassTable};
-ghost use Rattle.lexicon.specs.Word.{LookupTable};
 
-use lexicon::byte::class_table;
-use lexicon::word::{LOOKUP_SIZE, lookup_table};
-use piece::{Found, GAP, piece_at};
+use piece::{Found, piece_at};
 
 // What stands at a place: a token or a gap, and where it ends.
 #[derive(Clone, Copy)]
@@ -18,12 +14,10 @@ struct Step {
 pub fn lay(syntax: &[u8], out: &mut [u8]) -> usize
     ensures { result ≤ length out.new }
 {
-    let table = class_table();
-    let lookup = lookup_table();
     let mut n = 0;
     let mut at = 0;
     while at < syntax.len() {
-        let step = step_at(&table, &lookup, syntax, at);
+        let step = step_at(syntax, at);
         let end = step.end;
         if step.gap {
             n = lay_gap(out, n);
@@ -36,19 +30,15 @@ pub fn lay(syntax: &[u8], out: &mut [u8]) -> usize
 }
 
 // The token or the gap at a place. The syntax of a module that is accepted has no other bytes; one would be passed as a token.
-fn step_at(table: &[u8; 256], lookup: &[u8; LOOKUP_SIZE], syntax: &[u8], at: usize) -> Step
-    requires inside { at < length syntax.now }
-    requires table { ClassTable table.now }
-    requires lookup { LookupTable lookup.now }
+fn step_at(syntax: &[u8], at: usize) -> Step
+    requires { at < length syntax.now }
     ensures later { at < result.end }
     ensures inside { result.end ≤ length syntax.now }
 {
-    let found = piece_at(table, lookup, syntax, at);
-    let Found::Piece(class, end) = found else {
-        return Step {
-            gap: false,
-            end: at + 1,
-        };
+    let (gap, end) = match piece_at(syntax, at) {
+        Ok(Found::Gap(end)) => (true, end),
+        Ok(Found::Token(_, end)) => (false, end),
+        Err(_) => (false, at + 1),
     };
     if end <= at {
         return Step {
@@ -62,10 +52,7 @@ fn step_at(table: &[u8; 256], lookup: &[u8; LOOKUP_SIZE], syntax: &[u8], at: usi
             end: syntax.len(),
         };
     }
-    Step {
-        gap: class == GAP,
-        end,
-    }
+    Step { gap, end }
 }
 
 // A byte, where there is room for it.

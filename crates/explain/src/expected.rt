@@ -4,7 +4,6 @@ ghost use Rattle.std.specs.Prelude.{◌<◌, ◌≤◌, length};
 use crate::class_name::print_class;
 use crate::tokens::collect_tokens;
 use crate::word::print_word;
-use grammar::Reading;
 use output::{Output, print};
 use outside::Left;
 use terminal::TERMINALS;
@@ -57,12 +56,10 @@ fn collect_allowed(text: &[u8], allowed: &mut [bool; TERMINALS]) {
     let mut classes = [0u8; LONGEST_TEXT];
     let mut starts = [0u32; LONGEST_TEXT];
     let count = collect_tokens(text, &mut classes, &mut starts);
-    let Reading::Refused(index) = grammar::recognise(&classes, count) else {
-        return;
-    };
-    let n = index.0;
-    if n < LONGEST_TEXT {
-        mark_allowed(&mut classes, n, allowed);
+    if let Err(fault) = grammar::recognise(&classes[..count])
+        && fault.0 < LONGEST_TEXT
+    {
+        mark_allowed(&mut classes, fault.0, allowed);
     }
 }
 

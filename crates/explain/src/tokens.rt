@@ -3,7 +3,7 @@ ghost use Rattle.std.specs.Prelude.{◌≡◌, ◌≤◌, length};
 ghost use Rattle.token.specs.Table.{longest_text};
 
 use index::wide;
-use syntax::Answer;
+use syntax::Unparsed;
 use token::LONGEST_TEXT;
 
 // The classes and the starts of a text's tokens, and how many there are: none, where the text does not cut into tokens.
@@ -22,11 +22,10 @@ pub fn collect_tokens(
     if LONGEST_TEXT < text.len() {
         return 0;
     }
-    let answer = syntax::parse(text, classes, starts, &mut ends);
-    match answer {
-        Answer::Derived(count) => count,
-        Answer::Underived(count, _) => count,
-        Answer::Uncut(_, _) => 0,
+    match syntax::parse(text, classes, starts, &mut ends) {
+        Ok(count) => count,
+        Err(Unparsed::Underived(count, _)) => count,
+        Err(Unparsed::Uncut(_)) => 0,
     }
 }
 

@@ -1,5 +1,6 @@
 // The grammar: whether a sequence of token classes is a module and, where it is none, the token at fault. One load of the
-// transition table for each token. A class is the number that crate `terminal` gives a terminal of the grammar.
+// transition table for each token. A class is the number that crate `terminal` gives a terminal of the grammar, and a state its row of the
+// table. Numbers, not enums: specs/Automaton.antt and the theorem, `Answers`, speak of sequences of numbers.
 #![tactic(auto)]
 
 ghost use Rattle.std.specs.Prelude.{◌≡◌, true, ◌↔◌, ◌++◌, ◌∷◌, [], ◌<◌, length, take, set};

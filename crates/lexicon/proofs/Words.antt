@@ -332,12 +332,3 @@ module _ (table : List ℕ) (lookup : LookupTable table) (k size : ℕ) (h : k <
   row_compared name q =
       let n : row_start k + 1 + size - (row_start k + 1) ≡ length (get_or words k []) = omega (arith, lookup.sizes k h) in
       q ∙ ap (λ (m : ℕ). same name (take m (drop (row_start k + 1) table))) n ∙ ap (same name) (lookup.spellings k h)
-
--- the slot of the name from start to end of a text
-pub slot_part : (t : List ℕ) (start end : ℕ) → start < end → end ≤ length t
-    → slot_of (between t start end) ≡ slot (get_or t start 0) (get_or t (end - 1) 0) (end - start)
-slot_part t start end h q =
-    let n = between_length t start end (record { ordered = omega arith; inside = q }) in
-    let first = between_byte t start end 0 start (omega arith) h in
-    let last = between_byte t start end (end - start - 1) (end - 1) (omega arith) (omega arith) in
-    rw (n, first, last)

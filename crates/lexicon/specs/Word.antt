@@ -89,12 +89,6 @@ pub record Within (text : List ℕ) (start end : ℕ) : Type 0 where
 abbrev pub longest_name : ℕ
 longest_name = 64
 
--- the bytes from start up to end of a text are as many as a name has
-pub record NameWithin (text : List ℕ) (start end : ℕ) : Type 0 where
-  pub some : start < end
-  pub inside : end ≤ length text
-  pub short : end - start ≤ longest_name
-
 -- two spellings are the same, byte for byte
 unfoldable pub same : List ℕ → List ℕ → Bool
 same [] [] = true

@@ -1,4 +1,5 @@
-// The class of each of the 256 byte values. specs/Byte.antt has the rule, and the numbers under the same names.
+// The class of each of the 256 byte values. specs/Byte.antt has the rule, and the numbers under the same names. Numbers, not an enum: its
+// tests of a byte, as `classed`, are by the order of the numbers.
 ghost use Rattle.std.specs.Prelude.{◌≡◌};
 ghost use Rattle.lexicon.specs.Byte.{class_of, blank_byte};
 

@@ -7,7 +7,7 @@ use Prim.Native.Nat.{ℕ, zero, suc, ◌+◌, ◌-◌, ◌≤◌, ◌<◌}
 use native.Mathlib.Decide.{dec_lt}
 use native.Mathlib.Numerals.{add-one}
 use native.Mathlib.Omega.{arith}
-use lib.ListN.{length, get_or, drop, length-drop, drop_of_length-le}
+use lib.ListN.{length, get_or, drop, drop_of_length-le}
 use lib.Seq.{drop-cons, get_or-drop}
 use Rattle.piece.specs.Piece.{span}
 use Rattle.piece.specs.Run.{EndsRun}
@@ -42,10 +42,6 @@ span_in p (b ∷ bs) = go (p b (get_or bs 0 0)) (span_in p bs)
     go : (r : Bool) → span p bs ≤ length bs → cond r (suc (span p bs)) 0 ≤ suc (length bs)
     go true h = omega arith
     go false h = omega arith
-
--- the span that starts at `at` ends inside the text
-pub span_end_in : (p : ℕ → ℕ → Bool) (t : List ℕ) (at : ℕ) → at ≤ length t → at + span p (drop at t) ≤ length t
-span_end_in p t at h = omega (arith, span_in p (drop at t), length-drop at t)
 
 -- a loop that started at `at` has passed the bytes before i, and they belong to the span
 abbrev pub Reached : (ℕ → ℕ → Bool) → List ℕ → ℕ → ℕ → Type 0

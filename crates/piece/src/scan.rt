@@ -34,10 +34,8 @@ pub fn in_name(text: &[u8], at: usize) -> bool
     requires { at < length text.now }
     ensures { result ≡ name_byte (get_or text.now at 0) (get_or text.now (at + 1) 0) }
 {
-    match class_of(text[at]) {
-        HYPHEN => class_at(text, at + 1) <= CAPITAL,
-        class => class <= CAPITAL,
-    }
+    let class = class_of(text[at]);
+    class <= CAPITAL || (class == HYPHEN && class_at(text, at + 1) <= CAPITAL)
 }
 
 // Whether the byte doesn't end a comment: it is not 10 or 13, and not the first of two hyphens.

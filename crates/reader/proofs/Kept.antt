@@ -14,8 +14,8 @@ use Rattle.rule.specs.declared.Judgement.TheVariants.{Kept, Broken}
 use Rattle.rule.proofs.Judged.{AllKept}
 use Rattle.token.specs.Token.{Meaning}
 use Rattle.token.specs.Cut.{cut, meanings_in}
-use Rattle.syntax.specs.declared.Answer.{Answer as Parsing}
-use Rattle.syntax.specs.declared.Answer.TheVariants.{Derived, Underived, Uncut}
+use Rattle.syntax.specs.Parsing.{Parsing}
+use Rattle.syntax.specs.Parsing.{Derived, Underived, Uncut}
 use Rattle.definition.specs.Landmark.{definitions}
 use Rattle.module_table.specs.Module.{count_of, most_definitions}
 use Rattle.scope.specs.Token.{classes_of}

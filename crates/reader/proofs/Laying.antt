@@ -1,7 +1,6 @@
 -- How the text is parsed, and what follows for the answer and the two buffers.
 -- Assumes nothing.
 use mathlib.Core.Path.{◌≡◌, refl, sym, ap, subst, ◌∙◌}
-use mathlib.Core.Logic.{◌⊎◌, ⊎_elim}
 use mathlib.Core.List.{List, map}
 use Prim.Native.Nat.{ℕ, ◌≤◌, ◌<◌}
 use native.Mathlib.Omega.{arith}
@@ -18,8 +17,12 @@ use Rattle.grammar.specs.Grammar.{smi_module}
 use Rattle.grammar.specs.Derivation.{DerivesTokens}
 use Rattle.syntax.specs.Parsing.{Parses, Tabled}
 use Rattle.syntax.proofs.Parsed.{derived_text}
-use Rattle.syntax.specs.declared.Answer.{Answer as Parsing}
-use Rattle.syntax.specs.declared.Answer.TheVariants.{Derived, Underived, Uncut}
+use Rattle.std.specs.Prelude.{Err}
+use Rattle.syntax.specs.Parsing.{Parsing}
+use Rattle.syntax.specs.Parsed.{parsing}
+use Rattle.syntax.specs.declared.Unparsed.{Unparsed}
+use Rattle.syntax.specs.declared.Unparsed.TheVariants as unparsed-case
+use Rattle.syntax.specs.Parsing.{Derived}
 use Rattle.reader.specs.Reading.{judged, rules, outcome}
 use Rattle.reader.specs.Buffers.{examined_to, unparsed, Laid}
 use Rattle.reader.specs.declared.Examined.{Examined}
@@ -49,28 +52,17 @@ module _ (text classes starts ends : List ℕ) (n : ℕ) (t : TokenTable text (c
 
 -- ---- how the text is parsed
 
+-- a text that is not derived is refused, and leaves both buffers
+module _ (text : List ℕ) where
+  pub unparsed_answer : (fault : Unparsed) → unparsed (parsing (Err fault)) ≡ examined_to (outcome text (parsing (Err fault)))
+  unparsed_answer (unparsed-case.Underived n at) = refl
+  unparsed_answer (unparsed-case.Uncut r) = refl
+
+  pub unparsed_laid : (fault : Unparsed) (records numbers : List ℕ) → Laid (outcome text (parsing (Err fault))) records records numbers numbers
+  unparsed_laid (unparsed-case.Underived n at) records numbers = (refl, refl)
+  unparsed_laid (unparsed-case.Uncut r) records numbers = (refl, refl)
+
 module _ (text : List ℕ) (p : Parsing) where
-  -- a text that is not derived is refused, and leaves both buffers. `x` numbers the cases of the parsing's answer
-  module _ (x : ℕ) (first : (n : ℕ) → p ≡ Derived n → x ≡ 0) (other : (x ≡ 1) ⊎ (x ≡ 2)) where
-    not_derived : (n : ℕ) → p ≡ Derived n → ⊥
-    not_derived n e = ⊎_elim (λ one. omega (arith, first n e)) (λ two. omega (arith, first n e)) other
-
-    pub unparsed_answer : unparsed p ≡ examined_to (outcome text p)
-    unparsed_answer = go p refl
-      where
-        go : (q : Parsing) → p ≡ q → unparsed q ≡ examined_to (outcome text q)
-        go (Derived n) e = absurd (not_derived n e)
-        go (Underived n at) e = refl
-        go (Uncut number at) e = refl
-
-    pub unparsed_laid : (records numbers : List ℕ) → Laid (outcome text p) records records numbers numbers
-    unparsed_laid records numbers = go p refl
-      where
-        go : (q : Parsing) → p ≡ q → Laid (outcome text q) records records numbers numbers
-        go (Derived n) e = absurd (not_derived n e)
-        go (Underived n at) e = (refl, refl)
-        go (Uncut number at) e = (refl, refl)
-
   -- one that is derived is judged
   module _ (n : ℕ) (derived : p ≡ Derived n) where
     pub derived_answer : (a : Examined) → a ≡ examined_to (judged (cut text).tokens (judge (rules (meanings_in text)))) → a ≡ examined_to (outcome text p)

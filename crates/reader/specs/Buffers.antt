@@ -8,8 +8,8 @@ use Rattle.module_table.specs.Module.{most_definitions}
 use Rattle.oid_tree.specs.Refusal.{most_numbers}
 use Rattle.records.specs.Record.{record_width}
 use Rattle.syntax.specs.Parsing.{Parses}
-use Rattle.syntax.specs.declared.Answer.{Answer as Parsing}
-use Rattle.syntax.specs.declared.Answer.TheVariants.{Derived, Underived, Uncut}
+use Rattle.syntax.specs.Parsing.{Parsing}
+use Rattle.syntax.specs.Parsing.{Derived, Underived, Uncut}
 use Rattle.reader.specs.Reading.{Outcome, accepted, refused, outcome}
 use Rattle.reader.specs.declared.Answer.{Answer}
 use Rattle.reader.specs.declared.Answer.TheVariants.{Accepted, Refused}

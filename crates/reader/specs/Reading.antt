@@ -7,8 +7,8 @@ use Rattle.rule.specs.declared.Judgement.{Judgement}
 use Rattle.rule.specs.declared.Judgement.TheVariants as judgement
 use Rattle.token.specs.Token.{Tok, Meaning, meanings}
 use Rattle.token.specs.Cut.{cut, meanings_in}
-use Rattle.syntax.specs.declared.Answer.{Answer as Parsing}
-use Rattle.syntax.specs.declared.Answer.TheVariants.{Derived, Underived, Uncut}
+use Rattle.syntax.specs.Parsing.{Parsing}
+use Rattle.syntax.specs.Parsing.{Derived, Underived, Uncut}
 use Rattle.module_table.specs.declared.Definition.{Definition}
 use Rattle.module_table.specs.Module.{Module, count_of}
 use Rattle.scope.specs.Token.{spelled}

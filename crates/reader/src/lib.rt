@@ -1,7 +1,8 @@
 // The reader: one call that reads a module's text into records and sub-identifiers, or says which rule it breaks first, and where.
 #![tactic(auto)]
 
-ghost use Rattle.std.specs.Prelude.{◌≡◌, ◌≤◌, length};
+ghost use Rattle.std.specs.Prelude.{◌≡◌, ◌≤◌, length, Err};
+ghost use Rattle.syntax.specs.Parsed.{parsing};
 ghost use Rattle.token.specs.Table.{longest_text};
 ghost use Rattle.reader.specs.Buffers.{record_words, number_words, zeros, answer_of, alone, unparsed, ReadInto, ReadParts, Reads, Examines};
 
@@ -14,7 +15,7 @@ use module::read_derived;
 use module_table::MOST_DEFINITIONS;
 use oid_tree::MOST_NUMBERS;
 use records::WIDTH;
-use syntax::{Answer as Parsing, parse};
+use syntax::{Unparsed, parse};
 use token::LONGEST_TEXT;
 
 // How many words the working parts of the record buffer and of the number buffer have.
@@ -74,14 +75,13 @@ fn refuse(number: u8, place: Place) -> Examined
     })
 }
 
-// The answer to a text that is not derived. To one that is, which is none, it answers no definitions.
-fn unparsed(parsed: Parsing) -> Examined
-    ensures { result ≡ unparsed parsed }
+// The answer to a text that is not derived.
+fn unparsed(fault: Unparsed) -> Examined
+    ensures { result ≡ unparsed (parsing (Err fault)) }
 {
-    match parsed {
-        Parsing::Derived(_) => Examined::Accepted(0),
-        Parsing::Underived(_, place) => refuse(7, place),
-        Parsing::Uncut(number, place) => refuse(number, place),
+    match fault {
+        Unparsed::Underived(_, place) => refuse(7, place),
+        Unparsed::Uncut(refusal) => refuse(refusal.cause.number(), refusal.place),
     }
 }
 
@@ -95,9 +95,9 @@ fn read_into(text: &[u8], records: &mut [u32], numbers: &mut [u32]) -> Examined
     let mut classes = [0u8; LONGEST_TEXT];
     let mut starts = [0u32; LONGEST_TEXT];
     let mut ends = [0u32; LONGEST_TEXT];
-    let parsed = parse(text, &mut classes, &mut starts, &mut ends);
-    let Parsing::Derived(n) = parsed else {
-        return unparsed(parsed);
+    let n = match parse(text, &mut classes, &mut starts, &mut ends) {
+        Ok(n) => n,
+        Err(fault) => return unparsed(fault),
     };
     read_derived(
         text,

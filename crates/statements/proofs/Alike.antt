@@ -11,8 +11,8 @@ use Rattle.token.specs.Token.{meanings}
 use Rattle.token.specs.Cut.{Cut, cut}
 use Rattle.token.specs.Law.{QuotedChange}
 use Rattle.token.proofs.Quotes.{quotes}
-use Rattle.syntax.specs.declared.Answer.{Answer as Parsing}
-use Rattle.syntax.specs.declared.Answer.TheVariants.{Derived, Underived, Uncut}
+use Rattle.syntax.specs.Parsing.{Parsing}
+use Rattle.syntax.specs.Parsing.{Derived, Underived, Uncut}
 use Rattle.syntax.proofs.Parsed.{quotes_answer}
 use Rattle.reader.specs.Reading.{Outcome, rules, judged, outcome}
 use Rattle.reader.specs.Buffers.{record_words, number_words, records_in, numbers_in, filled, Left}

@@ -12,7 +12,7 @@ use Rattle.rule.specs.declared.Judgement.TheVariants.{Kept}
 use Rattle.rule.proofs.Judged.{AllKept, judged_kept}
 use Rattle.token.specs.Token.{Meaning}
 use Rattle.token.specs.Cut.{cut, meanings_in}
-use Rattle.syntax.specs.declared.Answer.{Answer as Parsing}
+use Rattle.syntax.specs.Parsing.{Parsing}
 use Rattle.module_table.specs.Module.{at}
 use Rattle.module_table.specs.Module.{count_of as definitions_in}
 use Rattle.naming.specs.Rules.{name_rules}

@@ -10,7 +10,7 @@ use Rattle.token.proofs.Examples.{examples as of_tokens}
 use Rattle.token.specs.Cut.{Cut, refused, cut}
 use Rattle.token.specs.Table.{longest_text}
 use Rattle.syntax.specs.Parsing.{Parses}
-use Rattle.syntax.specs.declared.Answer.{Answer as Parsing}
+use Rattle.syntax.specs.Parsing.{Parsing}
 use Rattle.syntax.proofs.Parsed.{empty_text}
 use Rattle.hint.proofs.Examples.{examples as of-hints}
 use Rattle.hint.proofs.Examples.{bytes as hint-bytes}

@@ -14,7 +14,7 @@ use Rattle.token.specs.Cut.{Ending, whole, refused, cut, meanings_in}
 use Rattle.grammar.specs.Answer.{Verdict, derived}
 use Rattle.grammar.specs.Answer.{refused as refused-at}
 use Rattle.syntax.specs.Parsing.{Parses, ThirdDemand as ParsingDemand, answer_to as parsing-of}
-use Rattle.syntax.specs.declared.Answer.{Answer as Parsing}
+use Rattle.syntax.specs.Parsing.{Parsing}
 use Rattle.syntax.proofs.Parsed.{third_demand}
 use Rattle.reader.specs.Reading.{rules, judged, outcome}
 use Rattle.reader.specs.Buffers.{number_of, answer_to, Reads}

