@@ -1,6 +1,6 @@
 // The transition table of the grammar, printed by tools/grammar_table.py: the state after a token of class c in state s,
 // at s * 58 + c, with the class's name where it leads on. specs/Table.antt has the same, a line for each state, and the
-// proof of `recognise` holds the two together.
+// proof of `step` holds the two together.
 
 // No derived sequence goes on from here.
 pub const DEAD: u8 = 0;

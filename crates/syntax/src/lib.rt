@@ -1,10 +1,10 @@
 // A text as a derived sequence of tokens, or its first refusal of 3 to 7 with its place.
 #![tactic(auto)]
 
-ghost use Rattle.std.specs.Prelude.{◌≡◌, ◌≤◌, length};
+ghost use Rattle.std.specs.Prelude.{◌≡◌, length};
 ghost use Rattle.grammar.specs.Automaton.{run};
 ghost use Rattle.grammar.specs.Table.{module_automaton};
-ghost use Rattle.token.specs.Table.{longest_text, Lent};
+ghost use Rattle.token.specs.Table.{Lent};
 ghost use Rattle.syntax.specs.Parsing.{Parses, Tabled};
 ghost use Rattle.syntax.specs.Parsed.{parsing};
 ghost use Rattle.syntax.specs.Placing.{placed};
