@@ -32,10 +32,7 @@ pub fn same_spelling(a: &[u8], from: usize, to: usize, b: &[u8], start: usize, e
     ensures { result ≡ same (between a.now from to) (between b.now start end) }
 {
     let n = to - from;
-    if n != end - start {
-        return false;
-    }
-    same_part(a, from, b, start, n)
+    n == end - start && same_part(a, from, b, start, n)
 }
 
 // Whether the name is the word k.
