@@ -1,6 +1,6 @@
 -- `same_spelling` is right because spellings of different lengths are not the same.
 -- Assumes nothing.
-use Rattle.std.proofs.Common.{◌≡◌, ◌-◌, ◌∙◌, sym}
+use Rattle.std.proofs.Common.{◌-◌, ◌∙◌, sym}
 use borrow.Author.Tests.{ne_eqb}
 use Rattle.lexicon.proofs.Words.{same_length, between_length}
 use Rattle.lexicon.proofs.word.same_spelling.Goals as goal
