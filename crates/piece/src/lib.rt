@@ -111,7 +111,8 @@ fn number_at(text: &[u8], at: usize) -> Result<Found, Refusal>
     Ok(Found::Token(terminal::NUMBER, run.end))
 }
 
-// At a hyphen before a digit: a negative number.
+// At a hyphen before a digit: a negative number. Not one function with `number_at`: this also refuses a 0 at the start, and class, limit and
+// the place of the digits differ, so that one would take as many words as both.
 fn negative_at(text: &[u8], at: usize) -> Result<Found, Refusal>
     requires { at < length text.now }
     ensures { numbered result ≡ found_at at (below_zero (drop (at + 1) text.now)) }
