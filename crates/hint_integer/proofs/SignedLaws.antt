@@ -4,11 +4,11 @@ use Prim.Native.Nat.{ℕ, ◌^◌, ◌≤◌, ◌<◌}
 use Prim.Native.Char.{code}
 use native.Mathlib.Nat.{not-suc-le-zero}
 use native.Mathlib.Omega.{arith}
-use mathlib.Core.Path.{◌≡◌, refl}
+use mathlib.Core.Path.{◌≡◌, refl, ap}
 use mathlib.Core.Bool.{true, false}
 use mathlib.Core.List.{◌∷◌}
 use lib.Dec.{lit≤}
-use lib.IntN.{ℤ, pos, negsuc, nat_abs}
+use lib.IntN.{ℤ, pos, negsuc, nat_abs, ◌-ℤ◌}
 use lib.Signed.{lt_z}
 use lib.ListN.{length}
 use borrow.Author.Tests.{leb-true, ltb-true}
@@ -23,6 +23,15 @@ pub magnitude_small : (z : ℤ) → in_range z ≡ true → nat_abs z < 2 ^ 32
 unfolding in_range
 magnitude_small (pos n) h = omega (arith, leb-true n 4294967295 h)
 magnitude_small (negsuc n) h = omega (arith, ltb-true n 2147483648 h)
+
+-- below zero, negated, an integer is its magnitude
+pub negated : (z : ℤ) → lt_z z (pos 0) ≡ true → (pos 0 -ℤ z) ≡ pos (nat_abs z)
+negated (pos n) h = absurd (not-suc-le-zero (ltb-true n 0 h))
+negated (negsuc n) h = ap pos (omega arith)
+
+pub not_negative : (z : ℤ) → lt_z z (pos 0) ≡ false → z ≡ pos (nat_abs z)
+not_negative (pos n) h = refl
+not_negative (negsuc n) h = let z : ◌≡◌ {A = ℕ} 0 1 = cc in absurd (omega arith)
 
 -- below zero a minus and then the magnitude
 pub signed_negative : (form : Form) (z : ℤ) → lt_z z (pos 0) ≡ true → signed form z ≡ code "-" ∷ magnitude form (nat_abs z)

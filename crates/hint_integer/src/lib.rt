@@ -1,7 +1,7 @@
 // Reads hints for integers, and prints integers by them: a minus below zero, and then the magnitude.
 #![tactic(auto)]
 
-ghost use Rattle.std.specs.Prelude.{◌+◌, ◌≤◌, ◌≡◌, true, length};
+ghost use Rattle.std.specs.Prelude.{◌+◌, ◌≤◌, ◌≡◌, true, nat_abs, length};
 ghost use Rattle.buffer.specs.Buffer.{Wrote};
 ghost use Rattle.hint_integer.specs.Form.{Usable, read_form, read_point};
 ghost use Rattle.hint_integer.specs.Signed.{in_range, magnitude, signed};
@@ -52,6 +52,19 @@ pub fn in_range(value: i64) -> bool
     (-2147483648..=4294967295).contains(&value)
 }
 
+// The magnitude of an integer in the range: below zero it is negated first, within its bounds. `unsigned_abs` would not be that
+// form, which docs/DECISIONS.md keeps.
+fn magnitude_of(value: i64) -> u64
+    requires { in_range value ≡ true }
+    ensures { result ≡ nat_abs value }
+{
+    if value < 0 {
+        (-value) as u64
+    } else {
+        value as u64
+    }
+}
+
 // Writes the digits of a number in a form, and answers the place after them.
 #[tactic(auto, unfolding(crate::specs::Signed::magnitude))]
 fn print_magnitude(form: Form, n: u64, out: &mut [u8], at: usize) -> usize
@@ -72,7 +85,7 @@ pub fn print_signed(form: Form, value: i64, out: &mut [u8]) -> usize
     requires room { 64 ≤ length out.old }
     ensures { Wrote (signed form value) 0 result out.old out.new }
 {
-    let n = value.unsigned_abs();
+    let n = magnitude_of(value);
     if value < 0 {
         let at = put(out, 0, b'-');
         return print_magnitude(form, n, out, at);
