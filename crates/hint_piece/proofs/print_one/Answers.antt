@@ -4,7 +4,7 @@ use Rattle.std.proofs.Common.{ℕ, ◌+◌, ◌*◌, ◌≤◌, ◌<◌, ◌≡�
 use Rattle.hint_form.specs.declared.Piece.{Piece}
 use Rattle.hint_form.specs.Hint.{longest}
 use Rattle.hint_piece.specs.Followed.{wrote}
-use Rattle.hint_piece.specs.Use.{Outcome, use_text, optional, following, printed}
+use Rattle.hint_piece.specs.Use.{use_text, optional, following, printed}
 use Rattle.digit.proofs.Sizes.{Octets, octets_take, octets_drop}
 use Rattle.hint_form.proofs.HintLaws.{longest_small}
 use Rattle.buffer.proofs.Writing.{wrote_as}
