@@ -8,7 +8,7 @@ ghost use Rattle.buffer.specs.Buffer.{byte_at, Wrote};
 pub fn byte_at(s: &[u8], i: usize) -> u8
     ensures { result ≡ byte_at s.now i }
 {
-    if i < s.len() { s[i] } else { 0 }
+    s.get(i).copied().unwrap_or(0)
 }
 
 // Writes one byte, and answers the place after it.
@@ -25,12 +25,9 @@ pub fn copy(s: &[u8], out: &mut [u8], at: usize) -> usize
     requires { at + length s.now ≤ length out.old }
     ensures { Wrote s.now at result out.old out.new }
 {
-    let mut i = 0;
-    while i < s.len() {
-        out[at + i] = s[i];
-        i += 1;
-    }
-    at + i
+    let next = at + s.len();
+    out[at..next].copy_from_slice(s);
+    next
 }
 
 // Zeroes the first bytes.
@@ -38,9 +35,5 @@ pub fn clear(out: &mut [u8], count: usize)
     requires { count ≤ length out.old }
     ensures { out.new ≡ replicate count 0 ++ drop count out.old }
 {
-    let mut i = 0;
-    while i < count {
-        out[i] = 0;
-        i += 1;
-    }
+    out[..count].fill(0);
 }

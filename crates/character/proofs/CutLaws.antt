@@ -9,7 +9,7 @@ use mathlib.Core.List.{List, [], ◌∷◌}
 use lib.Dec.{leb}
 use borrow.Author.Tests.{le-leb, lt-leb, leb-false}
 use Rattle.character.specs.Cut.{Cut, whole, stuck, before, cut, cut_within, stuck_at}
-use Rattle.character.specs.declared.Search.TheVariants.{At}
+use Rattle.std.proofs.Common.{Some}
 
 whole_not_stuck : (places : List ℕ) (j : ℕ) → whole places ≡ stuck j → ⊥
 whole_not_stuck places j h = let z : ◌≡◌ {A = ℕ} 0 1 = cc in omega arith
@@ -86,7 +86,7 @@ unfolding stuck_at before
 stuck_before i (whole places) = refl
 stuck_before i (stuck j) = refl
 
-pub stuck_there : (c : Cut) (i : ℕ) → stuck_at c ≡ At i → c ≡ stuck i
+pub stuck_there : (c : Cut) (i : ℕ) → stuck_at c ≡ Some i → c ≡ stuck i
 unfolding stuck_at
 stuck_there (whole places) i h = let z : ◌≡◌ {A = ℕ} 0 1 = cc in absurd (omega arith)
 stuck_there (stuck j) i h = let e : j ≡ i = cc in ap stuck e

@@ -1,8 +1,6 @@
 -- A row of bytes cut from the left into items: a hint into pieces, octets into characters.
 -- Assumes nothing.
-use Rattle.std.specs.Prelude.{ℕ, zero, suc, ◌+◌, true, false, List, [], ◌∷◌, leb}
-use Rattle.character.specs.declared.Search.{Search}
-use Rattle.character.specs.declared.Search.TheVariants.{At, Nowhere}
+use Rattle.std.specs.Prelude.{ℕ, zero, suc, ◌+◌, true, false, List, [], ◌∷◌, leb, Option, Some, None}
 
 -- the places at which the items start, or the first place at which none does
 pub data Cut : Type 0 where
@@ -28,7 +26,7 @@ cut_within (suc steps) size end i =
 unfoldable pub cut : (ℕ → ℕ) → ℕ → Cut
 cut size end = cut_within end size end 0
 
--- where a cut is stuck
-unfoldable pub stuck_at : Cut → Search
-stuck_at (whole places) = Nowhere
-stuck_at (stuck i) = At i
+-- where a cut is stuck, if it is
+unfoldable pub stuck_at : Cut → Option ℕ
+stuck_at (whole places) = None
+stuck_at (stuck i) = Some i

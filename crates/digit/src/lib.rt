@@ -7,15 +7,16 @@ ghost use Rattle.digit.specs.Digits.{glyph, digits, pointed, big_endian};
 
 use buffer::put;
 
-// The byte of one digit: 48 is `0`, and 87 + 10 is `a`.
+// The byte of one digit: `0` to `9`, and from ten on `a` to `f`.
+#[tactic(auto, unfolding(crate::specs::Digits::glyph))]
 pub fn glyph_of(d: u64) -> u8
     requires { d < 16 }
     ensures { result ≡ glyph d }
 {
     if d < 10 {
-        (48 + d) as u8
+        b'0' + d as u8
     } else {
-        (87 + d) as u8
+        b'a' + (d - 10) as u8
     }
 }
 
@@ -52,10 +53,8 @@ pub fn big_endian(s: &[u8]) -> u64
     ensures { result ≡ big_endian 0 s.now }
 {
     let mut n: u64 = 0;
-    let mut i = 0;
-    while i < s.len() {
-        n = n * 256 + s[i] as u64;
-        i += 1;
+    for octet in s {
+        n = n * 256 + *octet as u64;
     }
     n
 }

@@ -13,20 +13,18 @@ use lib.Seq.{take_at, drop_at}
 use borrow.Author.Tests.{lt-ltb, le-ltb}
 use Rattle.buffer.specs.Buffer.{written, Wrote}
 use Rattle.hint_form.specs.Hint.{Reading, pieces, none, read_hint, is_pieces, pieces_in}
-use Rattle.hint_integer.specs.Form.{read_form, is_bad}
+use Rattle.hint_integer.specs.Form.{read_form}
 use Rattle.hint_piece.specs.Use.{Outcome}
 use Rattle.hint_piece.specs.Followed.{Followed, wrote, failed}
 use Rattle.hint_integer.specs.Signed.{in_range, signed}
 use Rattle.hint_integer.specs.declared.Form.{Form}
-use Rattle.hint_integer.specs.declared.Form.TheVariants.{Base, Point, Bad}
-use Rattle.hint_piece.specs.declared.Progress.TheVariants.{To, Fault}
+use Rattle.std.proofs.Common.{Some, None, Ok, Err}
 use Rattle.hint.specs.Print.{printing}
-use Rattle.hint.specs.Answer.{Verdict, text, refusal, Answered, number, place, size, buffer, number_of, place_of, length_of, of_outcome, by_pieces, octets_verdict, by_form, integer_verdict}
-use Rattle.hint.specs.declared.Answer.{Answer}
-use Rattle.hint.specs.declared.Answer.TheVariants.{Printed, ShortBuffer}
+use Rattle.hint.specs.Answer.{Answer, Verdict, text, refusal, Answered, number, place, size, buffer, number_of, place_of, length_of, of_outcome, by_pieces, octets_verdict, by_form, integer_verdict}
+use Rattle.hint.specs.declared.Refusal.TheVariants.{ShortBuffer}
 
 -- a short buffer stays as it was
-pub answered_short : (part : ℕ) (v : Verdict) (o : List ℕ) → v ≡ refusal 30 0 → Answered part v ShortBuffer o o
+pub answered_short : (part : ℕ) (v : Verdict) (o : List ℕ) → v ≡ refusal 30 0 → Answered part v (Err ShortBuffer) o o
 unfolding number place size buffer
 answered_short part v o e = rw e (record { number_is = refl; place_is = refl; length_is = refl; buffer_is = refl })
 
@@ -55,7 +53,7 @@ module _ (part : ℕ) (o cleared : List ℕ) (zeros : cleared ≡ replicate part
 
   -- a text that was written to the part of a cleared buffer
   pub answered_text : {v : Verdict} {t w : List ℕ} {n : ℕ} → v ≡ text t → Wrote t 0 n (take part cleared) w
-      → Answered part v (Printed n) o (w ++ drop part cleared)
+      → Answered part v (Ok n) o (w ++ drop part cleared)
   unfolding number place size buffer written
   answered_text {t = t} {w = w} {n = n} e done =
       let zeros₁ : List ℕ = replicate (part - length t) 0 in
@@ -77,8 +75,8 @@ module _ (part : ℕ) (o cleared : List ℕ) (zeros : cleared ≡ replicate part
 
   -- the same of what printing came to
   pub answered_printed : {v : Verdict} {out : Outcome} {w : List ℕ} {n : ℕ}
-      → v ≡ of_outcome out → Followed out 0 (To n) (take part cleared) w
-      → Answered part v (Printed n) o (w ++ drop part cleared)
+      → v ≡ of_outcome out → Followed out 0 (Ok n) (take part cleared) w
+      → Answered part v (Ok n) o (w ++ drop part cleared)
   unfolding of_outcome
   answered_printed e (wrote done) = answered_text e done
 
@@ -88,7 +86,7 @@ module _ (part : ℕ) (o cleared : List ℕ) (zeros : cleared ≡ replicate part
   zeros_again w after long e = e ∙ ap (λ (l : List ℕ). replicate part 0 ++ l) (drop_at w (drop part cleared) part long ∙ rest_kept)
 
 -- a fault is refusal 33
-pub fault_refusal : {out : Outcome} {at : ℕ} {before after : List ℕ} → Followed out 0 (Fault at) before after
+pub fault_refusal : {out : Outcome} {at : ℕ} {before after : List ℕ} → Followed out 0 (Err (record { 0 = at })) before after
     → of_outcome out ≡ refusal 33 at
 unfolding of_outcome
 fault_refusal failed = refl
@@ -127,34 +125,19 @@ module _ (room : ℕ) (hint : List ℕ) (value : ℤ) where
   unfolding integer_verdict
   integer_short h = simp (lt-ltb room 64 h)
 
-  pub integer_hint : 64 ≤ room → is_bad (read_form hint) ≡ true → integer_verdict room hint value ≡ refusal 32 0
+  pub integer_hint : 64 ≤ room → read_form hint ≡ None → integer_verdict room hint value ≡ refusal 32 0
   unfolding integer_verdict by_form
-  integer_hint h b = simp (le-ltb room 64 h) (go (read_form hint) b)
-    where
-      go : (f : Form) → is_bad f ≡ true → by_form f value ≡ refusal 32 0
-      go (Base base) e = let z : ◌≡◌ {A = ℕ} 0 1 = cc in absurd (omega arith)
-      go (Point places) e = let z : ◌≡◌ {A = ℕ} 0 1 = cc in absurd (omega arith)
-      go Bad e = refl
+  integer_hint h e = simp (le-ltb room 64 h, e)
 
-  pub integer_range : 64 ≤ room → is_bad (read_form hint) ≡ false → in_range value ≡ false
+  pub integer_range : {form : Form} → 64 ≤ room → read_form hint ≡ Some form → in_range value ≡ false
       → integer_verdict room hint value ≡ refusal 34 0
   unfolding integer_verdict by_form
-  integer_range h b r = simp (le-ltb room 64 h) (go (read_form hint) b)
-    where
-      go : (f : Form) → is_bad f ≡ false → by_form f value ≡ refusal 34 0
-      go (Base base) e = simp r
-      go (Point places) e = simp r
-      go Bad e = let z : ◌≡◌ {A = ℕ} 0 1 = cc in absurd (omega arith)
+  integer_range h e r = simp (le-ltb room 64 h, e, r)
 
-  pub integer_text : 64 ≤ room → is_bad (read_form hint) ≡ false → in_range value ≡ true
-      → integer_verdict room hint value ≡ text (signed (read_form hint) value)
+  pub integer_text : {form : Form} → 64 ≤ room → read_form hint ≡ Some form → in_range value ≡ true
+      → integer_verdict room hint value ≡ text (signed form value)
   unfolding integer_verdict by_form
-  integer_text h b r = simp (le-ltb room 64 h) (go (read_form hint) b)
-    where
-      go : (f : Form) → is_bad f ≡ false → by_form f value ≡ text (signed f value)
-      go (Base base) e = simp r
-      go (Point places) e = simp r
-      go Bad e = let z : ◌≡◌ {A = ℕ} 0 1 = cc in absurd (omega arith)
+  integer_text h e r = simp (le-ltb room 64 h, e, r)
 
 -- the text of an answer lies in the buffer
 pub length_fits : (part : ℕ) (v : Verdict) (answer : Answer) (o after : List ℕ) → Answered part v answer o after

@@ -1,4 +1,5 @@
 pub mod PrintingLaws
+pub mod Turns
 pub mod Answers
 pub mod Laws
 pub mod Examples

@@ -1,17 +1,16 @@
 -- What the two calls answer and leave in the output buffer (document 01, "Printing by hint"): number, place, length, and
 -- every byte.
 -- Assumes nothing.
-use Rattle.std.specs.Prelude.{ℕ, ◌-◌, ◌≡◌, cond, List, ◌++◌, ltb, eqb, length, drop, replicate, ℤ}
+use Rattle.std.specs.Prelude.{ℕ, ◌-◌, ◌≡◌, cond, List, Option, Some, None, Result, Ok, Err, ◌++◌, ltb, eqb, length, drop, replicate, ℤ}
 use Rattle.index.specs.Choice.{when◌then◌else◌}
 use Rattle.hint_form.specs.Hint.{Reading, pieces, none, read_hint}
 use Rattle.hint_integer.specs.Form.{read_form}
 use Rattle.hint_piece.specs.Use.{Outcome, printed, fault}
 use Rattle.hint_integer.specs.declared.Form.{Form}
-use Rattle.hint_integer.specs.declared.Form.TheVariants.{Base, Point, Bad}
 use Rattle.hint_integer.specs.Signed.{signed, in_range}
 use Rattle.hint.specs.Print.{printing}
-use Rattle.hint.specs.declared.Answer.{Answer}
-use Rattle.hint.specs.declared.Answer.TheVariants.{Printed, ShortBuffer, LongValue, BadHint, BadOctet, OutOfRange}
+use Rattle.hint.specs.declared.Refusal.{Refusal}
+use Rattle.hint.specs.declared.Refusal.TheVariants.{ShortBuffer, LongValue, BadHint, BadOctet, OutOfRange}
 
 -- what a value comes to under a hint: its text, or a refusal with number and place
 pub data Verdict : Type 0 where
@@ -44,10 +43,9 @@ octets_verdict room hint value =
     else by_pieces (read_hint hint) value
 
 -- refusal 32, then 34, or the text
-unfoldable pub by_form : Form → ℤ → Verdict
-by_form (Base base) value = cond (in_range value) (text (signed (Base base) value)) (refusal 34 0)
-by_form (Point places) value = cond (in_range value) (text (signed (Point places) value)) (refusal 34 0)
-by_form Bad value = refusal 32 0
+unfoldable pub by_form : Option Form → ℤ → Verdict
+by_form (Some form) value = cond (in_range value) (text (signed form value)) (refusal 34 0)
+by_form None value = refusal 32 0
 
 -- an integer, with an output buffer of so many bytes: refusals in the order 30, 32, 34
 unfoldable pub integer_verdict : ℕ → List ℕ → ℤ → Verdict
@@ -73,32 +71,32 @@ unfoldable pub buffer : ℕ → Verdict → List ℕ → List ℕ
 buffer part (text t) before = t ++ (replicate (part - length t) 0 ++ drop part before)
 buffer part (refusal n at) before = cond (eqb n 30) before (replicate part 0 ++ drop part before)
 
+-- what a call answers: the text's length, or why it prints nothing
+abbrev pub Answer : Type 0
+Answer = Result ℕ Refusal
+
 -- the paper's number for each case of the answer
 abbrev pub number_of : Answer → ℕ
-number_of (Printed n) = 0
-number_of ShortBuffer = 30
-number_of LongValue = 31
-number_of BadHint = 32
-number_of (BadOctet at) = 33
-number_of OutOfRange = 34
+number_of (Ok n) = 0
+number_of (Err ShortBuffer) = 30
+number_of (Err LongValue) = 31
+number_of (Err BadHint) = 32
+number_of (Err (BadOctet at)) = 33
+number_of (Err OutOfRange) = 34
 
 -- its place
 abbrev pub place_of : Answer → ℕ
-place_of (Printed n) = 0
-place_of ShortBuffer = 0
-place_of LongValue = 0
-place_of BadHint = 0
-place_of (BadOctet at) = at
-place_of OutOfRange = 0
+place_of (Ok n) = 0
+place_of (Err ShortBuffer) = 0
+place_of (Err LongValue) = 0
+place_of (Err BadHint) = 0
+place_of (Err (BadOctet at)) = at
+place_of (Err OutOfRange) = 0
 
 -- its length
 abbrev pub length_of : Answer → ℕ
-length_of (Printed n) = n
-length_of ShortBuffer = 0
-length_of LongValue = 0
-length_of BadHint = 0
-length_of (BadOctet at) = 0
-length_of OutOfRange = 0
+length_of (Ok n) = n
+length_of (Err why) = 0
 
 -- what a call promises: its answer has the verdict's number, place and length, and the buffer is what the verdict makes of it
 pub record Answered (part : ℕ) (verdict : Verdict) (answer : Answer) (before after : List ℕ) : Type 0 where

@@ -4,20 +4,18 @@
 
 mod pieces;
 
-ghost use Rattle.std.specs.Prelude.{◌≡◌};
-ghost use Rattle.hint.specs.Answer.{number_of, place_of, length_of, PrintedOctets, PrintedInteger};
+ghost use Rattle.std.specs.Prelude.{◌≡◌, Err};
+ghost use Rattle.hint.specs.Answer.{number_of, place_of, PrintedOctets, PrintedInteger};
 
 use buffer::clear;
 use hint_form::is_hint;
-use hint_integer::{form_of, in_range, is_bad, print_signed};
-use hint_piece::Progress;
+use hint_integer::{form_of, in_range, print_signed};
+use hint_piece::BadOctet;
 use pieces::print_pieces;
 
-// What a call answers. specs/Answer.antt gives the number, place and length of each case.
-#[derive(Clone, Copy)]
-pub enum Answer {
-    // The text's length.
-    Printed(usize),
+// Why a call prints nothing. specs/Answer.antt gives the number and place of each case.
+#[derive(Clone, Copy, PartialEq, Eq)]
+pub enum Refusal {
     // The output buffer is shorter than the part that the call works on.
     ShortBuffer,
     // A value of more than 1,024 octets.
@@ -28,88 +26,68 @@ pub enum Answer {
     OutOfRange,
 }
 
-impl Answer {
-    // The paper's number: 0 for a text, 30 to 34 for a refusal.
+impl Refusal {
+    // The paper's number, 30 to 34.
     pub fn number(self) -> u64
-        ensures { result ≡ number_of self }
+        ensures { result ≡ number_of (Err self) }
     {
         match self {
-            Answer::Printed(_) => 0,
-            Answer::ShortBuffer => 30,
-            Answer::LongValue => 31,
-            Answer::BadHint => 32,
-            Answer::BadOctet(_) => 33,
-            Answer::OutOfRange => 34,
+            Refusal::ShortBuffer => 30,
+            Refusal::LongValue => 31,
+            Refusal::BadHint => 32,
+            Refusal::BadOctet(_) => 33,
+            Refusal::OutOfRange => 34,
         }
     }
 
-    // The place of refusal 33, and 0 for any other answer.
+    // The place of refusal 33, and 0 for any other.
     pub fn place(self) -> usize
-        ensures { result ≡ place_of self }
+        ensures { result ≡ place_of (Err self) }
     {
         match self {
-            Answer::Printed(_) => 0,
-            Answer::ShortBuffer => 0,
-            Answer::LongValue => 0,
-            Answer::BadHint => 0,
-            Answer::BadOctet(place) => place,
-            Answer::OutOfRange => 0,
-        }
-    }
-
-    // The text's length, and 0 for a refusal.
-    pub fn length(self) -> usize
-        ensures { result ≡ length_of self }
-    {
-        match self {
-            Answer::Printed(n) => n,
-            Answer::ShortBuffer => 0,
-            Answer::LongValue => 0,
-            Answer::BadHint => 0,
-            Answer::BadOctet(_) => 0,
-            Answer::OutOfRange => 0,
+            Refusal::BadOctet(place) => place,
+            _ => 0,
         }
     }
 }
 
-// Prints octets by a hint for octets. Works on the first 4,096 bytes of the output: the text, then zeros. A refusal zeroes
-// them too, but for a buffer that is shorter, of which nothing changes.
-pub fn octets(hint: &[u8], value: &[u8], out: &mut [u8]) -> Answer
+// Prints octets by a hint for octets, and answers the text's length. Works on the first 4,096 bytes of the output: the text, then
+// zeros. A refusal zeroes them too, but for a buffer that is shorter, of which nothing changes.
+pub fn octets(hint: &[u8], value: &[u8], out: &mut [u8]) -> Result<usize, Refusal>
     ensures { PrintedOctets hint.now value.now result out.old out.new }
 {
     if out.len() < 4096 {
-        return Answer::ShortBuffer;
+        return Err(Refusal::ShortBuffer);
     }
     clear(out, 4096);
     if 1024 < value.len() {
-        return Answer::LongValue;
+        return Err(Refusal::LongValue);
     }
     if !is_hint(hint) {
-        return Answer::BadHint;
+        return Err(Refusal::BadHint);
     }
     match print_pieces(hint, value, &mut out[..4096]) {
-        Progress::To(n) => Answer::Printed(n),
-        Progress::Fault(place) => {
+        Ok(n) => Ok(n),
+        Err(BadOctet(place)) => {
             clear(out, 4096);
-            Answer::BadOctet(place)
+            Err(Refusal::BadOctet(place))
         }
     }
 }
 
 // Prints an integer by a hint for integers, likewise in the first 64 bytes of the output.
-pub fn integer(hint: &[u8], value: i64, out: &mut [u8]) -> Answer
+pub fn integer(hint: &[u8], value: i64, out: &mut [u8]) -> Result<usize, Refusal>
     ensures { PrintedInteger hint.now value result out.old out.new }
 {
     if out.len() < 64 {
-        return Answer::ShortBuffer;
+        return Err(Refusal::ShortBuffer);
     }
     clear(out, 64);
-    let form = form_of(hint);
-    if is_bad(form) {
-        return Answer::BadHint;
-    }
+    let Some(form) = form_of(hint) else {
+        return Err(Refusal::BadHint);
+    };
     if !in_range(value) {
-        return Answer::OutOfRange;
+        return Err(Refusal::OutOfRange);
     }
-    Answer::Printed(print_signed(form, value, &mut out[..64]))
+    Ok(print_signed(form, value, &mut out[..64]))
 }

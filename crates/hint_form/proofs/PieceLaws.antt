@@ -9,7 +9,7 @@ use lib.Dec.{leb}
 use lib.ListN.{length}
 use borrow.Author.Tests.{leb-true}
 use Rattle.character.specs.Cut.{Cut, whole, stuck, before, cut, cut_within, stuck_at}
-use Rattle.character.specs.declared.Search.TheVariants.{At, Nowhere}
+use Rattle.std.proofs.Common.{Some, None}
 use Rattle.hint_form.specs.Hint.{Reading, none, is_piece, piece_at, piece_end, piece_size, read_hint, pieces_of, is_pieces, pieces_in}
 use Rattle.hint_form.specs.declared.Piece.{Piece}
 use Rattle.character.proofs.CutLaws.{from, from_start, from_end, from_stuck, from_item, stuck_before}
@@ -26,7 +26,7 @@ cut_from hint i = from (piece_size hint) (length hint) i
 
 -- from that place on the hint is pieces, to its end
 abbrev pub Readable : List ℕ → ℕ → Type 0
-Readable hint i = stuck_at (cut_from hint i) ≡ Nowhere
+Readable hint i = stuck_at (cut_from hint i) ≡ None
 
 -- the places of a cut
 abbrev pub places_in : Cut → List ℕ
@@ -51,7 +51,7 @@ module _ (hint : List ℕ) where
       go true e = refl
       go false e =
           let none = from_stuck (piece_size hint) (length hint) i h (piece_size_none hint i e) in
-          let at : At i ≡ Nowhere = sym (ap stuck_at none) ∙ s in
+          let at : Some i ≡ None = sym (ap stuck_at none) ∙ s in
           let z : ◌≡◌ {A = ℕ} 0 1 = cc in absurd (omega arith)
 
   step : (i : ℕ) → i < length hint → is_piece hint i ≡ true
@@ -72,7 +72,7 @@ module _ (hint : List ℕ) where
       ap (pieces_at hint) (step i h t)
       ∙ go (cut_from hint (piece_end hint i)) (stuck_step i h t ∙ s)
     where
-      go : (c : Cut) → stuck_at c ≡ Nowhere → pieces_at hint (before i c) ≡ piece_at hint i ∷ pieces_at hint c
+      go : (c : Cut) → stuck_at c ≡ None → pieces_at hint (before i c) ≡ piece_at hint i ∷ pieces_at hint c
       go (whole places) e = refl
       go (stuck j) e = let z : ◌≡◌ {A = ℕ} 0 1 = cc in absurd (omega arith)
 
@@ -112,7 +112,7 @@ module _ (hint : List ℕ) where
   hint_pieces h = go (leb 1 (length hint)) (leb (length hint) 255) refl h
     where
       sized : (c : Cut) → is_pieces (pieces_of hint c) ≡ true
-          → (pieces_in (pieces_of hint c) ≡ pieces_at hint c) × (stuck_at c ≡ Nowhere)
+          → (pieces_in (pieces_of hint c) ≡ pieces_at hint c) × (stuck_at c ≡ None)
       sized (whole places) e = (refl, refl)
       sized (stuck i) e = let z : ◌≡◌ {A = ℕ} 0 1 = cc in absurd (omega arith)
 

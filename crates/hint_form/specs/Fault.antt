@@ -1,16 +1,14 @@
 -- What is wrong with a hint, and where: the first byte after which no good hint can begin so; or the hint's length, where only more is
 -- missing. A hint for octets that has more than 255 bytes is wrong at byte 255, if nothing is wrong before it.
 -- Assumes nothing.
-use Rattle.std.specs.Prelude.{ℕ, ◌+◌, Bool, true, false, not, ◌||◌, List, leb, ltb, eqb, length, take}
+use Rattle.std.specs.Prelude.{ℕ, ◌+◌, Bool, true, false, not, ◌||◌, List, Option, Some, None, leb, ltb, eqb, length, take}
 use Prim.Native.Char.{code}
 use Rattle.index.specs.Choice.{when◌then◌else◌}
 use Rattle.buffer.specs.Buffer.{byte_at}
 use Rattle.character.specs.Cut.{cut, stuck_at}
-use Rattle.character.specs.declared.Search.{Search}
-use Rattle.character.specs.declared.Search.TheVariants.{At, Nowhere}
 use Rattle.hint_form.specs.Hint.{digit, number_at, longest, length_place, piece_size}
 use Rattle.hint_form.specs.declared.fault.Fault.{Fault}
-use Rattle.hint_form.specs.declared.fault.Fault.TheVariants.{Sound, Early, NoLength, Zero, Large, NoFormat, Wide, Long, NoForm}
+use Rattle.hint_form.specs.declared.fault.Fault.TheVariants.{Early, NoLength, Zero, Large, NoFormat, Wide, Long, NoForm}
 
 -- at the place behind a length that no format or not this one allows: the hint ends there, the byte is no format, or one for numbers,
 -- whose length is over 8
@@ -30,63 +28,56 @@ length_fault hint start =
     else when ltb 255 (number_at hint start).value then Large (start + 2)
     else format_fault hint (number_at hint start).next
 
--- where no piece starts, and everywhere else
-abbrev pub search_fault : List ℕ → Search → Fault
-search_fault hint (At i) = length_fault hint (length_place hint i)
-search_fault hint Nowhere = Sound
+-- where no piece starts, if that is anywhere
+abbrev pub search_fault : List ℕ → Option ℕ → Option Fault
+search_fault hint (Some i) = Some (length_fault hint (length_place hint i))
+search_fault hint None = None
 
 -- of bytes that should be pieces
-unfoldable pub pieces_fault : List ℕ → Fault
+unfoldable pub pieces_fault : List ℕ → Option Fault
 pieces_fault hint = search_fault hint (stuck_at (cut (piece_size hint) (length hint)))
 
 -- of a hint that goes on behind these bytes, and is too long
-abbrev pub longer : Fault → Fault
-longer Sound = Long
-longer (Early place) = Long
-longer (NoLength place) = NoLength place
-longer (Zero place) = Zero place
-longer (Large place) = Large place
-longer (NoFormat place) = NoFormat place
-longer (Wide place) = Wide place
-longer Long = Long
-longer (NoForm place) = NoForm place
+abbrev pub longer : Option Fault → Fault
+longer None = Long
+longer (Some (Early place)) = Long
+longer (Some (NoLength place)) = NoLength place
+longer (Some (Zero place)) = Zero place
+longer (Some (Large place)) = Large place
+longer (Some (NoFormat place)) = NoFormat place
+longer (Some (Wide place)) = Wide place
+longer (Some Long) = Long
+longer (Some (NoForm place)) = NoForm place
 
 -- of a hint for octets
-unfoldable pub octets_fault : List ℕ → Fault
+unfoldable pub octets_fault : List ℕ → Option Fault
 octets_fault hint =
-    when eqb (length hint) 0 then Early 0
+    when eqb (length hint) 0 then Some (Early 0)
     else when leb (length hint) 255 then pieces_fault hint
-    else longer (pieces_fault (take 255 hint))
+    else Some (longer (pieces_fault (take 255 hint)))
 
 -- nothing is wrong
-abbrev pub is_sound : Fault → Bool
-is_sound Sound = true
-is_sound (Early place) = false
-is_sound (NoLength place) = false
-is_sound (Zero place) = false
-is_sound (Large place) = false
-is_sound (NoFormat place) = false
-is_sound (Wide place) = false
-is_sound Long = false
-is_sound (NoForm place) = false
+abbrev pub is_sound : Option Fault → Bool
+is_sound None = true
+is_sound (Some fault) = false
 
 -- of a hint that starts with d-: a digit from 1 to 9, or 10, and the end
-unfoldable pub places_fault : List ℕ → Fault
+unfoldable pub places_fault : List ℕ → Option Fault
 places_fault hint =
-    when eqb (byte_at hint 2) (code "0") then NoForm 2
-    else when not (digit (byte_at hint 2)) then NoForm 2
-    else when eqb (length hint) 3 then Sound
-    else when not (eqb (byte_at hint 2) (code "1")) then NoForm 3
-    else when not (eqb (byte_at hint 3) (code "0")) then NoForm 3
-    else when eqb (length hint) 4 then Sound
-    else NoForm 4
+    when eqb (byte_at hint 2) (code "0") then Some (NoForm 2)
+    else when not (digit (byte_at hint 2)) then Some (NoForm 2)
+    else when eqb (length hint) 3 then None
+    else when not (eqb (byte_at hint 2) (code "1")) then Some (NoForm 3)
+    else when not (eqb (byte_at hint 3) (code "0")) then Some (NoForm 3)
+    else when eqb (length hint) 4 then None
+    else Some (NoForm 4)
 
 -- of a hint of two bytes or more, the first of which is a format: d- and the places
-unfoldable pub point_fault : List ℕ → Fault
+unfoldable pub point_fault : List ℕ → Option Fault
 point_fault hint =
-    when not (eqb (byte_at hint 0) (code "d")) then NoForm 1
-    else when not (eqb (byte_at hint 1) (code "-")) then NoForm 1
-    else when eqb (length hint) 2 then Early 2
+    when not (eqb (byte_at hint 0) (code "d")) then Some (NoForm 1)
+    else when not (eqb (byte_at hint 1) (code "-")) then Some (NoForm 1)
+    else when eqb (length hint) 2 then Some (Early 2)
     else places_fault hint
 
 -- a format of integers
@@ -94,9 +85,9 @@ unfoldable pub integer_letter : ℕ → Bool
 integer_letter b = eqb b (code "x") || (eqb b (code "o") || (eqb b (code "b") || eqb b (code "d")))
 
 -- of a hint for integers: x, o, b, d, or d-1 to d-10
-unfoldable pub integer_fault : List ℕ → Fault
+unfoldable pub integer_fault : List ℕ → Option Fault
 integer_fault hint =
-    when eqb (length hint) 0 then Early 0
-    else when not (integer_letter (byte_at hint 0)) then NoForm 0
-    else when eqb (length hint) 1 then Sound
+    when eqb (length hint) 0 then Some (Early 0)
+    else when not (integer_letter (byte_at hint 0)) then Some (NoForm 0)
+    else when eqb (length hint) 1 then None
     else point_fault hint

@@ -2,15 +2,13 @@
 -- and letters.
 -- A piece begins with a digit or `*`, and a separator or terminator is neither, so each hint reads in one way at most.
 -- Assumes nothing.
-use Rattle.std.specs.Prelude.{ℕ, zero, suc, ◌+◌, ◌-◌, ◌*◌, Bool, true, false, cond, not, ◌&&◌, ◌||◌, List, [], map, leb, ltb, eqb, length}
+use Rattle.std.specs.Prelude.{ℕ, zero, suc, ◌+◌, ◌-◌, ◌*◌, Bool, true, false, cond, not, ◌&&◌, ◌||◌, List, [], Option, Some, None, map, leb, ltb, eqb, length}
 use Prim.Native.Char.{code}
 use Rattle.index.specs.Choice.{when◌then◌else◌}
 use Rattle.buffer.specs.Buffer.{byte_at}
 use Rattle.character.specs.Cut.{Cut, whole, stuck, cut}
 use Rattle.hint_form.specs.declared.Piece.{Piece}
 use Rattle.hint_form.specs.declared.Number.{Number}
-use Rattle.hint_form.specs.declared.Found.{Found}
-use Rattle.hint_form.specs.declared.Found.TheVariants.{Whole, Nothing}
 
 -- a decimal digit
 unfoldable pub digit : ℕ → Bool
@@ -20,13 +18,19 @@ digit b = leb (code "0") b && leb b (code "9")
 unfoldable pub mark : ℕ → Bool
 mark b = leb 32 b && leb b 126 && not (digit b) && not (eqb b (code "*"))
 
--- the separator or terminator at a place, or 0 where there is none
-unfoldable pub mark_at : List ℕ → ℕ → ℕ
-mark_at hint i = cond (mark (byte_at hint i)) (byte_at hint i) 0
+-- the separator or terminator at a place, if there is one
+unfoldable pub mark_at : List ℕ → ℕ → Option ℕ
+mark_at hint i = cond (mark (byte_at hint i)) (Some (byte_at hint i)) None
 
--- how many bytes a separator or terminator has
-unfoldable pub mark_size : ℕ → ℕ
-mark_size b = cond (eqb b 0) 0 1
+-- whether there is one
+abbrev pub has_mark : Option ℕ → Bool
+has_mark (Some b) = true
+has_mark None = false
+
+-- how many bytes it has
+unfoldable pub mark_size : Option ℕ → ℕ
+mark_size (Some b) = 1
+mark_size None = 0
 
 -- the number at a place, of so many digits at most, after digits that were worth n; and the place after it
 unfoldable pub number_after : ℕ → ℕ → List ℕ → ℕ → Number
@@ -76,13 +80,13 @@ length_place hint i = cond (starred hint i) (i + 1) i
 unfoldable pub format_place : List ℕ → ℕ → ℕ
 format_place hint i = (number_at hint (length_place hint i)).next
 
--- the separator of the piece at i, or 0
-unfoldable pub separator_of : List ℕ → ℕ → ℕ
+-- the separator of the piece at i, if it has one
+unfoldable pub separator_of : List ℕ → ℕ → Option ℕ
 separator_of hint i = mark_at hint (format_place hint i + 1)
 
--- its terminator, or 0: only after `*` and a separator
-unfoldable pub terminator_of : List ℕ → ℕ → ℕ
-terminator_of hint i = cond (starred hint i && not (eqb (separator_of hint i) 0)) (mark_at hint (format_place hint i + 2)) 0
+-- its terminator, if it has one: only after `*` and a separator
+unfoldable pub terminator_of : List ℕ → ℕ → Option ℕ
+terminator_of hint i = cond (starred hint i && has_mark (separator_of hint i)) (mark_at hint (format_place hint i + 2)) None
 
 -- a piece starts at i: its length is allowed by its format
 unfoldable pub is_piece : List ℕ → ℕ → Bool
@@ -120,9 +124,9 @@ pieces_of hint (stuck i) = none
 unfoldable pub read_hint : List ℕ → Reading
 read_hint hint = cond (leb 1 (length hint) && leb (length hint) 255) (pieces_of hint (cut (piece_size hint) (length hint))) none
 
--- what stands at a place of a hint
-unfoldable pub found : List ℕ → ℕ → Found
-found hint i = cond (is_piece hint i) (Whole (piece_at hint i) (piece_end hint i)) Nothing
+-- what stands at a place of a hint: a piece and the place after it, or none
+unfoldable pub found : List ℕ → ℕ → Option (Piece × ℕ)
+found hint i = cond (is_piece hint i) (Some (piece_at hint i, piece_end hint i)) None
 
 -- whether a hint is pieces
 unfoldable pub is_pieces : Reading → Bool

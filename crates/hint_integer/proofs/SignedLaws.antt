@@ -4,30 +4,19 @@ use Prim.Native.Nat.{ℕ, ◌^◌, ◌≤◌, ◌<◌}
 use Prim.Native.Char.{code}
 use native.Mathlib.Nat.{not-suc-le-zero}
 use native.Mathlib.Omega.{arith}
-use mathlib.Core.Path.{◌≡◌, refl, sym, ap, ◌∙◌}
+use mathlib.Core.Path.{◌≡◌, refl, ap}
 use mathlib.Core.Bool.{true, false}
 use mathlib.Core.List.{◌∷◌}
 use lib.Dec.{lit≤}
 use lib.IntN.{ℤ, pos, negsuc, nat_abs, ◌-ℤ◌}
-use lib.Signed.{le_z, lt_z}
+use lib.Signed.{lt_z}
 use lib.ListN.{length}
-use borrow.Author.Tests.{lt-ltb, le-ltb, leb-true, leb-false, ltb-true}
+use borrow.Author.Tests.{leb-true, ltb-true}
 use Rattle.hint_integer.specs.Form.{Usable}
 use Rattle.hint_integer.specs.declared.Form.{Form}
-use Rattle.hint_integer.specs.declared.Form.TheVariants.{Base, Point, Bad}
+use Rattle.hint_integer.specs.declared.Form.TheVariants.{Base, Point}
 use Rattle.hint_integer.specs.Signed.{in_range, magnitude, signed}
 use Rattle.digit.proofs.Sizes.{digits_short, pointed_size}
-
--- the two tests of the range
-pub range_high : (z : ℤ) → le_z (negsuc 2147483647) z ≡ true → le_z z (pos 4294967295) ≡ in_range z
-unfolding in_range
-range_high (pos n) h = refl
-range_high (negsuc n) h = sym (lt-ltb n 2147483648 (omega (arith, leb-true n 2147483647 h)))
-
-pub range_low : (z : ℤ) → le_z (negsuc 2147483647) z ≡ false → le_z (negsuc 2147483647) z ≡ in_range z
-unfolding in_range
-range_low (pos n) h = let z : ◌≡◌ {A = ℕ} 0 1 = cc in absurd (omega arith)
-range_low (negsuc n) h = h ∙ sym (le-ltb n 2147483648 (omega (arith, leb-false n 2147483647 h)))
 
 -- an integer in the range has a magnitude below 2 ^ 32
 pub magnitude_small : (z : ℤ) → in_range z ≡ true → nat_abs z < 2 ^ 32
@@ -60,4 +49,3 @@ pub magnitude_size : (form : Form) (n : ℕ) → Usable form → n < 2 ^ 32 → 
 unfolding magnitude
 magnitude_size (Base base) n u h = omega (arith, digits_short 2 base 31 n (lit≤ tt) u.0 h)
 magnitude_size (Point places) n u h = omega (arith, pointed_size places n h)
-magnitude_size Bad n u h = lit≤ tt

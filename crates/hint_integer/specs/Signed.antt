@@ -1,16 +1,15 @@
 -- Printing integers by a form (document 01, "Printing by hint").
 -- Assumes nothing.
-use Rattle.std.specs.Prelude.{ℕ, suc, Bool, List, [], ◌∷◌, leb, ltb, ℤ, pos, negsuc}
+use Rattle.std.specs.Prelude.{ℕ, suc, Bool, List, ◌∷◌, leb, ltb, ℤ, pos, negsuc}
 use Prim.Native.Char.{code}
 use Rattle.digit.specs.Digits.{digits, pointed}
 use Rattle.hint_integer.specs.declared.Form.{Form}
-use Rattle.hint_integer.specs.declared.Form.TheVariants.{Base, Point, Bad}
+use Rattle.hint_integer.specs.declared.Form.TheVariants.{Base, Point}
 
 -- the digits of a number that isn't negative
 unfoldable pub magnitude : Form → ℕ → List ℕ
 magnitude (Base base) n = digits base n
 magnitude (Point places) n = pointed places n
-magnitude Bad n = []
 
 -- below zero a minus and then the magnitude
 unfoldable pub signed : Form → ℤ → List ℕ

@@ -3,7 +3,7 @@
 
 ghost use Rattle.std.specs.Prelude.{◌+◌, ◌≤◌, ◌≡◌, true, nat_abs, length};
 ghost use Rattle.buffer.specs.Buffer.{Wrote};
-ghost use Rattle.hint_integer.specs.Form.{Usable, is_bad, read_form, read_point};
+ghost use Rattle.hint_integer.specs.Form.{Usable, read_form, read_point};
 ghost use Rattle.hint_integer.specs.Signed.{in_range, magnitude, signed};
 
 use buffer::{byte_at, put};
@@ -15,63 +15,45 @@ use hint_form::{base_of, is_allowed, number_at};
 pub enum Form {
     Base(u64),
     Point(u64),
-    Bad,
 }
 
-// The point of a hint d-N; Bad where it is none.
-fn point_of(hint: &[u8]) -> Form
+// The point of a hint d-N, if it is one.
+#[tactic(auto, using(std::proofs::lemmas::Bool::Decides::nat_tests), unfolding(crate::specs::Form::read_point, hint_form::specs::Hint::bounded))]
+fn point_of(hint: &[u8]) -> Option<Form>
     ensures { result ≡ read_point hint.now }
 {
-    if byte_at(hint, 0) != b'd' {
-        return Form::Bad;
-    }
-    if byte_at(hint, 1) != b'-' {
-        return Form::Bad;
-    }
+    let [b'd', b'-', ..] = hint else {
+        return None;
+    };
     let number = number_at(hint, 2);
-    let places = number.value;
-    if !is_allowed(byte_at(hint, 2), places, 10) {
-        return Form::Bad;
+    if is_allowed(byte_at(hint, 2), number.value, 10) && number.next == hint.len() {
+        Some(Form::Point(number.value as u64))
+    } else {
+        None
     }
-    if number.next != hint.len() {
-        return Form::Bad;
-    }
-    Form::Point(places as u64)
 }
 
-// The form that a hint for integers asks; Bad where it is none.
-pub fn form_of(hint: &[u8]) -> Form
+// The form that a hint for integers asks, if it is one.
+#[tactic(auto, using(std::proofs::lemmas::Bool::Decides::nat_tests), unfolding(crate::specs::Form::read_form, crate::specs::Form::integer_format, hint_form::specs::Hint::base_of))]
+pub fn form_of(hint: &[u8]) -> Option<Form>
     ensures { result ≡ read_form hint.now }
 {
-    if hint.len() != 1 {
-        return point_of(hint);
-    }
-    let letter = byte_at(hint, 0);
-    match letter {
-        b'x' | b'o' | b'b' | b'd' => Form::Base(base_of(letter)),
-        _ => Form::Bad,
+    match hint {
+        [letter @ (b'x' | b'o' | b'b' | b'd')] => Some(Form::Base(base_of(*letter))),
+        _ => point_of(hint),
     }
 }
 
 // Whether an integer is from -2147483648 to 4294967295.
+#[tactic(auto, using(std::proofs::lemmas::Bool::Decides::nat_tests), unfolding(crate::specs::Signed::in_range))]
 pub fn in_range(value: i64) -> bool
     ensures { result ≡ in_range value }
 {
-    -2147483648 <= value && value <= 4294967295
+    (-2147483648..=4294967295).contains(&value)
 }
 
-// Whether a hint for integers has no form.
-pub fn is_bad(form: Form) -> bool
-    ensures { result ≡ is_bad form }
-{
-    match form {
-        Form::Base(_) => false,
-        Form::Point(_) => false,
-        Form::Bad => true,
-    }
-}
-
-// The magnitude of an integer in the range: below zero it is negated first.
+// The magnitude of an integer in the range: below zero it is negated first, within its bounds. `unsigned_abs` would not be that
+// form, which docs/DECISIONS.md keeps.
 fn magnitude_of(value: i64) -> u64
     requires { in_range value ≡ true }
     ensures { result ≡ nat_abs value }
@@ -84,6 +66,7 @@ fn magnitude_of(value: i64) -> u64
 }
 
 // Writes the digits of a number in a form, and answers the place after them.
+#[tactic(auto, unfolding(crate::specs::Signed::magnitude))]
 fn print_magnitude(form: Form, n: u64, out: &mut [u8], at: usize) -> usize
     requires usable { Usable form }
     requires room { at + length (magnitude form n) ≤ length out.old }
@@ -92,7 +75,6 @@ fn print_magnitude(form: Form, n: u64, out: &mut [u8], at: usize) -> usize
     match form {
         Form::Base(base) => print_digits(n, base, out, at),
         Form::Point(places) => print_pointed(n, places, out, at),
-        Form::Bad => at,
     }
 }
 

@@ -6,7 +6,8 @@ use native.Mathlib.Nat.{suc-mul}
 use native.Mathlib.Omega.{arith}
 use mathlib.Core.Path.{◌≡◌, refl, ap, ◌∙◌}
 use mathlib.Core.Bool.{Bool, true, false, cond}
-use mathlib.Core.List.{List, [], ◌∷◌}
+use mathlib.Core.List.{List}
+use Rattle.std.proofs.Common.{Option, Some, None}
 use lib.Dec.{leb, eqb, lit≤}
 use lib.ListN.{length, take, drop, length-take, length-drop}
 use borrow.Author.Tests.{leb-true, leb-false, eqb-true}
@@ -58,13 +59,10 @@ use_size format at s some allowed h = go (passes format) refl
     go false e = number_short (base_of format) s (number_format format e (omega arith)).0 some h
 
 -- a separator or terminator
-pub optional_size : (b : ℕ) → length (optional b) ≤ 1
+pub optional_size : (mark : Option ℕ) → length (optional mark) ≤ 1
 unfolding optional
-optional_size b = go (eqb b 0)
-  where
-    go : (t : Bool) → length (cond t [] (b ∷ [])) ≤ 1
-    go true = lit≤ tt
-    go false = lit≤ tt
+optional_size (Some b) = lit≤ tt
+optional_size None = lit≤ tt
 
 -- a use has as many octets as its length says, or the fewer left
 pub octets_size : (size at : ℕ) (value : List ℕ) → length (take size (drop at value)) ≡ min size (length value - at)
@@ -79,7 +77,7 @@ module _ (p : Piece) (value : List ℕ) (some : 0 < p.size) (allowed : p.size �
       let long = octets_size p.size at value in
       let octets = octets_take p.size (drop at value) (octets_drop at value h) in
       let text = use_size p.format at s (omega arith) (omega arith) octets in
-      let next : ℕ = following p left value (at + p.size) in
+      let next : Option ℕ = following p left value (at + p.size) in
       omega (arith, text, optional_size next, joined_size (use_text p.format at s) (printed (optional next)))
 
   -- so many uses from a place on leave four bytes for each octet after them

@@ -5,24 +5,22 @@ use native.Mathlib.Nat.{not-suc-le-zero, one-mul, mul-le-mul_right, le_trans, le
 use native.Mathlib.Numerals.{sub-one}
 use native.Mathlib.Omega.{arith}
 use mathlib.Core.Path.{◌≡◌, refl, ap}
-use mathlib.Core.List.{List, [], ◌∷◌}
+use mathlib.Core.List.{List, []}
 use mathlib.Core.Bool.{Bool, true, false, cond}
 use lib.ListN.{length}
-use borrow.Author.Tests.{le-leb, lt-leb, eq-eqb, ne_eqb}
+use borrow.Author.Tests.{le-leb, lt-leb}
 use Rattle.hint_form.specs.declared.Piece.{Piece}
 use Rattle.character.specs.Cut.{Cut, whole, stuck, stuck_at}
-use Rattle.character.specs.declared.Search.TheVariants.{At, Nowhere}
+use Rattle.std.proofs.Common.{Option, Some, None}
+use Rattle.std.specs.Option.{option_or}
+use Rattle.hint_form.specs.Hint.{has_mark}
 use Rattle.buffer.specs.Buffer.{byte_at}
-use Rattle.hint_piece.specs.Use.{printed, joined, optional, one_use, uses, fault, passed, repeats, uses_start, uses_end}
+use Rattle.hint_piece.specs.Use.{printed, joined, one_use, uses, fault, passed, repeats, uses_start, uses_end}
 
--- a byte of 0 is none, and any other itself
-pub optional_none : (b : ℕ) → b ≡ 0 → optional b ≡ []
-unfolding optional
-optional_none b e = simp (eq-eqb b 0 e)
-
-pub optional_some : (b : ℕ) → (b ≡ 0 → ⊥) → optional b ≡ b ∷ []
-unfolding optional
-optional_some b e = simp (ne_eqb b 0 e)
+-- the first mark, or the second where there is none
+pub or_mark : (first second : Option ℕ) → option_or first second ≡ cond (has_mark first) first second
+or_mark (Some b) second = refl
+or_mark None second = refl
 
 -- no use prints nothing, nor does one where no octet is left
 pub uses_none : (left : ℕ) (p : Piece) (value : List ℕ) (at : ℕ) → left ≡ 0 → uses left p value at ≡ printed []
@@ -42,12 +40,12 @@ uses_step zero p value at some h = absurd (not-suc-le-zero some)
 uses_step (suc left) p value at some h = rw (sub-one (suc left), lt-leb (length value) at h, uses)
 
 -- where a search found something, or nothing, the cut is known
-pub passed_stuck : (at : ℕ) (s : List ℕ) (c : Cut) (i : ℕ) → stuck_at c ≡ At i → passed at s c ≡ fault (at + i)
+pub passed_stuck : (at : ℕ) (s : List ℕ) (c : Cut) (i : ℕ) → stuck_at c ≡ Some i → passed at s c ≡ fault (at + i)
 unfolding stuck_at passed
 passed_stuck at s (whole places) i h = let z : ◌≡◌ {A = ℕ} 0 1 = cc in absurd (omega arith)
 passed_stuck at s (stuck j) i h = let e : j ≡ i = cc in ap (λ (k : ℕ). fault (at + k)) e
 
-pub passed_whole : (at : ℕ) (s : List ℕ) (c : Cut) → stuck_at c ≡ Nowhere → passed at s c ≡ printed s
+pub passed_whole : (at : ℕ) (s : List ℕ) (c : Cut) → stuck_at c ≡ None → passed at s c ≡ printed s
 unfolding stuck_at passed
 passed_whole at s (whole places) h = refl
 passed_whole at s (stuck j) h = let z : ◌≡◌ {A = ℕ} 0 1 = cc in absurd (omega arith)

@@ -1,9 +1,9 @@
 -- Printing octets by one piece (document 01, "Printing by hint"): its uses, the octets of a use.
 -- Assumes nothing.
-use Rattle.std.specs.Prelude.{ℕ, zero, suc, ◌+◌, ◌*◌, true, false, cond, not, ◌&&◌, List, [], ◌∷◌, ◌++◌, leb, eqb, length, take, drop}
+use Rattle.std.specs.Prelude.{ℕ, zero, suc, ◌+◌, ◌*◌, true, false, cond, ◌&&◌, List, [], ◌∷◌, ◌++◌, Option, Some, None, leb, eqb, length, take, drop}
 use Rattle.index.specs.Choice.{when◌then◌else◌}
 use Rattle.buffer.specs.Buffer.{byte_at}
-use Rattle.hint_form.specs.Hint.{base_of, passes}
+use Rattle.hint_form.specs.Hint.{base_of, passes, has_mark}
 use Rattle.digit.specs.Digits.{digits, big_endian}
 use Rattle.character.specs.Cut.{Cut, whole, stuck}
 use Rattle.character.specs.Character.{characters}
@@ -31,16 +31,17 @@ use_text format at octets =
     cond (passes format) (passed at octets (characters format octets))
     (printed (digits (base_of format) (big_endian 0 octets)))
 
--- one byte, or none where it is 0
-unfoldable pub optional : ℕ → List ℕ
-optional b = cond (eqb b 0) [] (b ∷ [])
+-- one byte, or none
+unfoldable pub optional : Option ℕ → List ℕ
+optional (Some b) = b ∷ []
+optional None = []
 
--- the byte that follows a use after which the next octet is at a place and so many uses are left: none, 0, where no octet
+-- the byte that follows a use after which the next octet is at a place and so many uses are left: none where no octet
 -- remains; the terminator, if any, after the last; else the separator, if any
-unfoldable pub following : Piece → ℕ → List ℕ → ℕ → ℕ
+unfoldable pub following : Piece → ℕ → List ℕ → ℕ → Option ℕ
 following p left value next =
-    when leb (length value) next then 0
-    else when eqb left 0 && not (eqb p.terminator 0) then p.terminator
+    when leb (length value) next then None
+    else when eqb left 0 && has_mark p.terminator then p.terminator
     else p.separator
 
 -- one use at a place, with so many left after it: its octets' text and what follows

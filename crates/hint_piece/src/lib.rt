@@ -8,26 +8,24 @@ ghost use Rattle.hint_piece.specs.Use.{use_text, optional, following, one_use, u
 ghost use Rattle.hint_piece.specs.Followed.{Followed};
 
 use buffer::{copy, put};
-use character::{Search, first_fault};
+use character::first_fault;
 use digit::{big_endian, print_digits};
 use hint_form::{Piece, base_of};
 
-// Printing has come to this place of the output, or found this octet at fault.
-#[derive(Clone, Copy)]
-pub enum Progress {
-    To(usize),
-    Fault(usize),
-}
+// Where the first octet stands that isn't of its format, or its character's start.
+#[derive(Clone, Copy, PartialEq, Eq)]
+pub struct BadOctet(pub usize);
 
 // Whether a format passes characters on.
+#[tactic(auto, unfolding(hint_form::specs::Hint::passes))]
 fn passes_on(format: u8) -> bool
     ensures { result ≡ passes format }
 {
-    format == b'a' || format == b't'
+    matches!(format, b'a' | b't')
 }
 
-// Writes the text of one use, whose octets start at a place of the value, or answers the octet at fault.
-fn print_use(s: &[u8], at: usize, format: u8, out: &mut [u8], pos: usize) -> Progress
+// Writes the text of one use, whose octets start at a place of the value, and answers the place after it.
+fn print_use(s: &[u8], at: usize, format: u8, out: &mut [u8], pos: usize) -> Result<usize, BadOctet>
     requires some { 0 < length s.now }
     requires allowed { length s.now ≤ longest format }
     requires early { at ≤ 1024 }
@@ -37,39 +35,37 @@ fn print_use(s: &[u8], at: usize, format: u8, out: &mut [u8], pos: usize) -> Pro
     if !passes_on(format) {
         let n = big_endian(s);
         let base = base_of(format);
-        return Progress::To(print_digits(n, base, out, pos));
+        return Ok(print_digits(n, base, out, pos));
     }
-    if let Search::At(i) = first_fault(format, s) {
-        return Progress::Fault(at + i);
+    match first_fault(format, s) {
+        Some(i) => Err(BadOctet(at + i)),
+        None => Ok(copy(s, out, pos)),
     }
-    Progress::To(copy(s, out, pos))
 }
 
-// Writes one byte, or nothing where it is 0, and answers the place after it.
-fn put_optional(out: &mut [u8], at: usize, b: u8) -> usize
-    requires { at + length (optional b) ≤ length out.old }
-    ensures { Wrote (optional b) at result out.old out.new }
+// Writes one byte, if there is one, and answers the place after it.
+fn put_optional(out: &mut [u8], at: usize, byte: Option<u8>) -> usize
+    requires { at + length (optional byte) ≤ length out.old }
+    ensures { Wrote (optional byte) at result out.old out.new }
 {
-    if b == 0 {
-        return at;
+    match byte {
+        Some(b) => put(out, at, b),
+        None => at,
     }
-    put(out, at, b)
 }
 
-// The byte that follows a use, or 0.
-fn following_byte(piece: Piece, left: usize, value: &[u8], next: usize) -> u8
+// The byte that follows a use, if one does.
+fn following(piece: Piece, left: usize, value: &[u8], next: usize) -> Option<u8>
     ensures { result ≡ following piece left value.now next }
 {
     if value.len() <= next {
-        return 0;
+        return None;
     }
-    if left != 0 {
-        return piece.separator;
+    if left == 0 {
+        piece.terminator.or(piece.separator)
+    } else {
+        piece.separator
     }
-    if piece.terminator == 0 {
-        return piece.separator;
-    }
-    piece.terminator
 }
 
 // The octets of the use that starts at a place: as many as the length says, or the fewer left.
@@ -77,11 +73,8 @@ fn use_octets(value: &[u8], at: usize, size: usize) -> &[u8]
     requires { at ≤ length value.now }
     ensures { result.now ≡ take size (drop at value.now) }
 {
-    if size < value.len() - at {
-        &value[at..at + size]
-    } else {
-        &value[at..]
-    }
+    let rest = &value[at..];
+    &rest[..size.min(rest.len())]
 }
 
 // Writes one use and what follows it.
@@ -92,7 +85,7 @@ fn print_one(
     left: usize,
     out: &mut [u8],
     pos: usize,
-) -> Progress
+) -> Result<usize, BadOctet>
     requires octet { at < length value.now }
     requires short { length value.now ≤ 1024 }
     requires some { 0 < piece.size }
@@ -100,15 +93,10 @@ fn print_one(
     requires room { pos + 4 * (length value.now - at) ≤ length out.old }
     ensures { Followed (one_use piece left value.now at) pos result out.old out.new }
 {
-    let size = piece.size;
-    let octets = use_octets(value, at, size);
-    match print_use(octets, at, piece.format, out, pos) {
-        Progress::To(next) => {
-            let mark = following_byte(piece, left, value, at + size);
-            Progress::To(put_optional(out, next, mark))
-        }
-        Progress::Fault(place) => Progress::Fault(place),
-    }
+    let octets = use_octets(value, at, piece.size);
+    let next = print_use(octets, at, piece.format, out, pos)?;
+    let mark = following(piece, left, value, at + piece.size);
+    Ok(put_optional(out, next, mark))
 }
 
 // Writes so many uses of a piece, or fewer where no octet is left.
@@ -119,7 +107,7 @@ pub fn print_uses(
     count: usize,
     out: &mut [u8],
     pos: usize,
-) -> Progress
+) -> Result<usize, BadOctet>
     requires short { length value.now ≤ 1024 }
     requires early { start ≤ 1024 }
     requires some { 0 < piece.size }
@@ -127,37 +115,33 @@ pub fn print_uses(
     requires room { pos + 4 * (length value.now - start) ≤ length out.old }
     ensures { Followed (uses count piece value.now start) pos result out.old out.new }
 {
-    let size = piece.size;
-    let mut left = count;
     let mut at = start;
     let mut next = pos;
-    while 0 < left {
+    for left in (0..count).rev() {
         if value.len() <= at {
-            return Progress::To(next);
+            return Ok(next);
         }
-        left -= 1;
-        match print_one(value, at, piece, left, out, next) {
-            Progress::To(n) => {
-                next = n;
-            }
-            Progress::Fault(place) => {
-                return Progress::Fault(place);
-            }
-        }
-        at += size;
+        next = print_one(value, at, piece, left, out, next)?;
+        at += piece.size;
     }
-    Progress::To(next)
+    Ok(next)
 }
 
 // How often a piece is used.
+#[tactic(auto, unfolding(crate::specs::Use::repeats))]
 pub fn repeats_of(piece: Piece, value: &[u8], at: usize) -> usize
     requires { at < length value.now }
     ensures { result ≡ repeats piece value.now at }
 {
-    if piece.starred { value[at] as usize } else { 1 }
+    if piece.starred {
+        usize::from(value[at])
+    } else {
+        1
+    }
 }
 
 // Where its uses start.
+#[tactic(auto, unfolding(crate::specs::Use::uses_start))]
 pub fn uses_start(piece: Piece, at: usize) -> usize
     requires { at ≤ 1024 }
     ensures { result ≡ uses_start piece at }

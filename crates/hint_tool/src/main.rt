@@ -12,7 +12,7 @@ ghost use Rattle.command.specs.Within.{ListWithin};
 ghost use Rattle.hint.specs.Answer.{length_of};
 
 use command::{List, NO_LINE};
-use hint::Answer;
+use hint::Refusal;
 use output::{Output, print, print_number};
 use words::{Number, Octets};
 
@@ -21,9 +21,6 @@ const SPACE: usize = 65536;
 
 // How many bytes a printed text may have.
 const TEXT: usize = 4096;
-
-// The refusal of a hint that is none.
-const BAD_HINT: u64 = 32;
 
 fn main(rt: HostRuntime) {
     let mut space = [0u8; SPACE];
@@ -114,21 +111,27 @@ fn print_octets(hint_word: &[u8], octets: &[u8], line: u64, out: Output) -> Outp
 }
 
 // Whether what is wrong with a hint is said: not in a list, where thousands of cases may have the same hint.
-fn is_explained(answer: Answer, line: u64) -> bool {
-    line == 0 && answer.number() == BAD_HINT
+fn is_explained(answer: Result<usize, Refusal>, line: u64) -> bool {
+    line == 0 && matches!(answer, Err(Refusal::BadHint))
 }
 
 // Says what is wrong with a hint for octets, if it is.
-fn explain_octets(answer: Answer, hint_word: &[u8], line: u64, out: Output) {
-    if is_explained(answer, line) {
-        reason::explain(hint_word, hint_form::octets_fault(hint_word), out);
+fn explain_octets(answer: Result<usize, Refusal>, hint_word: &[u8], line: u64, out: Output) {
+    if !is_explained(answer, line) {
+        return;
+    }
+    if let Some(fault) = hint_form::octets_fault(hint_word) {
+        reason::explain(hint_word, fault, out);
     }
 }
 
 // The same of a hint for integers.
-fn explain_integer(answer: Answer, hint_word: &[u8], line: u64, out: Output) {
-    if is_explained(answer, line) {
-        reason::explain(hint_word, hint_form::integer_fault(hint_word), out);
+fn explain_integer(answer: Result<usize, Refusal>, hint_word: &[u8], line: u64, out: Output) {
+    if !is_explained(answer, line) {
+        return;
+    }
+    if let Some(fault) = hint_form::integer_fault(hint_word) {
+        reason::explain(hint_word, fault, out);
     }
 }
 
@@ -149,14 +152,13 @@ fn print_integer(hint_word: &[u8], value: i64, line: u64, out: Output) -> Output
 }
 
 // Prints the text that was printed, or the refusal.
-fn print_answer(answer: Answer, text: &[u8], line: u64, out: Output) -> Output
+fn print_answer(answer: Result<usize, Refusal>, text: &[u8], line: u64, out: Output) -> Output
     requires { length_of answer ≤ length text.now }
 {
-    let n = answer.length();
-    if answer.number() == 0 {
-        return print_text(&text[0..n], line, out);
+    match answer {
+        Ok(n) => print_text(&text[..n], line, out),
+        Err(refusal) => print_refusal(refusal, output::refuse(out)),
     }
-    print_refusal(answer, output::refuse(out))
 }
 
 // Prints a text: in a list so that it is one line, whatever its bytes are.
@@ -168,11 +170,11 @@ fn print_text(text: &[u8], line: u64, out: Output) -> Output {
     output::end_line(output::show_in_list(out, text))
 }
 
-fn print_refusal(answer: Answer, out: Output) -> Output {
+fn print_refusal(refusal: Refusal, out: Output) -> Output {
     let out = print(out, b"refused\t");
-    let out = print_number(out, answer.number());
+    let out = print_number(out, refusal.number());
     let out = output::print_tab(out);
-    let out = print_number(out, answer.place() as u64);
+    let out = print_number(out, refusal.place() as u64);
     output::end_line(out)
 }
 

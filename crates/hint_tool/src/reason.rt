@@ -5,7 +5,6 @@ use output::{Output, say, say_number};
 // Says in one line what is wrong with a hint, and at which byte.
 pub fn explain(hint: &[u8], fault: Fault, out: Output) {
     match fault {
-        Fault::Sound => {}
         Fault::Early(place) => say_end(place, out),
         Fault::NoLength(place) => say_byte(hint, place, b"stands where a length must stand\n", out),
         Fault::Zero(place) => say_fault(

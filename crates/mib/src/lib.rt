@@ -8,50 +8,15 @@ ghost use Rattle.hint.specs.Answer.{number_of as printed_number, place_of as pri
 ghost use Rattle.row_status.specs.RowStatus.{outcome};
 ghost use Rattle.mib.specs.Raw.{laid, step_words, ReadRaw, OctetsRaw, IntegerRaw, SetRaw};
 
-use hint::Answer as Printing;
 use reader::Answer as Reading;
-use row_status::Answer as Step;
+use row_status::State;
 
 // Lays words over the first of a slice, as far as it reaches.
 fn lay(words: &[usize], answer: &mut [usize])
     ensures { answer.new ≡ laid words.now answer.old }
 {
-    let mut i = 0;
-    while i < words.len() {
-        if answer.len() <= i {
-            return;
-        }
-        answer[i] = words[i];
-        i += 1;
-    }
-}
-
-// The number, the place and the count of the reader's answer.
-fn number_of(reading: Reading) -> usize
-    ensures { result ≡ number_of reading }
-{
-    match reading {
-        Reading::Accepted(_) => 0,
-        Reading::Refused(number, _) => number as usize,
-    }
-}
-
-fn place_of(reading: Reading) -> usize
-    ensures { result ≡ place_of reading }
-{
-    match reading {
-        Reading::Accepted(_) => 0,
-        Reading::Refused(_, place) => place.0,
-    }
-}
-
-fn count_of(reading: Reading) -> usize
-    ensures { result ≡ answered_count reading }
-{
-    match reading {
-        Reading::Accepted(count) => count,
-        Reading::Refused(_, _) => 0,
-    }
+    let count = words.len().min(answer.len());
+    answer[..count].copy_from_slice(&words[..count]);
 }
 
 // Lays number, place and count of the reader's answer.
@@ -59,29 +24,29 @@ fn lay_reading(reading: Reading, answer: &mut [usize])
     ensures { answer.new ≡ laid (number_of reading ∷ place_of reading ∷ answered_count reading ∷ [])
         answer.old }
 {
-    let number = number_of(reading);
-    let place = place_of(reading);
-    let count = count_of(reading);
-    lay(&[number, place, count], answer);
+    match reading {
+        Reading::Accepted(count) => lay(&[0, 0, count], answer),
+        Reading::Refused(number, place) => lay(&[number as usize, place.0, 0], answer),
+    }
 }
 
 // Lays number, place and length of a printer's answer.
-fn lay_printing(printing: Printing, answer: &mut [usize])
+fn lay_printing(printing: Result<usize, hint::Refusal>, answer: &mut [usize])
     ensures { answer.new ≡ laid (printed_number printing ∷ printed_place printing ∷ printed_length printing ∷ [])
         answer.old }
 {
-    let number = printing.number() as usize;
-    let place = printing.place();
-    let length = printing.length();
-    lay(&[number, place, length], answer);
+    match printing {
+        Ok(length) => lay(&[0, 0, length], answer),
+        Err(refusal) => lay(&[refusal.number() as usize, refusal.place(), 0], answer),
+    }
 }
 
 // Lays the number of a row's answer, and the next state of a row in the state.
-fn lay_step(step: Step, state: u64, answer: &mut [usize])
+fn lay_step(step: Result<State, row_status::Refusal>, state: u64, answer: &mut [usize])
     ensures { answer.new ≡ laid (step_words (outcome state step)) answer.old }
 {
-    let number = step.number() as usize;
-    let next = step.next(state) as usize;
+    let number = row_status::number(step) as usize;
+    let next = row_status::next(step, state) as usize;
     lay(&[number, next], answer);
 }
 

@@ -10,7 +10,7 @@ ghost use Rattle.command.specs.Within.{ListWithin};
 
 use command::{List, NO_LINE};
 use output::{Output, print, print_number, print_tab};
-use row_status::Answer;
+use row_status::{Refusal, State};
 use words::{Flag, Natural, Number};
 
 // How many bytes the arguments, or a line of the list, may have.
@@ -163,7 +163,7 @@ fn print_each(state_word: &[u8], state: u64, flags: Flags, out: Output) -> Outpu
     let out = print_set(state_word, state, flags, b"4", 4, out);
     let out = print_set(state_word, state, flags, b"5", 5, out);
     let out = print_set(state_word, state, flags, b"6", 6, out);
-    if row_status::NOT_READY < state {
+    if State::try_from(state).is_err() {
         return output::refuse(out);
     }
     out
@@ -200,7 +200,7 @@ fn answer_value(
 }
 
 // What a set value does to a row of this state.
-fn set(state: u64, flags: Flags, value: i64) -> Answer {
+fn set(state: u64, flags: Flags, value: i64) -> Result<State, Refusal> {
     row_status::set(state, value, flags.complete, flags.willing)
 }
 
@@ -214,7 +214,7 @@ fn print_one(
     out: Output,
 ) -> Output {
     let out = print_set(state_word, state, flags, value_word, value, out);
-    if set(state, flags, value).number() != 0 {
+    if set(state, flags, value).is_err() {
         return output::refuse(out);
     }
     out
@@ -239,31 +239,30 @@ fn print_set(
 }
 
 // The answer's number, or its name.
-fn print_answer(answer: Answer, in_words: bool, out: Output) -> Output {
-    let number = answer.number();
+fn print_answer(answer: Result<State, Refusal>, in_words: bool, out: Output) -> Output {
     if !in_words {
-        return print_number(out, number);
+        return print_number(out, row_status::number(answer));
     }
-    match number {
-        0 => print(out, b"noError"),
-        10 => print(out, b"wrongValue"),
-        12 => print(out, b"inconsistentValue"),
-        _ => print(out, b"no such state"),
+    match answer {
+        Ok(_) => print(out, b"noError"),
+        Err(Refusal::WrongValue) => print(out, b"wrongValue"),
+        Err(Refusal::InconsistentValue) => print(out, b"inconsistentValue"),
+        Err(Refusal::NoSuchState) => print(out, b"no such state"),
     }
 }
 
 // The next state; a state that does not exist is printed as it was given.
 fn print_next(
-    answer: Answer,
+    answer: Result<State, Refusal>,
     state_word: &[u8],
     state: u64,
     in_words: bool,
     out: Output,
 ) -> Output {
-    if row_status::NOT_READY < state {
+    if State::try_from(state).is_err() {
         return print(out, state_word);
     }
-    let next = answer.next(state);
+    let next = row_status::next(answer, state);
     if in_words {
         return print_state(next, out);
     }

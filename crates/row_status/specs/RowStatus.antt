@@ -1,8 +1,10 @@
 -- What a set of RowStatus does to a row: document 01, "RowStatus", clause by clause in its order.
 -- Assumes nothing.
-use Rattle.std.specs.Prelude.{ℕ, ◌≡◌, Bool, true, false, ltb, eqb, ℤ, pos, negsuc}
-use Rattle.row_status.specs.declared.Answer.{Answer}
-use Rattle.row_status.specs.declared.Answer.TheVariants.{NoError, WrongValue, InconsistentValue, NoSuchState}
+use Rattle.std.specs.Prelude.{ℕ, ◌≡◌, ◌<◌, Bool, true, false, Result, Ok, Err, ltb, eqb, ℤ, pos, negsuc}
+use Rattle.row_status.specs.declared.State.{State}
+use Rattle.row_status.specs.declared.State.TheVariants.{Absent, Active, NotInService, NotReady}
+use Rattle.row_status.specs.declared.Refusal.{Refusal}
+use Rattle.row_status.specs.declared.Refusal.TheVariants.{WrongValue, InconsistentValue, NoSuchState}
 
 -- an answer in the paper's terms: its number, and the row's next state
 pub record Outcome : Type 0 where
@@ -41,19 +43,33 @@ inconsistentValue state = record { number = 12; next = state }
 abbrev pub no_such_state : ℕ → Outcome
 no_such_state state = record { number = 40; next = state }
 
+-- the number of a state
+abbrev pub state_number : State → ℕ
+state_number Absent = none
+state_number Active = active
+state_number NotInService = notInService
+state_number NotReady = notReady
+
+-- what a number comes to as a state: the state with that number, or 40 for a number over 3
+abbrev pub Decodes : ℕ → Result State Refusal → Type 0
+Decodes number (Ok state) = state_number state ≡ number
+Decodes number (Err refusal) = (refusal ≡ NoSuchState) × (3 < number)
+
+-- what the call answers: the state that the row is in then, or why the set fails
+abbrev pub Answer : Type 0
+Answer = Result State Refusal
+
 -- the number of each case of the call's answer
 abbrev pub number_of : Answer → ℕ
-number_of (NoError next) = 0
-number_of WrongValue = 10
-number_of InconsistentValue = 12
-number_of NoSuchState = 40
+number_of (Ok next) = 0
+number_of (Err WrongValue) = 10
+number_of (Err InconsistentValue) = 12
+number_of (Err NoSuchState) = 40
 
 -- the next state of a row in the state, for each case: unchanged unless the number is 0
 abbrev pub next_of : ℕ → Answer → ℕ
-next_of state (NoError next) = next
-next_of state WrongValue = state
-next_of state InconsistentValue = state
-next_of state NoSuchState = state
+next_of state (Ok next) = state_number next
+next_of state (Err refusal) = state
 
 -- both, for a row in the state
 abbrev pub outcome : ℕ → Answer → Outcome

@@ -2,150 +2,154 @@
 #![tactic(auto)]
 
 ghost use Rattle.std.specs.Prelude.{◌≡◌, ℕ};
-ghost use Rattle.row_status.specs.RowStatus.{number_of, next_of, outcome, Sets};
+ghost use Rattle.row_status.specs.RowStatus.{Decodes, number_of, next_of, state_number, outcome, Sets};
 ghost use Rattle.row_status.specs.RowStatus.{if_complete, set_active, set_not_in_service, createAndGo, createAndWait};
 
-// The states of a row, and the set values of the same name.
-pub const NONE: u64 = 0;
+// The states of a row. A set value of the same name has the same number.
+#[derive(Clone, Copy, PartialEq, Eq)]
+pub enum State {
+    // There is no row.
+    Absent,
+    Active,
+    NotInService,
+    NotReady,
+}
 
-pub const ACTIVE: u64 = 1;
+impl State {
+    // The state's number, 0 to 3.
+    pub fn number(self) -> u64
+        ensures { result ≡ state_number self }
+    {
+        match self {
+            State::Absent => 0,
+            State::Active => 1,
+            State::NotInService => 2,
+            State::NotReady => 3,
+        }
+    }
+}
 
-pub const NOT_IN_SERVICE: u64 = 2;
+impl TryFrom<u64> for State {
+    type Error = Refusal;
 
-pub const NOT_READY: u64 = 3;
+    ghost try_from_gives = { Decodes };
 
-// How the agent answers a set of a row's RowStatus. `outcome` of specs/RowStatus.antt gives each case its number and
-// the state that the row is in afterwards.
-#[derive(Clone, Copy)]
-pub enum Answer {
-    // The set succeeds, and the row is now in this state.
-    NoError(u64),
-    // The value is refused, and the row keeps its state.
+    fn try_from(number: u64) -> Result<Self, Refusal> {
+        match number {
+            0 => Ok(State::Absent),
+            1 => Ok(State::Active),
+            2 => Ok(State::NotInService),
+            3 => Ok(State::NotReady),
+            _ => Err(Refusal::NoSuchState),
+        }
+    }
+}
+
+// Why a set of a row's RowStatus fails; the row keeps its state. `outcome` of specs/RowStatus.antt gives each case its number.
+#[derive(Clone, Copy, PartialEq, Eq)]
+pub enum Refusal {
+    // The value is refused.
     WrongValue,
-    // The value does not fit the row's state, which the row keeps.
+    // The value does not fit the row's state.
     InconsistentValue,
     // The row was handed in with a state that does not exist.
     NoSuchState,
 }
 
-impl Answer {
-    // The answer's number.
-    pub fn number(self) -> u64
-        ensures { result ≡ number_of self }
-    {
-        match self {
-            Answer::NoError(_) => 0,
-            Answer::WrongValue => 10,
-            Answer::InconsistentValue => 12,
-            Answer::NoSuchState => 40,
-        }
-    }
-
-    // The state of a row that was in `state` before this answer.
-    pub fn next(self, state: u64) -> u64
-        ensures { result ≡ next_of state self }
-    {
-        match self {
-            Answer::NoError(next) => next,
-            Answer::WrongValue => state,
-            Answer::InconsistentValue => state,
-            Answer::NoSuchState => state,
-        }
+// The number of an answer, 0 where the set succeeds.
+pub fn number(answer: Result<State, Refusal>) -> u64
+    ensures { result ≡ number_of answer }
+{
+    match answer {
+        Ok(_) => 0,
+        Err(Refusal::WrongValue) => 10,
+        Err(Refusal::InconsistentValue) => 12,
+        Err(Refusal::NoSuchState) => 40,
     }
 }
 
-// Answers a set of RowStatus to `value` on a row in `state`. `complete`: no required column is lacking after this set.
-// `willing`: the agent is willing to take the row out of service, or to create it so.
-pub fn set(state: u64, value: i64, complete: bool, willing: bool) -> Answer
+// The number of the state of a row that was in `state` before this answer.
+pub fn next(answer: Result<State, Refusal>, state: u64) -> u64
+    ensures { result ≡ next_of state answer }
+{
+    match answer {
+        Ok(next) => next.number(),
+        Err(_) => state,
+    }
+}
+
+// Answers a set of RowStatus to `value` on a row in `state` by the state that the row is in then. `complete`: no required column is
+// lacking after this set. `willing`: the agent is willing to take the row out of service, or to create it so.
+pub fn set(state: u64, value: i64, complete: bool, willing: bool) -> Result<State, Refusal>
     ensures { Sets state value complete willing result }
 {
-    if state > NOT_READY {
-        return Answer::NoSuchState;
+    let state = State::try_from(state)?;
+    match value {
+        1 => set_active(state, complete),
+        2 => set_not_in_service(state, complete, willing),
+        4 => create_and_go(state, complete),
+        5 => create_and_wait(state, complete, willing),
+        6 => Ok(State::Absent),
+        _ => Err(Refusal::WrongValue),
     }
-    if value == 1 {
-        return set_active(state, complete);
-    }
-    if value == 2 {
-        return set_not_in_service(state, complete, willing);
-    }
-    if value == 4 {
-        return create_and_go(state, complete);
-    }
-    if value == 5 {
-        return create_and_wait(state, complete, willing);
-    }
-    if value == 6 {
-        return Answer::NoError(NONE);
-    }
-    Answer::WrongValue
 }
 
 // A complete row moves to `next`; one that lacks a required column does not.
-fn if_complete(complete: bool, next: u64) -> Answer
-    ensures { (state : ℕ) → outcome state result ≡ if_complete state complete next }
+fn if_complete(complete: bool, next: State) -> Result<State, Refusal>
+    ensures { (state : ℕ) → outcome state result ≡ if_complete state complete (state_number next) }
 {
     if complete {
-        Answer::NoError(next)
+        Ok(next)
     } else {
-        Answer::InconsistentValue
+        Err(Refusal::InconsistentValue)
     }
 }
 
-fn set_active(state: u64, complete: bool) -> Answer
-    ensures { outcome state result ≡ set_active state complete }
+fn set_active(state: State, complete: bool) -> Result<State, Refusal>
+    ensures { outcome (state_number state) result ≡ set_active (state_number state) complete }
 {
-    if state == ACTIVE {
-        return Answer::NoError(ACTIVE);
+    match state {
+        State::Active | State::NotInService => Ok(State::Active),
+        State::NotReady => if_complete(complete, State::Active),
+        State::Absent => Err(Refusal::InconsistentValue),
     }
-    if state == NOT_IN_SERVICE {
-        return Answer::NoError(ACTIVE);
-    }
-    if state == NOT_READY {
-        return if_complete(complete, ACTIVE);
-    }
-    Answer::InconsistentValue
 }
 
-fn set_not_in_service(state: u64, complete: bool, willing: bool) -> Answer
-    ensures { outcome state result ≡ set_not_in_service state complete willing }
+fn set_not_in_service(state: State, complete: bool, willing: bool) -> Result<State, Refusal>
+    ensures { outcome (state_number state) result
+        ≡ set_not_in_service (state_number state) complete willing }
 {
-    if state == NOT_IN_SERVICE {
-        return Answer::NoError(NOT_IN_SERVICE);
+    match state {
+        State::NotInService => Ok(State::NotInService),
+        State::Active if willing => Ok(State::NotInService),
+        State::Active => Err(Refusal::WrongValue),
+        State::NotReady => if_complete(complete, State::NotInService),
+        State::Absent => Err(Refusal::InconsistentValue),
     }
-    if state == ACTIVE {
-        return if willing {
-            Answer::NoError(NOT_IN_SERVICE)
-        } else {
-            Answer::WrongValue
-        };
-    }
-    if state == NOT_READY {
-        return if_complete(complete, NOT_IN_SERVICE);
-    }
-    Answer::InconsistentValue
 }
 
-fn create_and_go(state: u64, complete: bool) -> Answer
-    ensures { outcome state result ≡ createAndGo state complete }
+fn create_and_go(state: State, complete: bool) -> Result<State, Refusal>
+    ensures { outcome (state_number state) result ≡ createAndGo (state_number state) complete }
 {
-    if state == NONE {
-        return if_complete(complete, ACTIVE);
+    match state {
+        State::Absent => if_complete(complete, State::Active),
+        _ => Err(Refusal::InconsistentValue),
     }
-    Answer::InconsistentValue
 }
 
-fn create_and_wait(state: u64, complete: bool, willing: bool) -> Answer
-    ensures { outcome state result ≡ createAndWait state complete willing }
+fn create_and_wait(state: State, complete: bool, willing: bool) -> Result<State, Refusal>
+    ensures { outcome (state_number state) result
+        ≡ createAndWait (state_number state) complete willing }
 {
-    if state != NONE {
-        return Answer::InconsistentValue;
+    if state != State::Absent {
+        return Err(Refusal::InconsistentValue);
     }
     if !willing {
-        return Answer::WrongValue;
+        return Err(Refusal::WrongValue);
     }
-    if complete {
-        Answer::NoError(NOT_IN_SERVICE)
+    Ok(if complete {
+        State::NotInService
     } else {
-        Answer::NoError(NOT_READY)
-    }
+        State::NotReady
+    })
 }

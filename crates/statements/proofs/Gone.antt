@@ -11,11 +11,12 @@ use Rattle.reader.specs.declared.Answer.{Answer}
 use Rattle.reader.specs.declared.Answer.TheVariants.{Accepted, Refused}
 use Rattle.reader.proofs.Ends.{read_as}
 use Rattle.hint.specs.Answer as hint
-use Rattle.hint.specs.declared.Answer.{Answer as HintAnswer}
-use Rattle.hint.specs.declared.Answer.TheVariants.{Printed, ShortBuffer, LongValue, BadHint, BadOctet, OutOfRange}
+use Rattle.std.proofs.Common.{Ok, Err}
+use Rattle.hint.specs.Answer.{Answer as HintAnswer}
+use Rattle.hint.specs.declared.Refusal.TheVariants.{ShortBuffer, LongValue, BadHint, BadOctet, OutOfRange}
 use Rattle.row_status.specs.RowStatus as row
-use Rattle.row_status.specs.declared.Answer.{Answer as RowAnswer}
-use Rattle.row_status.specs.declared.Answer.TheVariants.{NoError, WrongValue, InconsistentValue, NoSuchState}
+use Rattle.row_status.specs.RowStatus.{Answer as RowAnswer}
+use Rattle.row_status.specs.declared.Refusal.TheVariants.{WrongValue, InconsistentValue, NoSuchState}
 use Rattle.mib.specs.Raw.{laid, ReadRaw}
 use Rattle.statements.specs.Order.{ranks, is_among, ranks_before, rank}
 use Rattle.statements.specs.Breach.{InBreach, short_buffer, long_text, not_cut, not_derived, in_module}
@@ -60,18 +61,18 @@ not_laid text records records' numbers numbers' (old ∷ slice) answer' r some i
     not_read text r.right records records' numbers numbers' r.reads (sym (ap (λ (l : List ℕ). get_or l 0 0) r.answer_is) ∙ is)
 
 not_printed : (answer : HintAnswer) → hint.number_of answer ≡ 11 → ⊥
-not_printed (Printed n) is = omega arith
-not_printed ShortBuffer is = omega arith
-not_printed LongValue is = omega arith
-not_printed BadHint is = omega arith
-not_printed (BadOctet place) is = omega arith
-not_printed OutOfRange is = omega arith
+not_printed (Ok n) is = omega arith
+not_printed (Err ShortBuffer) is = omega arith
+not_printed (Err LongValue) is = omega arith
+not_printed (Err BadHint) is = omega arith
+not_printed (Err (BadOctet place)) is = omega arith
+not_printed (Err OutOfRange) is = omega arith
 
 not_set : (answer : RowAnswer) → row.number_of answer ≡ 11 → ⊥
-not_set (NoError next) is = omega arith
-not_set WrongValue is = omega arith
-not_set InconsistentValue is = omega arith
-not_set NoSuchState is = omega arith
+not_set (Ok next) is = omega arith
+not_set (Err WrongValue) is = omega arith
+not_set (Err InconsistentValue) is = omega arith
+not_set (Err NoSuchState) is = omega arith
 
 pub eleven_gone : NeverGiven 11
 eleven_gone = record {

@@ -13,25 +13,25 @@ use Rattle.hint_form.specs.Hint.{Reading, pieces, none, read_hint}
 use Rattle.hint_form.specs.declared.Piece.{Piece}
 use Rattle.hint_piece.specs.Use.{Outcome, printed, fault}
 use Rattle.hint.specs.Print.{printing}
-use Rattle.hint.specs.Answer.{Verdict, text, refusal, octets_part, of_outcome, by_pieces, octets_verdict, number, place, size, buffer, number_of, place_of, length_of, Answered}
-use Rattle.hint.specs.declared.Answer.{Answer}
-use Rattle.hint.specs.declared.Answer.TheVariants.{Printed, ShortBuffer, LongValue, BadHint, BadOctet, OutOfRange}
+use Rattle.hint.specs.Answer.{Answer, Verdict, text, refusal, octets_part, of_outcome, by_pieces, octets_verdict, number, place, size, buffer, number_of, place_of, length_of, Answered}
+use Rattle.std.proofs.Common.{Ok, Err}
+use Rattle.hint.specs.declared.Refusal.TheVariants.{ShortBuffer, LongValue, BadHint, BadOctet, OutOfRange}
 use Rattle.hint.proofs.Laws.{output_bound}
 use Rattle.statements.specs.Statements.{Prints}
 
 -- the answer that has this number, place and length
 abbrev answer_with : ℕ → ℕ → ℕ → Answer
 answer_with n at long =
-    cond (eqb n 0) (Printed long)
-    (cond (eqb n 30) ShortBuffer (cond (eqb n 31) LongValue (cond (eqb n 32) BadHint (cond (eqb n 33) (BadOctet at) OutOfRange))))
+    cond (eqb n 0) (Ok long)
+    (Err (cond (eqb n 30) ShortBuffer (cond (eqb n 31) LongValue (cond (eqb n 32) BadHint (cond (eqb n 33) (BadOctet at) OutOfRange)))))
 
 by_values : (x : Answer) → x ≡ answer_with (number_of x) (place_of x) (length_of x)
-by_values (Printed n) = refl
-by_values ShortBuffer = refl
-by_values LongValue = refl
-by_values BadHint = refl
-by_values (BadOctet at) = refl
-by_values OutOfRange = refl
+by_values (Ok n) = refl
+by_values (Err ShortBuffer) = refl
+by_values (Err LongValue) = refl
+by_values (Err BadHint) = refl
+by_values (Err (BadOctet at)) = refl
+by_values (Err OutOfRange) = refl
 
 module _ (part : ℕ) (v : Verdict) (before : List ℕ) where
   pub prints : (answer : Answer) (after : List ℕ) → Answered part v answer before after → Prints part v answer before after
@@ -40,7 +40,7 @@ module _ (part : ℕ) (v : Verdict) (before : List ℕ) where
     printed = λ t e. (
       by_values answer
           ∙ ap (λ (n : ℕ). answer_with n (place_of answer) (length_of answer)) (a.number_is ∙ ap number e)
-          ∙ ap Printed (a.length_is ∙ ap size e),
+          ∙ ap Ok (a.length_is ∙ ap size e),
       left e,
     );
     unchanged = λ at e. (

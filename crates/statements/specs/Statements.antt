@@ -7,7 +7,7 @@
 -- row_status::set, and `ReadRaw`, `OctetsRaw`, `IntegerRaw` and `SetRaw` for the exported functions of crates/mib. A name with a prime
 -- is what a call leaves.
 -- Assumes nothing.
-use Rattle.std.specs.Prelude.{◌≡◌, ◌⊎◌, ◌↔◌, Bool, true, List, [], ◌∷◌, ◌++◌, ℕ, ◌+◌, ◌-◌, ◌*◌, ◌<◌, ◌≤◌, ℤ, negsuc, length, get_or, take, drop}
+use Rattle.std.specs.Prelude.{◌≡◌, ◌⊎◌, ◌↔◌, Bool, true, Ok, Err, List, [], ◌∷◌, ◌++◌, ℕ, ◌+◌, ◌-◌, ◌*◌, ◌<◌, ◌≤◌, ℤ, negsuc, length, get_or, take, drop}
 use Rattle.terminal.specs.Terminal.{lower}
 use Rattle.lexicon.specs.Word.{bytes}
 use Rattle.token.specs.Token.{class_of_token, tok}
@@ -32,12 +32,12 @@ use Rattle.reader.specs.declared.Examined.{Examined}
 use Rattle.reader.specs.declared.Answer.{Answer}
 use Rattle.reader.specs.declared.Answer.TheVariants.{Accepted, Refused}
 use Rattle.hint.specs.Answer as hint
-use Rattle.hint.specs.declared.Answer.{Answer as HintAnswer}
-use Rattle.hint.specs.declared.Answer.TheVariants.{Printed, ShortBuffer}
+use Rattle.hint.specs.Answer.{Answer as HintAnswer}
+use Rattle.hint.specs.declared.Refusal.TheVariants.{ShortBuffer}
 use Rattle.row_status.specs.RowStatus as row
 use Rattle.mib.specs.Raw as raw
 use Rattle.digit.specs.Digits.{glyph, digits, numeral}
-use Rattle.row_status.specs.declared.Answer.{Answer as RowAnswer}
+use Rattle.row_status.specs.RowStatus.{Answer as RowAnswer}
 use Rattle.statements.specs.Card.{card_text, record_of_t, record_of_a, card_numbers}
 use Rattle.statements.specs.Ranges.{RangesInAnyOrder}
 use Rattle.statements.specs.Searches.{Searches}
@@ -132,9 +132,9 @@ ExaminedAlike = AlikeAs examined_to
 pub record Prints (part : ℕ) (verdict : hint.Verdict) (answer : HintAnswer) (before after : List ℕ) : Type 0 where
   -- "0 and the length"; "bytes of that part not printed are 0, later ones unchanged"
   pub printed : (t : List ℕ) → verdict ≡ hint.text t
-      → (answer ≡ Printed (length t)) × (after ≡ t ++ (zeros (part - length t) ++ drop part before))
+      → (answer ≡ Ok (length t)) × (after ≡ t ++ (zeros (part - length t) ++ drop part before))
   -- "30 short buffer (nothing changed)"
-  pub unchanged : (place : ℕ) → verdict ≡ hint.refusal 30 place → (answer ≡ ShortBuffer) × (after ≡ before)
+  pub unchanged : (place : ℕ) → verdict ≡ hint.refusal 30 place → (answer ≡ Err ShortBuffer) × (after ≡ before)
   -- "31 to 34 zero the part"
   pub zeroed : (number place : ℕ) → verdict ≡ hint.refusal number place → (number ≡ 30 → ⊥)
       → (hint.number_of answer ≡ number) × (hint.place_of answer ≡ place) × (hint.length_of answer ≡ 0)

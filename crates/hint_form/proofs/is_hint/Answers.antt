@@ -1,22 +1,20 @@
--- `is_hint` is right: a hint of 1 to 255 bytes is pieces where its cut is stuck nowhere.
+-- A hint of 1 to 255 bytes is pieces where its cut is stuck nowhere.
 -- Assumes nothing.
-use Rattle.std.proofs.Common.{sym, ap, ◌∙◌, arith}
-use Rattle.hint_form.proofs.FaultLaws.{none_empty, none_long}
-use Rattle.hint_form.proofs.HintLaws.{nowhere, pieces_whole}
+use Rattle.std.proofs.Common.{◌≡◌, ◌≤◌, ◌<◌, ◌⊎◌, length, sym, ap, ◌∙◌, arith}
+use Rattle.std.proofs.lemmas.Grind.{common_steps}
+use Rattle.hint_form.proofs.FaultLaws.{none_outside}
+use Rattle.hint_form.proofs.HintLaws.{nowhere, none_nowhere, pieces_whole}
 use Rattle.hint_form.proofs.is_hint.Goals as goal
 
-pub returns-then-hint-eq0 : goal.returns-then-hint-eq0
-returns-then-hint-eq0 c = sym (none_empty _ c.if-hint-eq0.true)
+pub returns-then-contains : goal.returns-then-contains
+returns-then-contains c =
+    let h = c.args.hint.now in
+    let low : 1 ≤ length h = grind (arith, common_steps) in
+    let high : length h ≤ 255 = grind (arith, common_steps) in
+    none_nowhere c.first_stuck.result c.is_none.result c.is_none.ensures ∙ ap nowhere c.first_stuck.ensures ∙ sym (pieces_whole h low high)
 
-pub returns-then-hint-gt255 : goal.returns-then-hint-gt255
-returns-then-hint-gt255 c = sym (none_long _ c.if-hint-gt255.true)
-
-pub returns-in-At : goal.returns-in-At
-returns-in-At c =
-    let whole = pieces_whole c.args.hint.now (omega (arith, c.if-hint-eq0.false)) c.if-hint-gt255.false in
-    sym (whole ∙ ap nowhere (sym c.in-At.ensures))
-
-pub returns-in-Nowhere : goal.returns-in-Nowhere
-returns-in-Nowhere c =
-    let whole = pieces_whole c.args.hint.now (omega (arith, c.if-hint-eq0.false)) c.if-hint-gt255.false in
-    sym (whole ∙ ap nowhere (sym c.in-Nowhere.ensures))
+pub returns-else-contains : goal.returns-else-contains
+returns-else-contains c =
+    let h = c.args.hint.now in
+    let out : (length h ≡ 0) ⊎ (255 < length h) = grind (arith, common_steps) in
+    c.if-contains.false ∙ sym (none_outside h out)
