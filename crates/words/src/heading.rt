@@ -36,6 +36,7 @@ fn heading_size(word: &[u8]) -> usize
 }
 
 // How many bytes stand in front of the octets: blanks, and what says that octets follow.
+#[tactic(auto, using(crate::proofs::FrontLaws::front_is, crate::proofs::FrontLaws::front_fits))]
 pub fn front(word: &[u8]) -> usize
     ensures number { result ≡ front word.now }
     ensures inside { result ≤ length word.now }

@@ -11,4 +11,4 @@ mod word;
 pub use flag::read_flag;
 pub use number::{NumberError, read_natural, read_number};
 pub use octets::read_octets;
-pub use word::{Place, count_words, part, same, word_at};
+pub use word::{Place, count_words, part, word_at};

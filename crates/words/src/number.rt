@@ -43,10 +43,7 @@ fn from_zero_on(natural: Result<u64, NumberError>) -> Result<i64, NumberError>
     requires { Small natural }
     ensures { result ≡ above natural }
 {
-    match natural {
-        Ok(n) => Ok(n as i64),
-        Err(error) => Err(error),
-    }
+    Ok(natural? as i64)
 }
 
 // The number without a sign that a word is: at least one byte, and each a digit.

@@ -1,5 +1,5 @@
 // The words of a line, with a separator between them.
-ghost use Rattle.std.specs.Prelude.{◌≡◌, true, [], ◌≤◌, length, get_or};
+ghost use Rattle.std.specs.Prelude.{◌≡◌, [], ◌≤◌, length, get_or};
 ghost use Rattle.words.specs.Words.{Found, place, word_end, words};
 
 // Where a word stands in its line: from its first byte up to, not including, the second index.
@@ -55,12 +55,4 @@ pub fn count_words(line: &[u8], separator: u8) -> usize
     ensures some { 1 ≤ result }
 {
     line.split(|b| *b == separator).count()
-}
-
-// Whether two words are the same bytes.
-pub fn same(a: &[u8], b: &[u8]) -> bool
-    ensures equal { result ≡ true → a.now ≡ b.now }
-    ensures told { a.now ≡ b.now → result ≡ true }
-{
-    a == b
 }
