@@ -64,7 +64,8 @@ fn argument(rt: &impl Env, buf: &mut [u8], at: usize, index: usize) -> Result<us
     }
 }
 
-// A file that an argument names: how many bytes its name has, and how many the file holds; or why it cannot be read.
+// A file that an argument names: how many bytes its name has, and how many the file holds; or why it cannot be read. Counts, not slices: no
+// clause can speak of a buffer that a result borrows. `each_file` hands on slices.
 #[derive(Clone, Copy)]
 pub struct Named {
     pub name: usize,

@@ -26,7 +26,7 @@ const BETWEEN_ARGUMENTS: u8 = 0;
 
 const BETWEEN_WORDS: u8 = b'\t';
 
-// What stands for an integer of more than 18 digits: it is out of range whatever it is, as this one.
+// What stands for an integer of more than 18 digits. A number, since `hint::integer` answers it as any that is out of range.
 const OUT_OF_RANGE: i64 = 4_294_967_296;
 
 const HINT: Program = Program {
@@ -139,6 +139,7 @@ fn answer_octets<'a>(
     Ok(())
 }
 
+// Not one function with `print_integer`, and a closure for the call: the clause of each call bounds its own text.
 fn print_octets(hint: &[u8], octets: &[u8], line: Option<u64>, out: &mut Output) {
     let mut text = [0u8; TEXT];
     let answer = hint::octets(hint, octets, &mut text);

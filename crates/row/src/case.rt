@@ -26,10 +26,10 @@ static NAMES: [&str; 7] = [
 
 pub const LAST_VALUE: usize = 6;
 
-// What stands for a state of more digits than a number here can have: a state over 3, as it is.
+// What stands for a state of more digits than a number here can have. A number, since `row_status::set` answers it as any over 3.
 const LONG_STATE: u64 = u64::MAX;
 
-// What stands for such a set value: one without a name, as it is.
+// What stands for such a set value, likewise: one without a name.
 const LONG_VALUE: i64 = 0;
 
 #[derive(Clone, Copy)]
