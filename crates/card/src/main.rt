@@ -110,10 +110,10 @@ fn print_argument(rt: &HostRuntime, i: usize, named: bool, page: &mut [u8], laid
     let mut buf = [0u8; FILE_BYTES];
     let file = command::read_argument(rt, i, &mut name, &mut buf);
     let n = file.name;
-    if let Some(error) = file.failure {
-        return fail(page, laid, error, &name[0..n]);
-    }
-    let count = file.count;
+    let count = match file.content {
+        Ok(count) => count,
+        Err(error) => return fail(page, laid, error, &name[0..n]),
+    };
     if named {
         let next = write_name(&name[0..n], page, laid);
         return print_card(&buf[0..count], page, next);

@@ -43,10 +43,10 @@ fn print_argument(rt: &HostRuntime, i: usize, named: bool, out: Output) -> Outpu
     let mut buf = [0u8; FILE_BYTES];
     let file = command::read_argument(rt, i, &mut name, &mut buf);
     let n = file.name;
-    if let Some(error) = file.failure {
-        return output::fail(out, error, &name[0..n]);
-    }
-    let count = file.count;
+    let count = match file.content {
+        Ok(count) => count,
+        Err(error) => return output::fail(out, error, &name[0..n]),
+    };
     if named {
         let headed = output::end_line(output::show(out, &name[0..n]));
         return print_card(&buf[0..count], headed);

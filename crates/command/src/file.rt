@@ -1,5 +1,5 @@
 // The bytes of a file.
-ghost use Rattle.std.specs.Prelude.{◌≡◌, ◌≤◌, length};
+ghost use Rattle.std.specs.Prelude.{◌≤◌, length, IfOk};
 
 use std::fs::File;
 use std::io::{ErrorKind, Read};
@@ -9,53 +9,23 @@ use std::{io, str};
 // The system's number for an argument that it does not take.
 const EINVAL: i32 = 22;
 
-// What a file holds: so many bytes, at the start of the buffer; or why it cannot be opened or read.
-#[derive(Clone, Copy)]
-pub struct Content {
-    pub count: usize,
-    pub failure: Option<io::Error>,
-}
-
-// A file that cannot be opened or read.
-fn unread(error: io::Error) -> Content
-    ensures { result.count ≡ 0 }
+// Reads what a word names until it ends or buf is full, and answers how many bytes came: of standard input, where it is a hyphen, or of the
+// file of that name.
+pub fn read_named(rt: &(impl Files + Input), name: &[u8], buf: &mut [u8]) -> io::Result<usize>
+    ensures { IfOk result (λ n. n ≤ length buf.new) }
 {
-    Content {
-        count: 0,
-        failure: Some(error),
+    match name {
+        b"-" => read_all(&mut rt.reader(), buf),
+        _ => read_file(rt, name, buf),
     }
 }
 
-// Whether a name is that of standard input: a hyphen.
-fn is_standard_input(name: &[u8]) -> bool {
-    if name.len() != 1 {
-        return false;
-    }
-    name[0] == b'-'
-}
-
-// Reads what a word names until it ends or buf is full: standard input, or the file of that name.
-pub fn read_named(rt: &(impl Files + Input), name: &[u8], buf: &mut [u8]) -> Content
-    ensures { result.count ≤ length buf.new }
+// Reads the file of that name until it ends or buf is full, and answers how many bytes came.
+pub fn read_file(rt: &impl Files, name: &[u8], buf: &mut [u8]) -> io::Result<usize>
+    ensures { IfOk result (λ n. n ≤ length buf.new) }
 {
-    if is_standard_input(name) {
-        let mut input = rt.reader();
-        return read_all(&mut input, buf);
-    }
-    read_file(rt, name, buf)
-}
-
-// Reads the file of that name until it ends or buf is full.
-pub fn read_file(rt: &impl Files, name: &[u8], buf: &mut [u8]) -> Content
-    ensures { result.count ≤ length buf.new }
-{
-    match open(rt, name) {
-        Ok(file) => {
-            let mut input = file;
-            read_all(&mut input, buf)
-        }
-        Err(error) => unread(error),
-    }
+    let mut file = open(rt, name)?;
+    read_all(&mut file, buf)
 }
 
 // Opens the file of that name. A name that no file can have, by a byte 0 in it, is refused as the system does.
@@ -69,20 +39,16 @@ fn open<R: Files>(rt: &R, name: &[u8]) -> io::Result<R::File> {
     }
 }
 
-// Reads until the input ends or buf is full.
-fn read_all<R: Read>(input: &mut R, buf: &mut [u8]) -> Content
-    ensures { result.count ≤ length buf.new }
+// Reads until the input ends or buf is full. An index, not an iterator: a read brings more than one byte.
+fn read_all<R: Read>(input: &mut R, buf: &mut [u8]) -> io::Result<usize>
+    ensures { IfOk result (λ n. n ≤ length buf.new) }
 {
     let mut n = 0;
     while n < buf.len() {
-        match input.read(&mut buf[n..]) {
-            Ok(0) => break,
-            Ok(more) => n += more,
-            Err(error) => return unread(error),
+        match input.read(&mut buf[n..])? {
+            0 => break,
+            more => n += more,
         }
     }
-    Content {
-        count: n,
-        failure: None,
-    }
+    Ok(n)
 }

@@ -4,8 +4,11 @@
 mod argument;
 mod file;
 mod line;
-mod list;
 
-pub use argument::{Named, argument_at, arguments, count_arguments, read_argument};
-pub use file::{Content, read_file};
-pub use list::{List, NO_LINE, first_ended_by, first_in_list, next_in_list};
+pub use argument::{Named, arguments, count_arguments, each_file, read_argument};
+pub use file::read_file;
+pub use line::each_line;
+
+// More bytes than a buffer has room for.
+#[derive(Clone, Copy)]
+pub struct TooLong;

@@ -1,197 +1,186 @@
 // The lines of a list that is read through a buffer.
-ghost use Rattle.std.specs.Prelude.{◌≡◌, ◌≢◌, ℕ, ◌+◌, ◌≤◌, ◌<◌, length, slice_index};
+ghost use Rattle.std.specs.Prelude.{◌≡◌, ◌+◌, ◌≤◌, length, eqb};
+ghost use Rattle.std.specs.List.{position};
 ghost use Rattle.command.specs.Within.{LineWithin, LinesWithin, PartWithin};
 
+use crate::TooLong;
 use std::io;
 use std::io::Read;
+
+// Where a line stands in the buffer: its bytes without its line end.
+#[derive(Clone, Copy)]
+pub struct Part {
+    pub from: usize,
+    pub to: usize,
+}
+
+// Why there is no next line, though the input has not ended.
+#[derive(Clone, Copy)]
+pub enum LineError {
+    // The buffer cannot hold it. It is passed over.
+    TooLong,
+    // The input cannot be read.
+    Unread(io::Error),
+}
+
+impl From<io::Error> for LineError {
+    fn from(error: io::Error) -> LineError {
+        LineError::Unread(error)
+    }
+}
+
+// The line that runs up to `last`: without a carriage return that stands before a line feed.
+fn without_return(buf: &[u8], from: usize, last: usize, end: u8) -> Part
+    requires { PartWithin from last (length buf.now) }
+    ensures { PartWithin result.from result.to last }
+{
+    if end == b'\n' && from < last && buf[last - 1] == b'\r' {
+        Part { from, to: last - 1 }
+    } else {
+        Part { from, to: last }
+    }
+}
 
 // The bytes of the buffer that are read and not used yet: from `from` up to, not including, `to`; and the byte that ends a line.
 #[derive(Clone, Copy)]
 pub struct Lines {
-    pub from: usize,
-    pub to: usize,
-    pub end: u8,
+    from: usize,
+    to: usize,
+    end: u8,
 }
 
-// What comes next in a list.
-#[derive(Clone, Copy)]
-pub enum Line {
-    // A line's bytes in the buffer, without its line end, and what stands behind it.
-    At(usize, usize, Lines),
-    // A line that the buffer cannot hold. It is passed over.
-    TooLong(Lines),
-    // The input cannot be read.
-    Failed(io::Error),
-    // The input has ended.
-    End,
-}
-
-// Where a line that runs up to `last` ends: before a carriage return, where one stands before a line feed.
-fn before_return(buf: &[u8], from: usize, last: usize, end: u8) -> usize
-    requires { PartWithin from last (length buf.now) }
-    ensures { PartWithin from result last }
-{
-    if from == last {
-        return last;
-    }
-    if end != b'\n' {
-        return last;
-    }
-    if buf[last - 1] == b'\r' {
-        return last - 1;
-    }
-    last
-}
-
-// The first place from `from` on, and before `to`, where this byte stands; or `to`.
-fn find(buf: &[u8], from: usize, to: usize, byte: u8) -> usize
-    requires ordered { from ≤ to }
-    requires inside { to ≤ length buf.now }
-    ensures low { from ≤ result }
-    ensures high { result ≤ to }
-    ensures before { (k : ℕ) → from ≤ k → k < result → slice_index buf.now k ≢ byte }
-    ensures found { result < to → slice_index buf.now result ≡ byte }
-{
-    for i in from..to {
-        if buf[i] == byte {
-            return i;
+impl Lines {
+    // Nothing is read yet.
+    pub fn ended_by(end: u8) -> Lines
+        ensures { LinesWithin result 0 }
+    {
+        Lines {
+            from: 0,
+            to: 0,
+            end,
         }
     }
-    to
-}
 
-// What stands behind the end of a line.
-fn behind(found: usize, to: usize, end: u8) -> Lines
-    requires { found < to }
-    ensures ordered { result.from ≤ result.to }
-    ensures inside { result.to ≡ to }
-{
-    Lines {
-        from: found + 1,
-        to,
-        end,
-    }
-}
-
-// The next line of the input. It is in the buffer already, or what the buffer holds is moved to its front and more is
-// read behind it. A last line needs no line end, and one of two bytes, as CRLF, is one.
-pub fn next_line(rt: &impl Input, buf: &mut [u8], lines: Lines) -> Line
-    requires { LinesWithin lines (length buf.old) }
-    ensures { LineWithin result (length buf.old) }
-{
-    let from = lines.from;
-    let to = lines.to;
-    let end = lines.end;
-    let found = find(buf, from, to, end);
-    if found < to {
-        let last = before_return(buf, from, found, end);
-        return Line::At(from, last, behind(found, to, end));
-    }
-    let held = to - from;
-    move_to_front(buf, from, held);
-    read_line(rt, buf, held, end)
-}
-
-// Moves the `held` bytes from index `from` on to the front of the buffer.
-fn move_to_front(buf: &mut [u8], from: usize, held: usize)
-    requires { from + held ≤ length buf.old }
-    ensures { length buf.new ≡ length buf.old }
-{
-    let mut i = 0;
-    while i < held {
-        buf[i] = buf[from + i];
-        i += 1;
-    }
-}
-
-// Reads on behind the buffer's first `held` bytes, which hold no line end, until a line is whole. The turns are
-// counted, since nothing says that an input ends; no run uses them up.
-fn read_line(rt: &impl Input, buf: &mut [u8], held: usize, end: u8) -> Line
-    requires { held ≤ length buf.old }
-    ensures { LineWithin result (length buf.old) }
-{
-    let mut to = held;
-    let mut turns = u64::MAX;
-    while turns > 0 {
-        turns -= 1;
-        if to == buf.len() {
-            return Line::TooLong(skip_line(rt, buf, end));
+    // The next line of the input; none at its end. It is in the buffer already, or what the buffer holds is moved to its front and more is
+    // read behind it. A last line needs no line end, and one of two bytes, as CRLF, is one.
+    pub fn next(&mut self, rt: &impl Input, buf: &mut [u8]) -> Result<Option<Part>, LineError>
+        requires { LinesWithin self.old (length buf.old) }
+        ensures lines { LinesWithin self.new (length buf.old) }
+        ensures line { LineWithin result (length buf.old) }
+    {
+        let from = self.from;
+        let to = self.to;
+        if let Some(n) = find(&buf[from..to], self.end) {
+            return Ok(Some(self.cut(buf, from, from + n, to)));
         }
-        let came = read_more(rt, buf, to);
-        if let Some(error) = came.failure {
-            return Line::Failed(error);
-        }
-        let more = came.count;
-        if more == 0 {
-            return last_line(buf, to, end);
-        }
-        let found = find(buf, to, to + more, end);
-        to += more;
-        if found < to {
-            let last = before_return(buf, 0, found, end);
-            return Line::At(0, last, behind(found, to, end));
-        }
+        buf.copy_within(from..to, 0);
+        self.read_line(rt, buf, to - from)
     }
-    Line::End
-}
 
-// What the end of the input leaves: a last line without a line end, or nothing.
-fn last_line(buf: &[u8], to: usize, end: u8) -> Line
-    requires { to ≤ length buf.now }
-    ensures { (size : ℕ) → to ≤ size → LineWithin result size }
-{
-    if to == 0 {
-        return Line::End;
+    // The line from `from` on that ends at `found`. What stands behind its end, up to `to`, is left.
+    fn cut(&mut self, buf: &[u8], from: usize, found: usize, to: usize) -> Part
+        requires start { from ≤ found }
+        requires end { found + 1 ≤ to }
+        requires inside { to ≤ length buf.now }
+        ensures lines { LinesWithin self.new to }
+        ensures part { PartWithin result.from result.to to }
+    {
+        self.from = found + 1;
+        self.to = to;
+        without_return(buf, from, found, self.end)
     }
-    let last = before_return(buf, 0, to, end);
-    Line::At(0, last, Lines { from: to, to, end })
-}
 
-// How many bytes came in: none at the end of the input, and where it cannot be read, which has its reason.
-#[derive(Clone, Copy)]
-struct More {
-    count: usize,
-    failure: Option<io::Error>,
-}
-
-// Reads once into the buffer behind its first `held` bytes.
-fn read_more(rt: &impl Input, buf: &mut [u8], held: usize) -> More
-    requires { held ≤ length buf.old }
-    ensures inside { held + result.count ≤ length buf.old }
-    ensures size { length buf.new ≡ length buf.old }
-{
-    let mut input = rt.reader();
-    match input.read(&mut buf[held..]) {
-        Ok(count) => More {
-            count,
-            failure: None,
-        },
-        Err(error) => More {
-            count: 0,
-            failure: Some(error),
-        },
+    // Reads on behind the buffer's first `held` bytes, which hold no line end, until a line is whole. The turns are
+    // counted, since nothing says that an input ends; no run uses them up.
+    fn read_line(
+        &mut self,
+        rt: &impl Input,
+        buf: &mut [u8],
+        held: usize,
+    ) -> Result<Option<Part>, LineError>
+        requires lines { LinesWithin self.old (length buf.old) }
+        requires held { held ≤ length buf.old }
+        ensures lines { LinesWithin self.new (length buf.old) }
+        ensures line { LineWithin result (length buf.old) }
+    {
+        let mut to = held;
+        for _ in 0..u64::MAX {
+            if to == buf.len() {
+                self.skip_line(rt, buf);
+                return Err(LineError::TooLong);
+            }
+            let more = rt.reader().read(&mut buf[to..])?;
+            if more == 0 {
+                return Ok(self.last_line(buf, to));
+            }
+            if let Some(n) = find(&buf[to..to + more], self.end) {
+                return Ok(Some(self.cut(buf, 0, to + n, to + more)));
+            }
+            to += more;
+        }
+        Ok(None)
     }
-}
 
-// Reads on to the end of a line, and answers what stands behind it. Where the input cannot be read, the next line says so.
-fn skip_line(rt: &impl Input, buf: &mut [u8], end: u8) -> Lines
-    ensures { LinesWithin result (length buf.old) }
-{
-    let mut turns = u64::MAX;
-    while turns > 0 {
-        turns -= 1;
-        let to = read_more(rt, buf, 0).count;
+    // What the end of the input leaves: a last line without a line end, or nothing.
+    fn last_line(&mut self, buf: &[u8], to: usize) -> Option<Part>
+        requires { to ≤ length buf.now }
+        ensures lines { LinesWithin self.new to }
+        ensures line { LineWithin (Ok result) to }
+    {
+        self.from = to;
+        self.to = to;
         if to == 0 {
-            break;
-        }
-        let found = find(buf, 0, to, end);
-        if found < to {
-            return behind(found, to, end);
+            None
+        } else {
+            Some(without_return(buf, 0, to, self.end))
         }
     }
-    Lines {
-        from: 0,
-        to: 0,
-        end,
+
+    // Reads on to the end of a line. Where the input cannot be read, the next line says so.
+    fn skip_line(&mut self, rt: &impl Input, buf: &mut [u8])
+        ensures { LinesWithin self.new (length buf.old) }
+    {
+        for _ in 0..u64::MAX {
+            let to = rt.reader().read(buf).unwrap_or(0);
+            if to == 0 {
+                break;
+            }
+            if let Some(n) = find(&buf[..to], self.end) {
+                self.from = n + 1;
+                self.to = to;
+                return;
+            }
+        }
+        self.from = 0;
+        self.to = 0;
     }
+}
+
+// The first place where this byte stands.
+fn find(bytes: &[u8], byte: u8) -> Option<usize>
+    ensures { result ≡ position (λ b. eqb b byte) bytes.now }
+{
+    bytes.iter().position(|b| *b == byte)
+}
+
+// Hands each line of standard input to `f`, with its number, from 1 on; a line that the buffer cannot hold as an error. The lines end with
+// this byte. They are counted in 64 bits, which no run uses up.
+pub fn each_line<F: FnMut(u64, Result<&[u8], TooLong>)>(
+    rt: &impl Input,
+    buf: &mut [u8],
+    end: u8,
+    mut f: F,
+) -> io::Result<()>
+    requires { F.IsAlwaysCallable f }
+{
+    let mut lines = Lines::ended_by(end);
+    for number in 1..u64::MAX {
+        match lines.next(rt, buf) {
+            Ok(Some(part)) => f(number, Ok(&buf[part.from..part.to])),
+            Ok(None) => return Ok(()),
+            Err(LineError::TooLong) => f(number, Err(TooLong)),
+            Err(LineError::Unread(error)) => return Err(error),
+        }
+    }
+    Ok(())
 }

@@ -45,10 +45,10 @@ fn explain_argument(rt: &HostRuntime, i: usize, out: Output) -> Output {
     let mut buf = [0u8; FILE_BYTES];
     let file = command::read_argument(rt, i, &mut name, &mut buf);
     let n = file.name;
-    if let Some(error) = file.failure {
-        return output::fail(out, error, &name[0..n]);
-    }
-    let count = file.count;
+    let count = match file.content {
+        Ok(count) => count,
+        Err(error) => return output::fail(out, error, &name[0..n]),
+    };
     explain_text(&name[0..n], &buf[0..count], out)
 }
 

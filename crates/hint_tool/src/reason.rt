@@ -1,11 +1,12 @@
 // What is wrong with a hint, in words on standard error. The words are the program's; the place is that of the fault's definition.
 use hint_form::Fault;
-use output::{Output, say, say_number};
+use output::Output;
 
 // Says in one line what is wrong with a hint, and at which byte.
-pub fn explain(hint: &[u8], fault: Fault, out: Output) {
+pub fn explain(hint: &[u8], fault: Fault, out: &Output) {
     match fault {
-        Fault::Early(place) => say_end(place, out),
+        Fault::Early(0) => say_fault(0, b"it is empty\n", out),
+        Fault::Early(place) => say_fault(place, b"it ends too early\n", out),
         Fault::NoLength(place) => say_byte(hint, place, b"stands where a length must stand\n", out),
         Fault::Zero(place) => say_fault(
             place,
@@ -27,43 +28,33 @@ pub fn explain(hint: &[u8], fault: Fault, out: Output) {
     }
 }
 
-// Says that a hint has only so many bytes.
-fn say_end(place: usize, out: Output) {
-    if place == 0 {
-        say_fault(place, b"it is empty\n", out);
-        return;
-    }
-    say_fault(place, b"it ends too early\n", out);
-}
-
-fn say_fault(place: usize, why: &[u8], out: Output) {
+fn say_fault(place: usize, why: &[u8], out: &Output) {
     say_place(place, out);
-    say(out, why);
+    out.say(why);
 }
 
-fn say_place(place: usize, out: Output) {
-    say(out, b"mib hint: the hint is bad at byte ");
-    say_number(out, place as u64);
-    say(out, b": ");
+fn say_place(place: usize, out: &Output) {
+    out.say(b"mib hint: the hint is bad at byte ");
+    out.say_number(place as u64);
+    out.say(b": ");
 }
 
 // The same of the byte there.
-fn say_byte(hint: &[u8], place: usize, why: &[u8], out: Output) {
+fn say_byte(hint: &[u8], place: usize, why: &[u8], out: &Output) {
     say_place(place, out);
-    if place < hint.len() {
-        write_byte(hint[place], out);
+    if let Some(b) = hint.get(place) {
+        say_value(*b, out);
     }
-    say(out, why);
+    out.say(why);
 }
 
 // A byte in quotes, or its value where it is no character of ASCII that is seen.
-fn write_byte(b: u8, out: Output) {
-    if 32 <= b && b <= 126 {
-        let quoted = [b'\'', b, b'\'', b' '];
-        say(out, &quoted);
-        return;
+fn say_value(b: u8, out: &Output) {
+    if (32..=126).contains(&b) {
+        out.say(&[b'\'', b, b'\'', b' ']);
+    } else {
+        out.say(b"the value ");
+        out.say_number(b as u64);
+        out.say(b" ");
     }
-    say(out, b"the value ");
-    say_number(out, b as u64);
-    say(out, b" ");
 }

@@ -2,34 +2,37 @@
 #![tactic(auto)]
 
 ghost use Rattle.std.specs.Prelude.{◌≡◌, false};
-ghost use Rattle.output.specs.Status.{accepted, refused, rating, larger, Rated, Printed};
+ghost use Rattle.output.specs.Status.{accepted, refused, rank, rating, larger, Rated, Printed};
 
+mod by_value;
 mod cause;
 mod message;
 mod shown;
+mod status;
 
+pub use by_value::{
+    end_line, fail, finish, manner, print, print_number, print_tab, refuse, show, start_on_files,
+};
 use cause::write_cause;
-pub use message::{complain, fail, fail_if, misfit, say, say_number, say_waiting, start_on_files};
-pub use shown::{manner, show, show_in_list};
-use std::fs::OpenOptions;
+pub use message::{Misfit, say_waiting};
+pub use status::Status;
+use status::write_status;
+use std::io;
 use std::io::{IsTerminal, Stderr, Stdout, Write};
 use std::rt::Files;
-use std::{fs, io};
 
-// Where a program says its status: descriptor 3, which is one digit as it ends. Nobody need read it.
-const STATUS_FILE: &str = "/dev/fd/3";
-
-// The statuses: all was answered and accepted; something was refused; there was a complaint.
-const ACCEPTED: u8 = 0;
-
-const REFUSED: u8 = 1;
-
-const COMPLAINT: u8 = 2;
+// A program as its users call it, and how it is used.
+#[derive(Clone, Copy)]
+pub struct Program {
+    pub name: &'static [u8],
+    pub usage: &'static [u8],
+}
 
 // How the output went so far.
 #[derive(Clone, Copy)]
 pub struct Output {
-    pub status: u8,
+    pub program: Program,
+    pub status: Status,
     // A write failed. It was said once, and nothing is written after it.
     pub lost: bool,
     // Whether standard output is a terminal, and whether standard error is one.
@@ -39,131 +42,89 @@ pub struct Output {
     pub stderr: Stderr,
 }
 
-pub fn start(rt: &HostRuntime) -> Output
-    ensures status { result.status ≡ accepted }
-    ensures lost { result.lost ≡ false }
-{
-    let stdout = rt.stdout();
-    let stderr = rt.stderr();
-    Output {
-        status: ACCEPTED,
-        lost: false,
-        terminal: stdout.is_terminal(),
-        console: stderr.is_terminal(),
-        stdout,
-        stderr,
-    }
-}
-
-// The same with another status.
-fn rated(out: Output, status: u8) -> Output
-    ensures { Rated out status result }
-{
-    Output {
-        status,
-        lost: out.lost,
-        terminal: out.terminal,
-        console: out.console,
-        stdout: out.stdout,
-        stderr: out.stderr,
-    }
-}
-
-// Something was refused. That hides no complaint.
-pub fn refuse(out: Output) -> Output
-    ensures { Rated out (larger out.status refused) result }
-{
-    if REFUSED <= out.status {
-        return out;
-    }
-    rated(out, REFUSED)
-}
-
-// Something was refused, unless the number is 0.
-pub fn judge(out: Output, number: u64) -> Output
-    ensures { Rated out (larger out.status (rating number)) result }
-{
-    if number == 0 {
-        return out;
-    }
-    refuse(out)
-}
-
-// Writes bytes to standard output, as they are.
-pub fn print(out: Output, bytes: &[u8]) -> Output
-    ensures { Printed out result }
-{
-    if out.lost {
-        return out;
-    }
-    let written = out.stdout.write_all(bytes);
-    unless_lost(out, written)
-}
-
-// How the output went with one write more.
-fn unless_lost(out: Output, written: io::Result<()>) -> Output
-    ensures { Printed out result }
-{
-    match written {
-        Ok(()) => out,
-        Err(error) => lose(out, error),
-    }
-}
-
-// A write failed: says why.
-fn lose(out: Output, error: io::Error) -> Output
-    ensures { Printed out result }
-{
-    say(out, b"mib: standard output");
-    write_cause(&out.stderr, error);
-    Output {
-        status: COMPLAINT,
-        lost: true,
-        terminal: out.terminal,
-        console: out.console,
-        stdout: out.stdout,
-        stderr: out.stderr,
-    }
-}
-
-// Writes a number in decimal.
-pub fn print_number(out: Output, n: u64) -> Output
-    ensures { Printed out result }
-{
-    if out.lost {
-        return out;
-    }
-    let written = out.stdout.print(n);
-    unless_lost(out, written)
-}
-
-// What stands between the words of a line, and behind the last.
-pub fn print_tab(out: Output) -> Output
-    ensures { Printed out result }
-{
-    print(out, b"\t")
-}
-
-pub fn end_line(out: Output) -> Output
-    ensures { Printed out result }
-{
-    print(out, b"\n")
-}
-
-// Says the status. It is the last thing that a program does.
-pub fn finish(rt: &impl Files, out: Output) {
-    let _ = write_status(rt, out.status);
-}
-
-// Where the descriptor is not open for writing, nobody reads the status. Else it is opened once more by its name, and written behind what
-// is there.
-fn write_status(rt: &impl Files, status: u8) -> io::Result<()> {
-    if fs::symlink_metadata(rt, STATUS_FILE)?
-        .permissions()
-        .readonly()
+impl Output {
+    pub fn start(rt: &HostRuntime, program: Program) -> Output
+        ensures status { rank result.status ≡ accepted }
+        ensures lost { result.lost ≡ false }
     {
-        return Ok(());
+        let stdout = rt.stdout();
+        let stderr = rt.stderr();
+        Output {
+            program,
+            status: Status::Accepted,
+            lost: false,
+            terminal: stdout.is_terminal(),
+            console: stderr.is_terminal(),
+            stdout,
+            stderr,
+        }
     }
-    let mut file = OpenOptions::new().append(true).open(rt, STATUS_FILE)?;
-    write!(file, "{status}")
+
+    // Something was refused. That hides no complaint.
+    pub fn refuse(&mut self)
+        ensures { Rated self.old (larger (rank self.old.status) refused) self.new }
+    {
+        if self.status == Status::Accepted {
+            self.status = Status::Refused;
+        }
+    }
+
+    // Something was refused, unless the number is 0.
+    pub fn judge(&mut self, number: u64)
+        ensures { Rated self.old (larger (rank self.old.status) (rating number)) self.new }
+    {
+        if number != 0 {
+            self.refuse();
+        }
+    }
+
+    // Writes bytes to standard output, as they are.
+    pub fn print(&mut self, bytes: &[u8])
+        ensures { Printed self.old self.new }
+    {
+        if !self.lost {
+            let written = self.stdout.write_all(bytes);
+            self.note(written);
+        }
+    }
+
+    // Writes a number in decimal.
+    pub fn print_number(&mut self, n: u64)
+        ensures { Printed self.old self.new }
+    {
+        if !self.lost {
+            let written = self.stdout.print(n);
+            self.note(written);
+        }
+    }
+
+    // What stands between the words of a line, and behind the last.
+    pub fn print_tab(&mut self)
+        ensures { Printed self.old self.new }
+    {
+        self.print(b"\t");
+    }
+
+    pub fn end_line(&mut self)
+        ensures { Printed self.old self.new }
+    {
+        self.print(b"\n");
+    }
+
+    // How the output went with one write more. Why one failed is said at once.
+    fn note(&mut self, written: io::Result<()>)
+        ensures { Printed self.old self.new }
+    {
+        if let Err(error) = written {
+            self.say(b"mib: standard output");
+            write_cause(&self.stderr, error);
+            self.status = Status::Complaint;
+            self.lost = true;
+        }
+    }
+
+    // Says the status. It is the last thing that a program does.
+    pub fn finish(self, rt: &impl Files) {
+        let _ = write_status(rt, self.status);
+    }
 }

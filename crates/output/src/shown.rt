@@ -2,87 +2,74 @@
 ghost use Rattle.std.specs.Prelude.{◌+◌, ◌*◌, ◌≤◌, length};
 ghost use Rattle.output.specs.Status.{Printed};
 
-use crate::{Output, print, unless_lost};
+use crate::Output;
 use std::io;
+use std::io::Write;
 use visible::{Manner, WIDEST, write_visible};
 
 // As many bytes are made visible at a time as have room in a buffer, whatever they are.
 const CHUNK: usize = 1024;
 
-// How bytes are shown: where standard output is a terminal, without control bytes.
-pub fn manner(out: Output) -> Manner {
-    Manner {
-        line: false,
-        terminal: out.terminal,
-    }
-}
-
-// Writes bytes to standard output; at a terminal, control bytes as \xNN.
-pub fn show(out: Output, bytes: &[u8]) -> Output
-    ensures { Printed out result }
-{
-    if out.terminal {
-        return show_by(out, bytes, manner(out));
-    }
-    print(out, bytes)
-}
-
-// Writes bytes to a line of a list: control bytes and the backslash as \xNN, so that they end no line.
-pub fn show_in_list(out: Output, bytes: &[u8]) -> Output
-    ensures { Printed out result }
-{
-    show_by(
-        out,
-        bytes,
+impl Output {
+    // How bytes are shown: where standard output is a terminal, without control bytes.
+    pub fn manner(&self) -> Manner {
         Manner {
-            line: true,
-            terminal: out.terminal,
-        },
-    )
-}
-
-fn show_by(out: Output, bytes: &[u8], manner: Manner) -> Output
-    ensures { Printed out result }
-{
-    if out.lost {
-        return out;
+            line: false,
+            terminal: self.terminal,
+        }
     }
-    let written = write_by(&out.stdout, bytes, manner);
-    unless_lost(out, written)
+
+    // Writes bytes to standard output; at a terminal, control bytes as \xNN.
+    pub fn show(&mut self, bytes: &[u8])
+        ensures { Printed self.old self.new }
+    {
+        if self.terminal {
+            self.show_by(bytes, self.manner());
+        } else {
+            self.print(bytes);
+        }
+    }
+
+    // Writes bytes to a line of a list: control bytes and the backslash as \xNN, so that they end no line.
+    pub fn show_in_list(&mut self, bytes: &[u8])
+        ensures { Printed self.old self.new }
+    {
+        let manner = Manner {
+            line: true,
+            terminal: self.terminal,
+        };
+        self.show_by(bytes, manner);
+    }
+
+    fn show_by(&mut self, bytes: &[u8], manner: Manner)
+        ensures { Printed self.old self.new }
+    {
+        if !self.lost {
+            let written = write_by(&self.stdout, bytes, manner);
+            self.note(written);
+        }
+    }
 }
 
 // Writes bytes to a terminal.
 pub fn write_at_terminal(to: &impl Print, bytes: &[u8]) {
-    let _ = write_by(
-        to,
-        bytes,
-        Manner {
-            line: false,
-            terminal: true,
-        },
-    );
+    let manner = Manner {
+        line: false,
+        terminal: true,
+    };
+    let _ = write_by(to, bytes, manner);
 }
 
-// Writes what is seen of bytes.
+// Writes what is seen of bytes. An index, not `chunks`: what is seen of a byte depends on those before it too.
 fn write_by(to: &impl Print, bytes: &[u8], manner: Manner) -> io::Result<()> {
     let mut i = 0;
     while i < bytes.len() {
-        let count = chunk(bytes.len() - i);
+        let count = CHUNK.min(bytes.len() - i);
         let mut space = [0u8; WIDEST * CHUNK];
         write_chunk(to, bytes, i, count, manner, &mut space)?;
         i += count;
     }
     Ok(())
-}
-
-// How many of so many bytes are written next.
-fn chunk(left: usize) -> usize
-    requires { 1 ≤ left }
-    ensures some { 1 ≤ result }
-    ensures inside { result ≤ left }
-    ensures few { result ≤ 1024 }
-{
-    if left < CHUNK { left } else { CHUNK }
 }
 
 fn write_chunk(
@@ -97,5 +84,5 @@ fn write_chunk(
     requires room { 4 * count ≤ length space.old }
 {
     let n = write_visible(bytes, from, count, manner, space);
-    to.write_all(&space[0..n])
+    to.write_all(&space[..n])
 }

@@ -5,160 +5,129 @@
 // summary goes to standard error.
 #![tactic(auto)]
 
-ghost use Rattle.std.specs.Prelude.{length};
-ghost use Rattle.command.specs.Within.{ListWithin};
+mod counts;
 
 use card_line::write_head;
-use command::{List, NO_LINE};
-use output::{Output, say, say_number};
-use reader::{Answer, Examined, FILE_BYTES, NUMBER_WORDS, RECORD_WORDS, Refusal};
+use command::TooLong;
+use counts::Counts;
+use output::{Misfit, Output, Program};
+use reader::{Answer, Examined, FILE_BYTES, NUMBER_WORDS, RECORD_WORDS};
 use std::io;
-
-// The files are counted by their answers: accepted, each refusal by its number, which is a byte, and those that cannot be read.
-const ACCEPTED: usize = 0;
-
-const UNREAD: usize = 256;
-
-// Of the refused, those that are outside what is read are counted once more.
-const OUTSIDE: usize = 257;
+use std::rt::Env;
 
 // At a terminal the count of files is shown whenever so many more are read.
 const STRIDE: u64 = 64;
 
-// How many bytes a file's name may have.
-const NAME: usize = 4096;
-
 // How many bytes a line of the list may have.
 const SPACE: usize = 65536;
 
+const SHELF: Program = Program {
+    name: b"mib shelf",
+    usage: b"mib shelf FILE..., or names of files on standard input, a line each",
+};
+
+// The message for a line that the buffer cannot hold.
+const LONG: Misfit = Misfit {
+    word: b"..",
+    why: b"is too long for a file's name",
+};
+
 fn main(rt: HostRuntime) {
-    let mut counts = [0u64; 258];
-    let out = read_files(&rt, &mut counts, output::start(&rt));
-    print_summary(&counts, out);
-    output::finish(&rt, out);
+    let mut counts = Counts::none();
+    let mut out = Output::start(&rt, SHELF);
+    read_files(&rt, &mut counts, &mut out);
+    print_summary(&counts, &out);
+    out.finish(&rt);
 }
 
-fn read_files(rt: &HostRuntime, counts: &mut [u64], out: Output) -> Output {
+fn read_files(rt: &HostRuntime, counts: &mut Counts, out: &mut Output) {
     if command::count_arguments(rt) <= 1 {
-        return read_list(rt, b'\n', counts, out);
+        read_list(rt, b'\n', counts, out);
+    } else if is_ended_by_zero(rt) {
+        read_list(rt, 0, counts, out);
+    } else {
+        let mut text = [0u8; FILE_BYTES];
+        command::each_file(
+            rt,
+            &mut text,
+            |name, content| answer_file(name, content, counts, out),
+        );
     }
-    if is_ended_by_zero(rt) {
-        return read_list(rt, 0, counts, out);
-    }
-    read_arguments(rt, counts, out)
 }
 
-// Whether the one argument is -0: the names come on standard input, and a byte 0 ends each.
+// Whether the first argument is -0: the names come on standard input, and a byte 0 ends each.
 fn is_ended_by_zero(rt: &HostRuntime) -> bool {
-    let mut word = [0u8; NAME];
-    let n = command::argument_at(rt, 1, &mut word);
-    if n != 2 {
-        return false;
+    let mut word = [0u8; 3];
+    match rt.arg(1, &mut word) {
+        Ok(n) => matches!(&word[..n], b"-0"),
+        Err(_) => false,
     }
-    if word[0] != b'-' {
-        return false;
-    }
-    word[1] == b'0'
-}
-
-// Reads the files that the arguments name.
-fn read_arguments(rt: &HostRuntime, counts: &mut [u64], out: Output) -> Output {
-    let count = command::count_arguments(rt);
-    let mut next = out;
-    let mut i = 1;
-    while i < count {
-        next = read_argument(rt, i, counts, next);
-        show_progress(i as u64, next);
-        i += 1;
-    }
-    next
-}
-
-// Reads the file that argument i names.
-fn read_argument(rt: &HostRuntime, i: usize, counts: &mut [u64], out: Output) -> Output {
-    let mut name = [0u8; NAME];
-    let mut text = [0u8; FILE_BYTES];
-    let file = command::read_argument(rt, i, &mut name, &mut text);
-    let n = file.name;
-    let count = file.count;
-    answer_file(&name[0..n], file.failure, &text[0..count], counts, out)
 }
 
 // Reads the files that the lines of standard input name, which end with this byte.
-fn read_list(rt: &HostRuntime, end: u8, counts: &mut [u64], out: Output) -> Output {
+fn read_list(rt: &HostRuntime, end: u8, counts: &mut Counts, out: &mut Output) {
     let mut space = [0u8; SPACE];
     output::say_waiting(
         rt,
         b"mib shelf: waiting for the names of files, a line each; Ctrl-D ends them\n",
     );
-    read_lines(rt, end, &mut space, counts, out)
+    let read = command::each_line(rt, &mut space, end, |number, line| {
+        read_line(rt, number, line, counts, out)
+    });
+    if let Err(error) = read {
+        out.fail(error, b"mib shelf: standard input");
+    }
 }
 
-fn read_lines(
+// Reads the file that a line of the list names.
+fn read_line(
     rt: &HostRuntime,
-    end: u8,
-    space: &mut [u8],
-    counts: &mut [u64],
-    out: Output,
-) -> Output {
-    let mut list = command::first_ended_by(rt, space, end);
-    let mut next = out;
-    while list.line < NO_LINE {
-        next = read_line(rt, space, list, counts, next);
-        list = command::next_in_list(rt, space, list);
+    number: u64,
+    line: Result<&[u8], TooLong>,
+    counts: &mut Counts,
+    out: &mut Output,
+) {
+    match line {
+        Ok(name) => read_named(rt, name, counts, out),
+        Err(TooLong) => {
+            counts.add_unread();
+            out.complain(Some(number), LONG);
+        }
     }
-    output::fail_if(next, list.failure, b"mib shelf: standard input")
 }
 
-// Reads the file that the last line of the list names.
-fn read_line(rt: &HostRuntime, space: &[u8], list: List, counts: &mut [u64], out: Output) -> Output
-    requires { ListWithin list (length space.now) }
-{
-    if list.long {
-        return complain_long(list.line, counts, out);
-    }
-    let from = list.from;
-    let to = list.to;
-    let next = read_named(rt, &space[from..to], counts, out);
-    show_progress(list.line, next);
-    next
-}
-
-fn read_named(rt: &HostRuntime, name: &[u8], counts: &mut [u64], out: Output) -> Output {
+fn read_named(rt: &HostRuntime, name: &[u8], counts: &mut Counts, out: &mut Output) {
     let mut text = [0u8; FILE_BYTES];
-    let content = command::read_file(rt, name, &mut text);
-    let n = content.count;
-    answer_file(name, content.failure, &text[..n], counts, out)
-}
-
-fn complain_long(line: u64, counts: &mut [u64], out: Output) -> Output {
-    count_one(counts, UNREAD);
-    output::complain(
-        out,
-        b"mib shelf",
-        line,
-        b"..",
-        b"is too long for a file's name",
-        b"mib shelf FILE..., or names of files on standard input, a line each",
-    )
+    match command::read_file(rt, name, &mut text) {
+        Ok(n) => answer_file(name, Ok(&text[..n]), counts, out),
+        Err(error) => answer_file(name, Err(error), counts, out),
+    }
 }
 
 // Counts a file and prints its line; or says why it cannot be read.
-fn answer_file(
-    name: &[u8],
-    failure: Option<io::Error>,
-    text: &[u8],
-    counts: &mut [u64],
-    out: Output,
-) -> Output {
-    if let Some(error) = failure {
-        count_one(counts, UNREAD);
-        return output::fail(out, error, name);
+fn answer_file(name: &[u8], content: io::Result<&[u8]>, counts: &mut Counts, out: &mut Output) {
+    match content {
+        Ok(text) => answer_text(name, text, counts, out),
+        Err(error) => {
+            counts.add_unread();
+            out.fail(error, name);
+        }
     }
-    let examined = read_text(text);
-    count_examined(text, examined, counts);
-    let answer = answer_of(examined);
-    print_line(name, answer, output::judge(out, number_of(answer) as u64))
+    show_progress(counts.files, out);
+}
+
+fn answer_text(name: &[u8], text: &[u8], counts: &mut Counts, out: &mut Output) {
+    match read_text(text) {
+        Examined::Accepted(definitions) => {
+            counts.add_accepted();
+            print_line(name, Answer::Accepted(definitions), out);
+        }
+        Examined::Refused(refusal) => {
+            counts.add_refused(text, refusal);
+            out.refuse();
+            print_line(name, Answer::Refused(refusal.number, refusal.place), out);
+        }
+    }
 }
 
 fn read_text(text: &[u8]) -> Examined {
@@ -167,134 +136,49 @@ fn read_text(text: &[u8]) -> Examined {
     reader::examine(text, &mut records, &mut numbers)
 }
 
-// Number, place and count alone, which the line has.
-fn answer_of(examined: Examined) -> Answer {
-    match examined {
-        Examined::Refused(refusal) => refused(refusal),
-        Examined::Accepted(definitions) => Answer::Accepted(definitions),
-    }
-}
-
-fn refused(refusal: Refusal) -> Answer {
-    let place = refusal.place;
-    Answer::Refused(refusal.number, place)
-}
-
-// Counts a file by what was found of it.
-fn count_examined(text: &[u8], examined: Examined, counts: &mut [u64]) {
-    match examined {
-        Examined::Refused(refusal) => count_refused(text, refusal, counts),
-        Examined::Accepted(_) => count_one(counts, ACCEPTED),
-    }
-}
-
-fn count_refused(text: &[u8], refusal: Refusal, counts: &mut [u64]) {
-    let place = refusal.place;
-    count_one(counts, refusal.number as usize);
-    if outside::is_outside(refusal.number, refusal.clause, text, place.0) {
-        count_one(counts, OUTSIDE);
-    }
-}
-
-// The number of the answer; 0 where the module is accepted.
-fn number_of(answer: Answer) -> usize {
-    match answer {
-        Answer::Accepted(_) => ACCEPTED,
-        Answer::Refused(number, _) => number as usize,
-    }
-}
-
 // The name, a tab, and the first line of the card.
-fn print_line(name: &[u8], answer: Answer, out: Output) -> Output {
+fn print_line(name: &[u8], answer: Answer, out: &mut Output) {
     let mut line = [0u8; 64];
-    let next = buffer::put(&mut line, 0, b'\t');
-    let end = write_head(answer, &mut line, next);
-    let out = output::show(out, name);
-    output::print(out, &line[0..end])
-}
-
-// One more of this answer.
-fn count_one(counts: &mut [u64], number: usize) {
-    if number < counts.len() {
-        if counts[number] < u64::MAX {
-            counts[number] += 1;
-        }
-    }
+    line[0] = b'\t';
+    let end = write_head(answer, &mut line, 1);
+    out.show(name);
+    out.print(&line[..end]);
 }
 
 // Whether the count of files is shown: at a terminal, unless the lines of the files go there too, which show it themselves.
-fn shows_progress(out: Output) -> bool {
+fn shows_progress(out: &Output) -> bool {
     out.console && !out.terminal
 }
 
 // Says how many files were read, in a line that the next one takes the place of.
-fn show_progress(files: u64, out: Output) {
-    if files % STRIDE != 0 {
-        return;
-    }
-    if shows_progress(out) {
-        say_number(out, files);
-        say(out, b" files\r");
-    }
-}
-
-// Blanks in the place of that line.
-fn clear_progress(out: Output) {
-    if shows_progress(out) {
-        say(out, b"                          \r");
+fn show_progress(files: u64, out: &Output) {
+    if files % STRIDE == 0 && shows_progress(out) {
+        out.say_number(files);
+        out.say(b" files\r");
     }
 }
 
 // How many files there were, how many of them were accepted, how many refused by each number, how many of these are outside what is read,
-// and how many could not be read.
-fn print_summary(counts: &[u64], out: Output) {
-    clear_progress(out);
-    print_count(b"files\t", total(counts), out);
-    print_count(b"accepted\t", count_at(counts, ACCEPTED), out);
-    let mut number = 1;
-    while number < UNREAD {
-        print_refused(number, count_at(counts, number), out);
-        number += 1;
+// and how many could not be read. Blanks take the place of the line that showed the progress.
+fn print_summary(counts: &Counts, out: &Output) {
+    if shows_progress(out) {
+        out.say(b"                          \r");
     }
-    print_count(b"outside\t", count_at(counts, OUTSIDE), out);
-    print_count(b"unread\t", count_at(counts, UNREAD), out);
-}
-
-fn print_count(what: &[u8], count: u64, out: Output) {
-    say(out, what);
-    say_number(out, count);
-    say(out, b"\n");
-}
-
-fn print_refused(number: usize, count: u64, out: Output) {
-    if count == 0 {
-        return;
+    print_count(b"files\t", counts.files, out);
+    print_count(b"accepted\t", counts.accepted, out);
+    for (number, count) in counts.refused.iter().enumerate() {
+        if *count != 0 {
+            out.say(b"refused\t");
+            out.say_number(number as u64);
+            print_count(b"\t", *count, out);
+        }
     }
-    say(out, b"refused\t");
-    say_number(out, number as u64);
-    print_count(b"\t", count, out);
+    print_count(b"outside\t", counts.outside, out);
+    print_count(b"unread\t", counts.unread, out);
 }
 
-// How many files have this answer.
-fn count_at(counts: &[u64], number: usize) -> u64 {
-    if number < counts.len() {
-        counts[number]
-    } else {
-        0
-    }
-}
-
-// All of them, or as many as can be counted.
-fn total(counts: &[u64]) -> u64 {
-    let mut sum: u64 = 0;
-    let mut i = 0;
-    while i <= UNREAD {
-        sum = added(sum, count_at(counts, i));
-        i += 1;
-    }
-    sum
-}
-
-fn added(a: u64, b: u64) -> u64 {
-    if u64::MAX - a < b { u64::MAX } else { a + b }
+fn print_count(what: &[u8], count: u64, out: &Output) {
+    out.say(what);
+    out.say_number(count);
+    out.say(b"\n");
 }

@@ -5,13 +5,17 @@ use mathlib.Core.Bool.{Bool, true, false, ◌&&◌, cond, false≢true}
 use mathlib.Core.List.{List, [], ◌∷◌}
 use mathlib.Core.Logic.{◌⊎◌, inl, inr}
 use native.Mathlib.Omega.{arith}
-use lib.ListN.{length, get_or, drop, length-drop}
+use lib.ListN.{length, get_or, take, drop}
 use lib.Dec.{leb, ltb, eqb}
-use borrow.Author.Tests.{leb-true, leb-false, lt-leb, le-leb, lt-ltb, le-ltb, ltb-true}
+use borrow.Author.Tests.{leb-true, leb-false, lt-ltb, le-ltb, ltb-true}
+use Rattle.std.specs.Cmp.Lexicographic.{pointwise}
+use Rattle.std.specs.List.{list_all}
+use Rattle.std.proofs.lemmas.List.Recursion.{same_from_clauses}
 use Rattle.words.proofs.Left.{left, ended}
 use Rattle.words.specs.Decimal.{digit, all_digits, decimal_after, limit, within, natural_of, number_of, above, below, Small}
-use Rattle.words.specs.declared.number.Natural.{Natural}
-use Rattle.words.specs.declared.number.Natural.TheVariants.{Is, Beyond, IsNot}
+use Rattle.std.specs.Prelude.{Result, Ok, Err}
+use Rattle.words.specs.declared.number.NumberError.{NumberError}
+use Rattle.words.specs.declared.number.NumberError.TheVariants.{TooLarge, NoNumber}
 
 -- the digits that are left, and their value, are those of the byte there and of what is left behind it
 pub digits_left : (word : List ℕ) (i : ℕ) → i < length word
@@ -46,28 +50,9 @@ pub saturated : (n : ℕ) (ds : List ℕ) → min (decimal_after (min n limit) d
 saturated n ds = capped n ds (split n (leb n limit) refl)
 
 -- nothing is left behind the last byte
-pub digits_ended : (word : List ℕ) (i : ℕ) → i ≤ length word → length word ≤ i → all_digits (drop i word) ≡ true
-unfolding all_digits
-digits_ended word i low high = ap all_digits (ended word i low high)
-
 pub value_ended : (n : ℕ) (word : List ℕ) (i : ℕ) → i ≤ length word → length word ≤ i → decimal_after n (drop i word) ≡ n
 unfolding decimal_after
 value_ended n word i low high = ap (decimal_after n) (ended word i low high)
-
-both_false : (a : Bool) → (a && false) ≡ false
-both_false true = refl
-both_false false = refl
-
--- a byte below or above the digits decides; a digit leaves it to the bytes behind it
-pub below_digits : (word : List ℕ) (i : ℕ) → i < length word → get_or word i 0 < 48 → all_digits (drop i word) ≡ false
-below_digits word i inside small = digits_left word i inside ∙ simp (lt-leb _ _ small)
-
-pub above_digits : (word : List ℕ) (i : ℕ) → i < length word → 57 < get_or word i 0 → all_digits (drop i word) ≡ false
-above_digits word i inside large = digits_left word i inside ∙ simp (lt-leb _ _ large, both_false (leb 48 (get_or word i 0)))
-
-pub past_digit : (word : List ℕ) (i : ℕ) → i < length word → 48 ≤ get_or word i 0 → get_or word i 0 ≤ 57
-    → all_digits (drop i word) ≡ all_digits (drop (i + 1) word)
-past_digit word i inside low high = digits_left word i inside ∙ simp (le-leb _ _ low, le-leb _ _ high)
 
 left_true : (a b : Bool) → (a && b) ≡ true → a ≡ true
 left_true true b both = refl
@@ -94,36 +79,39 @@ one_more n word i inside =
     saturated (n * 10 + (get_or word i 0 - 48)) (drop (i + 1) word)
     ∙ ap (λ (v : ℕ). min v limit) (sym (value_left n word i inside))
 
+-- where a word is digits, each of its bytes is one
+pub all_are : (ds : List ℕ) → (ltb 0 (length ds) && all_digits ds) ≡ true → all_digits ds ≡ true
+all_are ds digits = right_true (ltb 0 (length ds)) (all_digits ds) digits
+
 -- a word as a number, by what its bytes are
-pub empty_is_not : (word : List ℕ) (from : ℕ) → length word ≤ from → natural_of (drop from word) ≡ IsNot
+pub others_are_not : (ds : List ℕ) → (ltb 0 (length ds) && all_digits ds) ≡ false → natural_of ds ≡ Err NoNumber
 unfolding natural_of
-empty_is_not word from none = simp (le-ltb 0 (length (drop from word)) (simp length-drop (omega arith)))
+others_are_not ds others = simp others
 
-pub others_are_not : (ds : List ℕ) → all_digits ds ≡ false → natural_of ds ≡ IsNot
+pub small_digits : (ds : List ℕ) (n : ℕ) → (ltb 0 (length ds) && all_digits ds) ≡ true → n ≡ min (decimal_after 0 ds) limit
+    → n < limit → natural_of ds ≡ Ok n
 unfolding natural_of
-others_are_not ds others = simp (others, both_false (ltb 0 (length ds)))
-
-digits_are : (ds : List ℕ) → 0 < length ds → all_digits ds ≡ true → natural_of ds ≡ within (decimal_after 0 ds)
-unfolding natural_of
-digits_are ds some digits = simp (lt-ltb _ _ some, digits)
-
-pub small_digits : (ds : List ℕ) (n : ℕ) → 0 < length ds → all_digits ds ≡ true → n ≡ min (decimal_after 0 ds) limit
-    → n < limit → natural_of ds ≡ Is n
-small_digits ds n some digits capped small =
+small_digits ds n digits capped small =
     let same : decimal_after 0 ds ≡ n = omega arith in
-    digits_are ds some digits ∙ simp (same, lt-ltb _ _ small)
+    simp (digits, same, lt-ltb _ _ small)
 
-pub large_digits : (ds : List ℕ) (n : ℕ) → 0 < length ds → all_digits ds ≡ true → n ≡ min (decimal_after 0 ds) limit
-    → limit ≤ n → natural_of ds ≡ Beyond
-large_digits ds n some digits capped large =
+pub large_digits : (ds : List ℕ) (n : ℕ) → (ltb 0 (length ds) && all_digits ds) ≡ true → n ≡ min (decimal_after 0 ds) limit
+    → limit ≤ n → natural_of ds ≡ Err TooLarge
+unfolding natural_of
+large_digits ds n digits capped large =
     let beyond : limit ≤ decimal_after 0 ds = omega arith in
-    digits_are ds some digits ∙ simp (le-ltb _ _ beyond)
+    simp (digits, le-ltb _ _ beyond)
 
-small_within : (n : ℕ) (b : Bool) → ltb n limit ≡ b → Small (cond b (Is n) Beyond)
+-- the definition's digits are what `all` tests
+pub all_digits_is : (ds : List ℕ) → list_all digit ds ≡ all_digits ds
+unfolding all_digits
+all_digits_is = same_from_clauses (list_all digit) all_digits (λ b t. digit b && t) refl (λ _ _. refl) (λ _ _. refl)
+
+small_within : (n : ℕ) (b : Bool) → ltb n limit ≡ b → Small (cond b (Ok n) (Err TooLarge))
 small_within n true test = ltb-true n limit test
 small_within n false test = tt
 
-small_if : (a : Bool) (n : Natural) → Small n → Small (cond a n IsNot)
+small_if : (a : Bool) (n : Result ℕ NumberError) → Small n → Small (cond a n (Err NoNumber))
 small_if true n small = small
 small_if false n small = tt
 
@@ -133,15 +121,19 @@ always_small ds =
     small_if (ltb 0 (length ds) && all_digits ds) (within (decimal_after 0 ds))
     (small_within (decimal_after 0 ds) (ltb (decimal_after 0 ds) limit) refl)
 
--- an empty word has no first byte
-pub no_byte : (word : List ℕ) → length word ≡ 0 → get_or word 0 0 ≡ 0
-no_byte [] none = refl
-no_byte (b ∷ bs) none = absurd (omega arith)
+-- the prefix of a minus is a first byte that is one
+minus_is : (word : List ℕ) → pointwise eqb (take 1 word) (45 ∷ []) ≡ eqb (get_or word 0 0) 45
+minus_is [] = refl
+minus_is (b ∷ bs) = and_true (eqb b 45)
+  where
+    and_true : (t : Bool) → (t && true) ≡ t
+    and_true true = refl
+    and_true false = refl
 
-pub minus_first : (word : List ℕ) → eqb (get_or word 0 0) 45 ≡ true → number_of word ≡ below (natural_of (drop 1 word))
+pub minus_first : (word : List ℕ) → pointwise eqb (take 1 word) (45 ∷ []) ≡ true → number_of word ≡ below (natural_of (drop 1 word))
 unfolding number_of
-minus_first word minus = simp minus
+minus_first word minus = let first = sym (minus_is word) ∙ minus in simp first
 
-pub digits_first : (word : List ℕ) → eqb (get_or word 0 0) 45 ≡ false → number_of word ≡ above (natural_of word)
+pub digits_first : (word : List ℕ) → pointwise eqb (take 1 word) (45 ∷ []) ≡ false → number_of word ≡ above (natural_of word)
 unfolding number_of
-digits_first word other = simp other
+digits_first word other = let first = sym (minus_is word) ∙ other in simp first

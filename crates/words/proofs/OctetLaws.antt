@@ -10,7 +10,8 @@ use lib.Seq.{get_or-drop, take-suc-set}
 use Rattle.words.proofs.Left.{left, ended}
 use Rattle.words.specs.Octets.{Writing, octets, none, step, after, joined, in_front, octets_from}
 use Rattle.words.specs.declared.octets.Before.{Before}
-use Rattle.words.specs.declared.octets.Step.TheVariants.{Pass, Put, Wrong}
+use Rattle.std.specs.Prelude.{Some, None}
+use Rattle.words.specs.declared.octets.Step.TheVariants.{Pass, Put}
 
 -- octets in front of those that the other bytes write
 abbrev pub whole : List ℕ → Writing → Writing
@@ -45,17 +46,17 @@ module _ (word put : List ℕ) (all : Writing) (i : ℕ) (before : Before) (insi
       ≡ all
   here = rw (from_here word i before inside) at so_far
 
-  pub passed : (next : Before) → step before (get_or word i 0) (get_or word (i + 1) 0) ≡ Pass next
+  pub passed : (next : Before) → step before (get_or word i 0) (get_or word (i + 1) 0) ≡ Some (Pass next)
       → whole put (octets_from next (drop (i + 1) word)) ≡ all
   unfolding joined after
   passed next does = rw does at here
 
-  pub octet_put : (octet : ℕ) (next : Before) → step before (get_or word i 0) (get_or word (i + 1) 0) ≡ Put octet next
+  pub octet_put : (octet : ℕ) (next : Before) → step before (get_or word i 0) (get_or word (i + 1) 0) ≡ Some (Put octet next)
       → whole (put ++ (octet ∷ [])) (octets_from next (drop (i + 1) word)) ≡ all
   unfolding joined after
   octet_put octet next does = sym (whole_more put octet (octets_from next (drop (i + 1) word))) ∙ (rw does at here)
 
-  pub no_octets : step before (get_or word i 0) (get_or word (i + 1) 0) ≡ Wrong → none ≡ all
+  pub no_octets : step before (get_or word i 0) (get_or word (i + 1) 0) ≡ None → none ≡ all
   unfolding joined after
   no_octets does = rw does at here
 

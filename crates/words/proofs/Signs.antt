@@ -8,10 +8,10 @@ use mir.Facts.{to_z-of_z}
 use mir.Syntax.{w64}
 use mir.Val.{SFits, to_z, of_z}
 use Rattle.words.specs.Decimal.{limit, Small}
-use Rattle.words.specs.declared.number.Natural.{Natural}
-use Rattle.words.specs.declared.number.Natural.TheVariants.{Is}
+use Rattle.std.specs.Prelude.{Result, Ok}
+use Rattle.words.specs.declared.number.NumberError.{NumberError}
 
-pub small_number : (natural : Natural) (n : ℕ) → natural ≡ Is n → Small natural → n < limit
+pub small_number : (natural : Result ℕ NumberError) (n : ℕ) → natural ≡ Ok n → Small natural → n < limit
 small_number natural n is small = subst Small is small
 
 pub fits : (n : ℕ) → n < limit → SFits w64 (pos n)

@@ -10,13 +10,16 @@ use native.Mathlib.Nat.{eq-or-lt_of_le}
 use lib.Dec.{eqb}
 use lib.ListN.{length, get_or, take, drop, length-take, length-drop}
 use lib.Seq.{take_all, drop-drop}
-use borrow.Author.Tests.{eq-eqb, ne_eqb}
-use Rattle.std.specs.List.{position_or_len}
+use Rattle.std.specs.List.{position_or_len, slice_split, onto_first}
 use Rattle.std.proofs.lemmas.List.Recursion.{is_position_or_len}
-use Rattle.words.proofs.Left.{left, ended}
+use Rattle.words.proofs.Left.{left}
 use Rattle.words.specs.Words.{words, in_front, place, word_end, between, Stands, Found}
-use Rattle.words.specs.declared.word.Word.{Word}
-use Rattle.words.specs.declared.word.Word.TheVariants.{At, Missing}
+use Rattle.std.specs.Prelude.{Option, Some, None}
+use Rattle.words.specs.declared.word.Place.{Place}
+
+-- a place
+abbrev at : ℕ → ℕ → Option Place
+at from to = Some (record { from = from; to = to })
 
 -- how many bytes stand before the first separator, where the first byte is one or not
 abbrev index_after : Bool → ℕ → ℕ
@@ -95,7 +98,7 @@ module _ (s : ℕ) (line : List ℕ) (from end : ℕ) (low : from ≤ length lin
       ∙ ap (λ (n : ℕ). place (n + 1) (words s (drop (end + 1) line)) left) (word_size (omega arith))
       ∙ ap (place (end + 1) (words s (drop (end + 1) line))) same
 
-  pub place_none : (left : ℕ) → 0 < left → length line ≤ end → place from (words s (drop from line)) left ≡ Missing
+  pub place_none : (left : ℕ) → 0 < left → length line ≤ end → place from (words s (drop from line)) left ≡ None
   unfolding place
   place_none zero some none = absurd (omega arith)
   place_none (suc left) some none = ap (λ (all : List (List ℕ)). place from all (suc left)) (last_left none)
@@ -111,10 +114,10 @@ module _ (s : ℕ) (line : List ℕ) (from end : ℕ) (low : from ≤ length lin
   first_left (inr more) = opened _ (words_left more)
 
   -- the place of the first, and its bytes
-  pub place_here : end ≤ length line → place from (words s (drop from line)) 0 ≡ At from end
+  pub place_here : end ≤ length line → place from (words s (drop from line)) 0 ≡ Some (record { from = from; to = end })
   unfolding place
   place_here inside =
-      ap (λ (all : List (List ℕ)). place from all 0) (first_left (eq-or-lt_of_le inside)) ∙ ap (At from) (word_size inside)
+      ap (λ (all : List (List ℕ)). place from all 0) (first_left (eq-or-lt_of_le inside)) ∙ ap (λ (to : ℕ). at from to) (word_size inside)
 
   first_stands : end ≤ length line → Stands line (words s (drop from line)) 0 from end
   first_stands inside =
@@ -122,11 +125,11 @@ module _ (s : ℕ) (line : List ℕ) (from end : ℕ) (low : from ≤ length lin
       record { ordered = omega arith; inside = inside; counted = rw all (omega arith); bytes = rw all }
 
 -- a word more before the others
-found_later : (line word : List ℕ) (all : List (List ℕ)) (index : ℕ) (found : Word) → Found line all index found
+found_later : (line word : List ℕ) (all : List (List ℕ)) (index : ℕ) (found : Option Place) → Found line all index found
     → Found line (word ∷ all) (suc index) found
-found_later line word all index (At from to) stands =
+found_later line word all index (Some at) stands =
     record { ordered = stands.ordered; inside = stands.inside; counted = omega (arith, stands.counted); bytes = stands.bytes }
-found_later line word all index Missing none = omega arith
+found_later line word all index None none = omega arith
 
 -- at the place of the word of an index stand its bytes
 abbrev FoundLeft : ℕ → List ℕ → ℕ → ℕ → Type 0
@@ -171,7 +174,7 @@ searched s line from end is =
     ∙ ap (λ (k : ℕ). from + k) (sym (index_is s (drop from line)))
 
 -- so the place is the whole answer
-pub answered : (s : ℕ) (line : List ℕ) (index : ℕ) (found : Word) → found ≡ place 0 (words s line) index
+pub answered : (s : ℕ) (line : List ℕ) (index : ℕ) (found : Option Place) → found ≡ place 0 (words s line) index
     → (found ≡ place 0 (words s line) index) × Found line (words s line) index found
 answered s line index found is = (is, rw is (found_left s line index 0 (omega arith)))
 
@@ -186,32 +189,20 @@ some s (b ∷ line) = go (eqb b s) (words s line)
     go false [] = omega arith
     go false (word ∷ all) = omega arith
 
--- a byte in front leaves their number
-same_number : (b : ℕ) (all : List (List ℕ)) → 1 ≤ length all → length (in_front b all) ≡ length all
-same_number b [] none = absurd (omega arith)
-same_number b (word ∷ all) one = refl
-
--- how many words are left, before and behind a byte
-pub count_separator : (s : ℕ) (line : List ℕ) (i : ℕ) → i < length line → get_or line i 0 ≡ s
-    → length (words s (drop i line)) ≡ length (words s (drop (i + 1) line)) + 1
+-- the words are what std's `split` gives
+pub split_words : (s : ℕ) (line : List ℕ) → words s line ≡ slice_split (λ b. eqb b s) line
 unfolding words
-count_separator s line i inside is = rw (left line i inside) (simp (eq-eqb _ _ is) (omega arith))
-
-pub count_other : (s : ℕ) (line : List ℕ) (i : ℕ) → i < length line → (get_or line i 0 ≡ s → ⊥)
-    → length (words s (drop i line)) ≡ length (words s (drop (i + 1) line))
-unfolding words
-count_other s line i inside other =
-    let rest : List ℕ = drop (i + 1) line in
-    rw (left line i inside) (simp (ne_eqb _ _ other) (same_number (get_or line i 0) (words s rest) (some s rest)))
-
-pub count_ended : (s : ℕ) (line : List ℕ) (i : ℕ) → i ≤ length line → length line ≤ i → length (words s (drop i line)) ≡ 1
-unfolding words
-count_ended s line i low high = rw (ended line i low high)
+split_words s [] = refl
+split_words s (b ∷ line) = rw (split_words s line) (go (slice_split (λ b. eqb b s) line))
+  where
+    go : (all : List (List ℕ)) → cond (eqb b s) ([] ∷ all) (in_front b all) ≡ cond (eqb b s) ([] ∷ all) (onto_first b all)
+    go [] = refl
+    go (word ∷ all) = refl
 
 -- what a caller knows that has matched on the answer
-pub word_stands : (line : List ℕ) (all : List (List ℕ)) (index : ℕ) (found : Word) (from to : ℕ) → found ≡ At from to
-    → Found line all index found → Stands line all index from to
-word_stands line all index found from to at is = subst (Found line all index) at is
+pub word_stands : (line : List ℕ) (all : List (List ℕ)) (index : ℕ) (found : Option Place) (at : Place) → found ≡ Some at
+    → Found line all index found → Stands line all index at.from at.to
+word_stands line all index found at is stands = subst (Found line all index) is stands
 
 -- behind the last word there is none
 past : (all : List (List ℕ)) (index : ℕ) → length all ≤ index → get_or all index [] ≡ []
@@ -219,6 +210,6 @@ past [] index none = refl
 past (word ∷ all) zero none = absurd (omega arith)
 past (word ∷ all) (suc index) none = past all index (omega arith)
 
-pub no_word : (line : List ℕ) (all : List (List ℕ)) (index : ℕ) (found : Word) → found ≡ Missing → Found line all index found
+pub no_word : (line : List ℕ) (all : List (List ℕ)) (index : ℕ) (found : Option Place) → found ≡ None → Found line all index found
     → get_or all index [] ≡ []
 no_word line all index found missing is = past all index (subst (Found line all index) missing is)

@@ -1,5 +1,5 @@
 -- Hex digits. Assumes nothing.
-use Rattle.std.specs.Prelude.{ℕ, ◌-◌, Bool, ◌&&◌, leb, ltb}
+use Rattle.std.specs.Prelude.{ℕ, ◌-◌, Bool, ◌&&◌, leb, ltb, Option, Some, None}
 use Rattle.index.specs.Choice.{when◌then◌else◌}
 
 -- the value of a hex digit, or 16
@@ -13,3 +13,7 @@ hex_digit b =
 -- the byte is a hex digit
 unfoldable pub is_hex : ℕ → Bool
 is_hex b = ltb (hex_digit b) 16
+
+-- the value of a hex digit, where the byte is one
+unfoldable pub value_of : ℕ → Option ℕ
+value_of b = when is_hex b then Some (hex_digit b) else None

@@ -1,8 +1,7 @@
 -- The words of a line, with a separator between them. Assumes nothing.
-use Rattle.std.specs.Prelude.{ℕ, zero, suc, ◌+◌, ◌-◌, ◌≤◌, ◌<◌, ◌≡◌, cond, List, [], ◌∷◌, eqb, length, get_or, take, drop, slice_range}
+use Rattle.std.specs.Prelude.{ℕ, zero, suc, ◌+◌, ◌-◌, ◌≤◌, ◌<◌, ◌≡◌, cond, Option, Some, None, List, [], ◌∷◌, eqb, length, get_or, take, drop, slice_range}
 use Rattle.std.specs.List.{position_or_len}
-use Rattle.words.specs.declared.word.Word.{Word}
-use Rattle.words.specs.declared.word.Word.TheVariants.{At, Missing}
+use Rattle.words.specs.declared.word.Place.{Place}
 
 -- a byte in front of the first of some words
 abbrev pub in_front : ℕ → List (List ℕ) → List (List ℕ)
@@ -19,9 +18,9 @@ abbrev pub word_end : ℕ → List ℕ → ℕ → ℕ
 word_end separator line from = from + position_or_len (λ b. eqb b separator) (slice_range line from (length line))
 
 -- where the word of an index stands, if the first starts at `from` and the next one byte behind its end; or there are not so many
-unfoldable pub place : ℕ → List (List ℕ) → ℕ → Word
-place from [] index = Missing
-place from (word ∷ rest) zero = At from (from + length word)
+unfoldable pub place : ℕ → List (List ℕ) → ℕ → Option Place
+place from [] index = None
+place from (word ∷ rest) zero = Some (record { from = from; to = from + length word })
 place from (word ∷ rest) (suc index) = place (from + length word + 1) rest index
 
 -- the bytes of a line from one index up to, not including, the other
@@ -36,6 +35,6 @@ pub record Stands (line : List ℕ) (all : List (List ℕ)) (index from to : ℕ
   pub bytes : between from to line ≡ get_or all index []
 
 -- so for a word that was found; one is missing where there are not so many
-abbrev pub Found : List ℕ → List (List ℕ) → ℕ → Word → Type 0
-Found line all index (At from to) = Stands line all index from to
-Found line all index Missing = length all ≤ index
+abbrev pub Found : List ℕ → List (List ℕ) → ℕ → Option Place → Type 0
+Found line all index (Some at) = Stands line all index at.from at.to
+Found line all index None = length all ≤ index

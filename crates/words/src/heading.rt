@@ -1,15 +1,13 @@
 // What tools print in front of octets.
 ghost use Rattle.std.specs.Prelude.{◌≡◌, ◌≤◌, length};
-ghost use Rattle.words.specs.Octets.{blank, blanks, front, heading, starts};
+ghost use Rattle.words.specs.Octets.{blank, blanks, front, heading};
 
 // A tab, a line end and its kin, or a blank.
+#[tactic(auto, unfolding(crate::specs::Octets::blank))]
 pub fn is_blank(b: u8) -> bool
     ensures { result ≡ blank b }
 {
-    if b == b' ' {
-        return true;
-    }
-    9 <= b && b <= 13
+    b == b' ' || (9..=13).contains(&b)
 }
 
 // How many blanks a word starts with.
@@ -17,31 +15,10 @@ fn count_blanks(word: &[u8]) -> usize
     ensures number { result ≡ blanks word.now }
     ensures inside { result ≤ length word.now }
 {
-    let mut i = 0;
-    while i < word.len() {
-        if !is_blank(word[i]) {
-            return i;
-        }
-        i += 1;
+    match word.iter().position(|b| !is_blank(*b)) {
+        Some(n) => n,
+        None => word.len(),
     }
-    i
-}
-
-// Whether a word starts with these bytes.
-fn starts_with(word: &[u8], bytes: &[u8]) -> bool
-    ensures { result ≡ starts bytes.now word.now }
-{
-    let mut i = 0;
-    while i < bytes.len() {
-        if word.len() <= i {
-            return false;
-        }
-        if word[i] != bytes[i] {
-            return false;
-        }
-        i += 1;
-    }
-    true
 }
 
 // How many bytes say that octets follow.
@@ -49,19 +26,17 @@ fn heading_size(word: &[u8]) -> usize
     ensures number { result ≡ heading word.now }
     ensures inside { result ≤ length word.now }
 {
-    if starts_with(word, b"Hex-STRING:") {
-        return 11;
+    if word.starts_with(b"Hex-STRING:") {
+        11
+    } else if word.starts_with(b"0x") || word.starts_with(b"0X") {
+        2
+    } else {
+        0
     }
-    if starts_with(word, b"0x") {
-        return 2;
-    }
-    if starts_with(word, b"0X") {
-        return 2;
-    }
-    0
 }
 
 // How many bytes stand in front of the octets: blanks, and what says that octets follow.
+#[tactic(auto, using(crate::proofs::FrontLaws::front_is, crate::proofs::FrontLaws::front_fits))]
 pub fn front(word: &[u8]) -> usize
     ensures number { result ≡ front word.now }
     ensures inside { result ≤ length word.now }

@@ -8,7 +8,7 @@ mod number;
 mod octets;
 mod word;
 
-pub use flag::{Flag, read_flag};
-pub use number::{Natural, Number, read_natural, read_number};
-pub use octets::{Octets, read_octets};
-pub use word::{Word, count_words, part, same, word_at};
+pub use flag::read_flag;
+pub use number::{NumberError, read_natural, read_number};
+pub use octets::read_octets;
+pub use word::{Place, count_words, part, word_at};

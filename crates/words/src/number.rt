@@ -1,128 +1,81 @@
 // Decimal numbers with an optional minus.
-ghost use Rattle.std.specs.Prelude.{◌≡◌, true, ◌+◌, ◌-◌, ◌*◌, ◌≤◌, min, eqb, length, get_or, drop};
+ghost use Rattle.std.specs.Prelude.{◌≡◌, true, ◌&&◌, ltb, ◌+◌, ◌-◌, ◌*◌, ◌≤◌, min, length};
 ghost use Rattle.words.specs.Decimal.{Small, above, all_digits, below, decimal_after, limit, natural_of, number_of};
 
-// What a word is as a number.
-#[derive(Clone, Copy)]
-pub enum Number {
-    // This number, of at most 18 digits.
-    Is(i64),
-    // A number of more digits: below zero, or not.
-    Beyond(bool),
-    // No number.
-    IsNot,
-}
-
-// What a word is as a number without a sign: this one, of at most 18 digits, one of more digits, or none.
-#[derive(Clone, Copy)]
-pub enum Natural {
-    Is(u64),
-    Beyond,
-    IsNot,
+// Why a word is no number of at most 18 digits.
+#[derive(Clone, Copy, PartialEq, Eq)]
+pub enum NumberError {
+    // It has more digits.
+    TooLarge,
+    // It has more digits, and a minus.
+    TooSmall,
+    // It is none.
+    NoNumber,
 }
 
 // The least number of 19 digits.
 const LIMIT: u64 = 1_000_000_000_000_000_000;
 
-// What the word is as a number: decimal digits, at least one, with a minus before them or not.
-pub fn read_number(word: &[u8]) -> Number
+// The number that a word is: decimal digits, at least one, with a minus before them or not.
+pub fn read_number(word: &[u8]) -> Result<i64, NumberError>
     ensures { result ≡ number_of word.now }
 {
-    if starts_with_minus(word) {
-        return below_zero(natural_from(word, 1));
+    match word.strip_prefix(b"-") {
+        Some(digits) => below_zero(read_natural(digits)),
+        None => from_zero_on(read_natural(word)),
     }
-    from_zero_on(natural_from(word, 0))
-}
-
-fn starts_with_minus(word: &[u8]) -> bool
-    ensures minus { result ≡ eqb (get_or word.now 0 0) 45 }
-    ensures some { result ≡ true → 1 ≤ length word.now }
-{
-    if word.len() == 0 {
-        return false;
-    }
-    word[0] == b'-'
 }
 
 // The number with a minus.
-fn below_zero(natural: Natural) -> Number
+fn below_zero(natural: Result<u64, NumberError>) -> Result<i64, NumberError>
     requires { Small natural }
     ensures { result ≡ below natural }
 {
     match natural {
-        Natural::Is(n) => Number::Is(-(n as i64)),
-        Natural::Beyond => Number::Beyond(true),
-        Natural::IsNot => Number::IsNot,
+        Ok(n) => Ok(-(n as i64)),
+        Err(NumberError::TooLarge) => Err(NumberError::TooSmall),
+        Err(error) => Err(error),
     }
 }
 
 // The number without a minus.
-fn from_zero_on(natural: Natural) -> Number
+fn from_zero_on(natural: Result<u64, NumberError>) -> Result<i64, NumberError>
     requires { Small natural }
     ensures { result ≡ above natural }
 {
-    match natural {
-        Natural::Is(n) => Number::Is(n as i64),
-        Natural::Beyond => Number::Beyond(false),
-        Natural::IsNot => Number::IsNot,
-    }
+    Ok(natural? as i64)
 }
 
-// What the word is as a number without a sign.
-pub fn read_natural(word: &[u8]) -> Natural
+// The number without a sign that a word is: at least one byte, and each a digit.
+pub fn read_natural(word: &[u8]) -> Result<u64, NumberError>
     ensures { result ≡ natural_of word.now }
 {
-    natural_from(word, 0)
-}
-
-// The number that the bytes from index `from` on make: at least one of them, and each a digit.
-fn natural_from(word: &[u8], from: usize) -> Natural
-    requires { from ≤ length word.now }
-    ensures { result ≡ natural_of (drop from word.now) }
-{
-    if word.len() == from {
-        return Natural::IsNot;
+    if !are_digits(word) {
+        return Err(NumberError::NoNumber);
     }
-    if !all_digits(word, from) {
-        return Natural::IsNot;
-    }
-    let n = value(word, from);
+    let n = value(word);
     if n < LIMIT {
-        Natural::Is(n)
+        Ok(n)
     } else {
-        Natural::Beyond
+        Err(NumberError::TooLarge)
     }
 }
 
-// Whether each byte from index `from` on is a digit.
-fn all_digits(word: &[u8], from: usize) -> bool
-    requires { from ≤ length word.now }
-    ensures { result ≡ all_digits (drop from word.now) }
+// At least one byte, and each a digit.
+fn are_digits(word: &[u8]) -> bool
+    ensures { result ≡ (ltb 0 (length word.now) && all_digits word.now) }
 {
-    let mut i = from;
-    while i < word.len() {
-        if word[i] < b'0' {
-            return false;
-        }
-        if b'9' < word[i] {
-            return false;
-        }
-        i += 1;
-    }
-    true
+    !word.is_empty() && word.iter().all(|b| b.is_ascii_digit())
 }
 
-// The value of the digits from index `from` on, or the limit where it is larger.
-fn value(word: &[u8], from: usize) -> u64
-    requires inside { from ≤ length word.now }
-    requires digits { all_digits (drop from word.now) ≡ true }
-    ensures { result ≡ min (decimal_after 0 (drop from word.now)) limit }
+// The value of digits, or the limit where it is larger.
+fn value(digits: &[u8]) -> u64
+    requires { all_digits digits.now ≡ true }
+    ensures { result ≡ min (decimal_after 0 digits.now) limit }
 {
     let mut n: u64 = 0;
-    let mut i = from;
-    while i < word.len() {
-        n = more(n, word[i]);
-        i += 1;
+    for digit in digits {
+        n = more(n, *digit);
     }
     n
 }
@@ -134,8 +87,5 @@ fn more(n: u64, byte: u8) -> u64
     ensures { result ≡ min (n * 10 + (byte - 48)) limit }
 {
     let next = n * 10 + (byte - b'0') as u64;
-    if next < LIMIT {
-        return next;
-    }
-    LIMIT
+    next.min(LIMIT)
 }

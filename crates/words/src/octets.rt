@@ -1,20 +1,12 @@
 // Octets as tools print them: hex digits, with or without something between two octets.
 ghost use Rattle.std.specs.Prelude.{◌≡◌, ◌≤◌, ◌<◌, length};
-ghost use Rattle.words.specs.Octets.{alone, count, digit_step, first_step, is_second, mark, mark_step, said, step, to_say};
+ghost use Rattle.words.specs.Octets.{alone, count, digit_step, first_step, mark, mark_step, octets_from, said, step, to_say};
 
 use crate::heading::{front, is_blank};
 use crate::hex::hex_digit;
-use buffer::byte_at;
-
-// How many octets were read, or that the word writes none of this form.
-#[derive(Clone, Copy)]
-pub enum Octets {
-    Are(usize),
-    AreNot,
-}
 
 // What stands directly before a byte.
-#[derive(Clone, Copy)]
+#[derive(Clone, Copy, PartialEq, Eq)]
 pub enum Before {
     // The start, or a blank.
     Nothing,
@@ -26,17 +18,16 @@ pub enum Before {
     Digit,
 }
 
-// What a byte does.
+// What a byte does, and what then stands before the next one.
 #[derive(Clone, Copy)]
 pub enum Step {
     // Nothing is put for it.
     Pass(Before),
     // An octet is put.
     Put(u8, Before),
-    // It makes the word no octets.
-    Wrong,
 }
 
+#[tactic(auto, unfolding(crate::specs::Octets::mark))]
 fn is_mark(b: u8) -> bool
     ensures { result ≡ mark b }
 {
@@ -50,104 +41,89 @@ fn is_alone(before: Before, next: u8) -> bool
     match before {
         Before::Nothing => is_mark(next),
         Before::Mark => true,
-        Before::Octet => false,
-        Before::Digit => false,
+        Before::Octet | Before::Digit => false,
     }
 }
 
-// What a digit of this value does: with the next digit it is an octet, or by itself, or it is one too many.
-fn digit_step(before: Before, value: u8, next: u8) -> Step
+// What a digit of this value does: with the next digit it is an octet, or by itself. Else it is one too many, and the word no octets.
+#[tactic(auto, unfolding(crate::specs::Octets::digit_step, crate::specs::Hex::value_of))]
+fn digit_step(before: Before, value: u8, next: u8) -> Option<Step>
     requires { value < 16 }
     ensures { result ≡ digit_step before value next }
 {
-    let low = hex_digit(next);
-    if low < 16 {
-        return Step::Put(value * 16 + low, Before::Digit);
+    match hex_digit(next) {
+        Some(low) => Some(Step::Put(value * 16 + low, Before::Digit)),
+        None if is_alone(before, next) => Some(Step::Put(value, Before::Octet)),
+        None => None,
     }
-    if is_alone(before, next) {
-        return Step::Put(value, Before::Octet);
-    }
-    Step::Wrong
 }
 
 // What a mark does: it is passed directly behind an octet.
-fn mark_step(before: Before) -> Step
+fn mark_step(before: Before) -> Option<Step>
     ensures { result ≡ mark_step before }
 {
     match before {
-        Before::Nothing => Step::Wrong,
-        Before::Mark => Step::Wrong,
-        Before::Octet => Step::Pass(Before::Mark),
-        Before::Digit => Step::Wrong,
+        Before::Octet => Some(Step::Pass(Before::Mark)),
+        _ => None,
     }
 }
 
 // What a byte does that is no second digit.
-fn first_step(before: Before, b: u8, next: u8) -> Step
+#[tactic(auto, unfolding(crate::specs::Octets::first_step, crate::specs::Hex::value_of))]
+fn first_step(before: Before, b: u8, next: u8) -> Option<Step>
     ensures { result ≡ first_step before b next }
 {
     if is_blank(b) {
-        return Step::Pass(Before::Nothing);
-    }
-    if is_mark(b) {
-        return mark_step(before);
-    }
-    let value = hex_digit(b);
-    if value < 16 {
-        return digit_step(before, value, next);
-    }
-    Step::Wrong
-}
-
-// Whether what stands before a byte is the first digit of the same octet.
-fn is_second(before: Before) -> bool
-    ensures { result ≡ is_second before }
-{
-    match before {
-        Before::Nothing => false,
-        Before::Mark => false,
-        Before::Octet => false,
-        Before::Digit => true,
+        Some(Step::Pass(Before::Nothing))
+    } else if is_mark(b) {
+        mark_step(before)
+    } else {
+        digit_step(before, hex_digit(b)?, next)
     }
 }
 
 // What a byte does. The second digit of an octet was put with its first.
-fn byte_step(before: Before, b: u8, next: u8) -> Step
+#[tactic(auto, unfolding(crate::specs::Octets::step))]
+fn byte_step(before: Before, b: u8, next: u8) -> Option<Step>
     ensures { result ≡ step before b next }
 {
-    if is_second(before) {
-        return Step::Pass(Before::Octet);
+    if before == Before::Digit {
+        Some(Step::Pass(Before::Octet))
+    } else {
+        first_step(before, b, next)
     }
-    first_step(before, b, next)
 }
 
-// Puts the octets that a word writes at the start of the buffer. A word of more bytes than the buffer has is none.
-pub fn read_octets(word: &[u8], out: &mut [u8]) -> Octets
+// Puts the octets that a word writes at the start of the buffer, and answers how many; or the word writes none of this form. A word of
+// more bytes than the buffer has is none.
+pub fn read_octets(word: &[u8], out: &mut [u8]) -> Option<usize>
     ensures fits { count result ≤ length out.new }
     ensures octets { said result out.new ≡ to_say word.now out.old }
 {
     if out.len() < word.len() {
-        return Octets::AreNot;
+        return None;
     }
+    put_octets(&word[front(word)..], out)
+}
+
+// The same of a word without what stands in front of its octets, and of a buffer with room for them.
+fn put_octets(word: &[u8], out: &mut [u8]) -> Option<usize>
+    requires { length word.now ≤ length out.old }
+    ensures fits { count result ≤ length out.new }
+    ensures octets { said result out.new ≡ octets_from Before.Nothing word.now }
+{
     let mut before = Before::Nothing;
     let mut n = 0;
-    let mut i = front(word);
-    while i < word.len() {
-        match byte_step(before, word[i], byte_at(word, i + 1)) {
-            Step::Pass(next) => {
-                before = next;
-                i += 1;
-            }
-            Step::Put(octet, next) => {
+    for (i, b) in word.iter().enumerate() {
+        let next = word.get(i + 1).copied().unwrap_or(0);
+        match byte_step(before, *b, next)? {
+            Step::Pass(then) => before = then,
+            Step::Put(octet, then) => {
                 out[n] = octet;
                 n += 1;
-                before = next;
-                i += 1;
-            }
-            Step::Wrong => {
-                return Octets::AreNot;
+                before = then;
             }
         }
     }
-    Octets::Are(n)
+    Some(n)
 }

@@ -1,12 +1,12 @@
 // The words of a line, with a separator between them.
-ghost use Rattle.std.specs.Prelude.{◌≡◌, true, [], ◌≤◌, length, get_or};
+ghost use Rattle.std.specs.Prelude.{◌≡◌, [], ◌≤◌, length, get_or};
 ghost use Rattle.words.specs.Words.{Found, place, word_end, words};
 
-// The word asked for, from its first byte up to, not including, the second index; or there are not so many.
+// Where a word stands in its line: from its first byte up to, not including, the second index.
 #[derive(Clone, Copy)]
-pub enum Word {
-    At(usize, usize),
-    Missing,
+pub struct Place {
+    pub from: usize,
+    pub to: usize,
 }
 
 // Where the word that starts at `from` ends: before the next separator, or where the line does.
@@ -22,22 +22,21 @@ fn word_end(line: &[u8], separator: u8, from: usize) -> usize
     }
 }
 
-// The word of that index, counted from 0. An empty line has one word, which is empty.
-pub fn word_at(line: &[u8], separator: u8, index: usize) -> Word
+// Where the word of that index stands, counted from 0; or there are not so many. An empty line has one word, which is empty.
+pub fn word_at(line: &[u8], separator: u8, index: usize) -> Option<Place>
     ensures place { result ≡ place 0 (words separator line.now) index }
     ensures bytes { Found line.now (words separator line.now) index result }
 {
     let mut from = 0;
-    let mut left = index;
-    while left > 0 {
+    for _ in 0..index {
         let end = word_end(line, separator, from);
         if end == line.len() {
-            return Word::Missing;
+            return None;
         }
         from = end + 1;
-        left -= 1;
     }
-    Word::At(from, word_end(line, separator, from))
+    let to = word_end(line, separator, from);
+    Some(Place { from, to })
 }
 
 // The bytes of the word of that index; none where there is no such word.
@@ -45,8 +44,8 @@ pub fn part(line: &[u8], separator: u8, index: usize) -> &[u8]
     ensures { result.now ≡ get_or (words separator line.now) index [] }
 {
     match word_at(line, separator, index) {
-        Word::At(from, to) => &line[from..to],
-        Word::Missing => &line[..0],
+        Some(Place { from, to }) => &line[from..to],
+        None => &[],
     }
 }
 
@@ -55,21 +54,5 @@ pub fn count_words(line: &[u8], separator: u8) -> usize
     ensures number { result ≡ length (words separator line.now) }
     ensures some { 1 ≤ result }
 {
-    let mut n = 1;
-    let mut i = 0;
-    while i < line.len() {
-        if line[i] == separator {
-            n += 1;
-        }
-        i += 1;
-    }
-    n
-}
-
-// Whether two words are the same bytes.
-pub fn same(a: &[u8], b: &[u8]) -> bool
-    ensures equal { result ≡ true → a.now ≡ b.now }
-    ensures told { a.now ≡ b.now → result ≡ true }
-{
-    a == b
+    line.split(|b| *b == separator).count()
 }

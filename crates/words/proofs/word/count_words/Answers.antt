@@ -1,24 +1,13 @@
--- `count_words` is right: a separator ends a word, and any other byte leaves their number. Assumes nothing.
-use Rattle.std.proofs.Common.{◌<◌, length, arith}
-use Rattle.words.proofs.WordLaws.{some, count_separator, count_other, count_ended}
+-- `count_words` is right: the words are what `split` gives. Assumes nothing.
+use Rattle.std.proofs.Common.{ℕ, List, ap, length, eqb, sym, ◌∙◌, tests, rules}
+use Rattle.std.proofs.lemmas.Iterator.Consumers.{count_from_yields_List}
+use Rattle.std.proofs.lemmas.Iterator.Splits.{YieldsList-from_slice_split}
+use Rattle.words.proofs.WordLaws.{split_words}
 use Rattle.words.proofs.word.count_words.Goals as goal
-use Rattle.words.proofs.word.count_words.Goals.{then-line-i, else-line-i}
 
-pub loop-i-preserved : goal.loop-i-preserved
-loop-i-preserved c =
-    let s = c.args.separator in
-    let line = c.args.line.now in
-    let i = c.loop-i.i in
-    let inside : i < length line = omega arith in
-    elim c.if-line-i.branch [
-      | then-line-i w ↦ let more = count_separator s line i inside w.if-line-i.true in (omega arith, omega arith, omega arith)
-      | else-line-i w ↦ let same = count_other s line i inside w.if-line-i.false in (omega arith, omega arith, omega arith)
-    ]
-
-pub returns : goal.returns
-returns c =
-    let s = c.args.separator in
-    let line = c.args.line.now in
-    let all = some s line in
-    let one = count_ended s line c.loop-i.i (omega arith) (omega arith) in
-    record { number = omega arith; some = omega arith }
+pub returns-clause-number : goal.returns-clause-number
+returns-clause-number c =
+    let line : List ℕ = c.args.line.now in
+    let s : ℕ = c.args.separator in
+    count_from_yields_List c.split.result _ c.count.ensures.ran (YieldsList-from_slice_split _ (λ b. eqb b s) line c.split.ensures.rest c.split.ensures.done c.split.ensures.closure (λ x b q k. search (rules, tests)))
+    ∙ ap length (sym (split_words s line))

@@ -1,13 +1,10 @@
--- The word asked for is the word `left` of what is left of the line; the measure is how many words are to be passed.
+-- The word asked for is the word of what is left of the line before which as many words stand as are still to be passed.
 -- Assumes nothing.
-use Rattle.std.proofs.Common.{◌≡◌, ◌≤◌, length, drop}
+use Rattle.std.proofs.Common.{◌≡◌, ◌-◌, ◌≤◌, length, drop}
 use Rattle.words.specs.Words.{words, place}
 use Rattle.words.proofs.word.word_at.Given as goal
 
-abbrev pub invariant-loop-left : goal.invariant-loop-left
-invariant-loop-left l =
+abbrev pub invariant-loop : goal.invariant-loop
+invariant-loop l =
     (l.from ≤ length l.line)
-    × (place l.from (words l.separator (drop l.from l.line)) l.left ≡ place 0 (words l.separator l.line) l.index)
-
-abbrev pub decreases-loop-left : goal.decreases-loop-left
-decreases-loop-left l = l.left
+    × (place l.from (words l.separator (drop l.from l.line)) (l.index - l.counter) ≡ place 0 (words l.separator l.line) l.index)

@@ -1,28 +1,13 @@
 -- `word_end` is right: what `position` finds in what is left of the line is the definition's place.
 -- Assumes nothing.
-use Rattle.std.proofs.Common.{◌≡◌, ℕ, Bool, true, false, cond, List, eqb, length, refl, sym, ◌∙◌, tests, rules, arith}
-use Rattle.std.specs.Prelude.{Some, None, nat_lt, slice_range}
-use Rattle.std.specs.List.{position, position_or_len}
+use Rattle.std.proofs.Common.{◌≡◌, ℕ, Bool, List, eqb, length, sym, ◌∙◌, tests, rules, arith}
+use Rattle.std.specs.Prelude.{slice_range}
+use Rattle.std.specs.List.{position}
 use Rattle.std.proofs.Math.Seq.{length-slice}
-use Rattle.std.proofs.lemmas.Bool.Decides.{nat_tests}
 use Rattle.std.proofs.lemmas.Iterator.{YieldsList-from_slice}
 use Rattle.std.proofs.lemmas.Iterator.Search.{position_from_yields_List}
-use Rattle.std.proofs.lemmas.List.Sums.{prefix_len-le-length}
+use Rattle.words.proofs.Positions.{found, missing}
 use Rattle.words.proofs.word.word_end.Goals as goal
-
-found : (p : ℕ → Bool) (xs : List ℕ) (n : ℕ) → Some n ≡ position p xs → n ≡ position_or_len p xs
-found p xs n is = go (nat_lt (position_or_len p xs) (length xs)) is
-  where
-    go : (t : Bool) → Some n ≡ cond t (Some (position_or_len p xs)) None → n ≡ position_or_len p xs
-    go true is = cc
-    go false is = cc
-
-missing : (p : ℕ → Bool) (xs : List ℕ) → None ≡ position p xs → length xs ≡ position_or_len p xs
-missing p xs is = go (nat_lt (position_or_len p xs) (length xs)) refl is
-  where
-    go : (t : Bool) → nat_lt (position_or_len p xs) (length xs) ≡ t → None ≡ cond t (Some (position_or_len p xs)) None → length xs ≡ position_or_len p xs
-    go true e is = absurd (cc)
-    go false e is = grind (arith, nat_tests, prefix_len-le-length)
 
 pub returns-in-Some-clause-is : goal.returns-in-Some-clause-is
 returns-in-Some-clause-is c =
