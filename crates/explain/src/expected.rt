@@ -16,15 +16,15 @@ const MOST: usize = 5;
 // By the grammar: a word that is left out, one that may not stand there, or an end that comes too early.
 pub fn print_misplaced(text: &[u8], place: usize, out: Output) -> Output {
     match outside::left_out(text, place) {
-        Left::Nothing => print_expected(text, place, out),
-        Left::Conformance => print_left_out(text, place, b"no conformance macros", out),
-        Left::Macros => print(
+        None => print_expected(text, place, out),
+        Some(Left::Conformance) => print_left_out(text, place, b"no conformance macros", out),
+        Some(Left::Macros) => print(
             out,
             b"'MACRO' is left out: this reader knows no macro definitions",
         ),
-        Left::FirstVersion => print_left_out(text, place, b"SMIv2 alone", out),
-        Left::Exports => print_left_out(text, place, b"no exports", out),
-        Left::Choices => print_left_out(text, place, b"no types by CHOICE", out),
+        Some(Left::FirstVersion) => print_left_out(text, place, b"SMIv2 alone", out),
+        Some(Left::Exports) => print_left_out(text, place, b"no exports", out),
+        Some(Left::Choices) => print_left_out(text, place, b"no types by CHOICE", out),
     }
 }
 
