@@ -5,190 +5,146 @@
 // place. With several files, a line with the file's name heads each card.
 #![tactic(auto)]
 
-ghost use Rattle.std.specs.Prelude.{◌+◌, ◌*◌, ◌≤◌, ◌<◌, ◌≡◌, length};
-ghost use Rattle.records.specs.Record.{record_width};
+ghost use Rattle.std.specs.Prelude.{◌*◌, ◌≤◌, ◌<◌, ◌≡◌, length};
 ghost use Rattle.card.specs.Page.{longest_path, page_size, full};
 
-use card_line::{write_head, write_record};
+use card_line::{Record, write_head};
 use output::Output;
 use reader::{Answer, FILE_BYTES, NUMBER_WORDS, RECORD_WORDS};
 use std::io;
 
-// Once the page holds so many bytes it is written out. Behind them there is room for what comes next, which is a line at most.
-const FULL: usize = 8192;
+// How many bytes a page has.
+const PAGE_SIZE: usize = 16384;
 
-// How many bytes are laid into the page and not written out yet, and how the output went so far.
-#[derive(Clone, Copy)]
-struct Laid {
-    at: usize,
-    out: Output,
-}
+// Once a page holds so many bytes it is written out. Behind them there is room for what comes next, which is a line at most.
+const FULL: usize = 8192;
 
 // How many bytes a file's name may have.
 const NAME: usize = 4096;
 
 fn main(rt: HostRuntime) {
     let count = command::count_arguments(&rt);
-    let out = start(&rt, count);
-    let mut page = [0u8; 16384];
-    let mut laid = Laid { at: 0, out };
-    let mut i = 1;
-    while i < count {
-        laid = print_argument(&rt, i, 2 < count, &mut page, laid);
-        i += 1;
+    let mut page = Page {
+        bytes: [0; PAGE_SIZE],
+        at: 0,
+        out: start(&rt, count),
+    };
+    for i in 1..count {
+        print_argument(&rt, i, 2 < count, &mut page);
     }
-    let done = write_out(&page, laid);
-    output::finish(&rt, done.out);
+    page.write_out();
+    output::finish(&rt, page.out);
 }
 
 fn start(rt: &HostRuntime, count: usize) -> Output {
     output::start_on_files(rt, count, b"mib card", b"mib card FILE...")
 }
 
-// More is laid, up to this place.
-fn laid_to(laid: Laid, at: usize) -> Laid
-    ensures { result.at ≡ at }
-{
-    let out = laid.out;
-    Laid { at, out }
-}
-
-// Something was refused.
-fn refuse(laid: Laid) -> Laid
-    ensures { result.at ≡ laid.at }
-{
-    let out = laid.out;
-    Laid {
-        at: laid.at,
-        out: output::refuse(out),
-    }
-}
-
-// Writes out what is laid into the page.
-fn write_out(page: &[u8], laid: Laid) -> Laid
-    requires { laid.at ≤ length page.now }
-    ensures { result.at ≡ 0 }
-{
-    let at = laid.at;
-    Laid {
-        at: 0,
-        out: output::print(laid.out, &page[0..at]),
-    }
-}
-
-// Writes the page out where it is full.
-fn make_room(page: &[u8], laid: Laid) -> Laid
-    requires { laid.at ≤ length page.now }
-    ensures { result.at < full }
-{
-    if laid.at < FULL {
-        return laid;
-    }
-    write_out(page, laid)
-}
-
-// Says why a file cannot be read. What is laid is written out first, so that the two stand in order on a terminal.
-fn fail(page: &[u8], laid: Laid, error: io::Error, name: &[u8]) -> Laid
-    requires { laid.at ≤ length page.now }
-    ensures { result.at ≡ 0 }
-{
-    let done = write_out(page, laid);
-    Laid {
-        at: 0,
-        out: output::fail(done.out, error, name),
-    }
-}
-
 // Lays the card of the file that argument i names into the page, behind a line with its name where it is named; or says why the file
 // cannot be read.
-fn print_argument(rt: &HostRuntime, i: usize, named: bool, page: &mut [u8], laid: Laid) -> Laid
-    requires size { length page.old ≡ page_size }
-    requires inside { laid.at ≤ page_size }
-    ensures { result.at ≤ page_size }
-{
+fn print_argument(rt: &HostRuntime, i: usize, named: bool, page: &mut Page) {
     let mut name = [0u8; NAME];
     let mut buf = [0u8; FILE_BYTES];
     let file = command::read_argument(rt, i, &mut name, &mut buf);
     let n = file.name;
     let count = match file.content {
         Ok(count) => count,
-        Err(error) => return fail(page, laid, error, &name[0..n]),
+        Err(error) => {
+            page.fail(error, &name[..n]);
+            return;
+        }
     };
     if named {
-        let next = write_name(&name[0..n], page, laid);
-        return print_card(&buf[0..count], page, next);
+        page.lay_name(&name[..n]);
     }
-    print_card(&buf[0..count], page, laid)
+    page.lay_card(&buf[..count]);
 }
 
-// The same line where standard output is a terminal: the name is shown, behind what is laid.
-fn show_name(name: &[u8], page: &[u8], laid: Laid) -> Laid
-    requires { laid.at ≤ length page.now }
-    ensures { result.at ≡ 0 }
-{
-    let done = write_out(page, laid);
-    Laid {
-        at: 0,
-        out: output::end_line(output::show(done.out, name)),
-    }
+// The bytes that are laid and not written out yet, up to `at`, and how the output went so far.
+#[derive(Drop)]
+struct Page {
+    bytes: [u8; PAGE_SIZE],
+    at: usize,
+    out: Output,
+    ghost inside: { at ≤ page_size },
 }
 
-// A line with a file's name.
-fn write_name(name: &[u8], page: &mut [u8], laid: Laid) -> Laid
-    requires name { length name.now ≤ longest_path }
-    requires size { length page.old ≡ page_size }
-    requires inside { laid.at ≤ page_size }
-    ensures { result.at ≤ page_size }
-{
-    let out = laid.out;
-    if out.terminal {
-        return show_name(name, page, laid);
+impl Page {
+    // Writes out what is laid.
+    fn write_out(&mut self)
+        ensures { self.new.at ≡ 0 }
+    {
+        let at = self.at;
+        self.out = output::print(self.out, &self.bytes[..at]);
+        self.at = 0;
     }
-    let start = make_room(page, laid);
-    let next = buffer::copy(name, page, start.at);
-    laid_to(start, buffer::put(page, next, b'\n'))
-}
 
-// Lays the card of a text into the page.
-fn print_card(text: &[u8], page: &mut [u8], laid: Laid) -> Laid
-    requires size { length page.old ≡ page_size }
-    requires inside { laid.at ≤ page_size }
-    ensures { result.at ≤ page_size }
-{
-    let mut records = [0u32; RECORD_WORDS];
-    let mut numbers = [0u32; NUMBER_WORDS];
-    let answer = reader::read(text, &mut records, &mut numbers);
-    let start = make_room(page, laid);
-    let next = write_head(answer, page, start.at);
-    let Answer::Accepted(count) = answer else {
-        return refuse(laid_to(start, next));
-    };
-    write_records(text, &records, count, &numbers, page, laid_to(start, next))
-}
-
-// A line for each of the records.
-fn write_records(
-    text: &[u8],
-    records: &[u32],
-    count: usize,
-    numbers: &[u32],
-    page: &mut [u8],
-    laid: Laid,
-) -> Laid
-    requires records { record_width * count ≤ length records.now }
-    requires size { length page.old ≡ page_size }
-    requires inside { laid.at ≤ page_size }
-    ensures { result.at ≤ page_size }
-{
-    let mut next = laid;
-    let mut k = 0;
-    while k < count {
-        let from = records::WIDTH * k;
-        let words = &records[from..from + records::WIDTH];
-        let start = make_room(page, next);
-        let end = write_record(text, words, numbers, page, start.at);
-        next = laid_to(start, end);
-        k += 1;
+    // Writes the page out where it is full.
+    fn make_room(&mut self)
+        ensures { self.new.at < full }
+    {
+        if FULL <= self.at {
+            self.write_out();
+        }
     }
-    next
+
+    // Says why a file cannot be read. What is laid is written out first, so that the two stand in order on a terminal.
+    fn fail(&mut self, error: io::Error, name: &[u8])
+        ensures { self.new.at ≡ 0 }
+    {
+        self.write_out();
+        self.out = output::fail(self.out, error, name);
+    }
+
+    // A line with a file's name. Where standard output is a terminal, the name is shown, behind what is laid.
+    fn lay_name(&mut self, name: &[u8])
+        requires { length name.now ≤ longest_path }
+    {
+        if self.out.terminal {
+            self.write_out();
+            self.out = output::end_line(output::show(self.out, name));
+            return;
+        }
+        self.make_room();
+        let at = self.at;
+        let next = buffer::copy(name, &mut self.bytes, at);
+        self.at = buffer::put(&mut self.bytes, next, b'\n');
+    }
+
+    // Lays the card of a text.
+    fn lay_card(&mut self, text: &[u8]) {
+        let mut records = [0u32; RECORD_WORDS];
+        let mut numbers = [0u32; NUMBER_WORDS];
+        let answer = reader::read(text, &mut records, &mut numbers);
+        self.lay_head(answer);
+        match answer {
+            Answer::Accepted(count) => self.lay_records(
+                text,
+                &records[..records::WIDTH * count],
+                &numbers,
+            ),
+            Answer::Refused(_, _) => self.out = output::refuse(self.out),
+        }
+    }
+
+    // The card's first line.
+    fn lay_head(&mut self, answer: Answer) {
+        self.make_room();
+        let at = self.at;
+        self.at = write_head(answer, &mut self.bytes, at);
+    }
+
+    // A line for each of the records.
+    fn lay_records(&mut self, text: &[u8], records: &[u32], numbers: &[u32]) {
+        for words in records.chunks(records::WIDTH) {
+            self.make_room();
+            let at = self.at;
+            self.at = Record {
+                text,
+                words,
+                numbers,
+            }
+            .write(&mut self.bytes, at);
+        }
+    }
 }

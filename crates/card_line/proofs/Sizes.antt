@@ -4,11 +4,11 @@ use mathlib.Core.Path.{◌≡◌, refl, sym, ap, ◌∙◌}
 use mathlib.Core.List.{List, [], ◌∷◌, ◌++◌, append_assoc, append-nil}
 use Prim.Native.Nat.{ℕ, ◌+◌, ◌^◌, ◌≤◌, ◌<◌, min}
 use Prim.Native.Char.{code}
-use native.Mathlib.Nat.{lt_of_lt_of_le, not-suc-le-zero}
+use native.Mathlib.Nat.{lt_of_lt_of_le}
 use native.Mathlib.Numerals.{add-one}
 use native.Mathlib.Omega.{arith}
 use lib.Dec.{lit≤}
-use lib.ListN.{length, get_or, take, drop, length-take}
+use lib.ListN.{length, get_or, take, length-take}
 use lib.Seq.{take-suc}
 use Rattle.buffer.specs.Buffer.{Wrote}
 use Rattle.buffer.proofs.Writing.{wrote_more}
@@ -44,10 +44,9 @@ unfolding pointed
 pointed_none = refl
 
 -- an OID is its first number, and the others behind points
-pub dotted_split : (ns : List ℕ) → 1 ≤ length ns → digits 10 (get_or ns 0 0) ++ pointed (drop 1 ns) ≡ dotted ns
+pub dotted_split : (ns : List ℕ) (n : ℕ) (others : List ℕ) → ns ≡ n ∷ others → digits 10 n ++ pointed others ≡ dotted ns
 unfolding dotted
-dotted_split [] h = absurd (not-suc-le-zero h)
-dotted_split (n ∷ ns) h = refl
+dotted_split ns n others e = sym (ap dotted e)
 
 -- of no numbers it is a hyphen
 pub dotted_none : (ns : List ℕ) → length ns ≡ 0 → code "-" ∷ [] ≡ dotted ns

@@ -1,7 +1,7 @@
 -- The lines of the card: document 01, "The shelf card". `text` is the module's text, `words` are those of one record, and `numbers` is
 -- the number buffer.
 -- Assumes nothing.
-use Rattle.std.specs.Prelude.{◌≡◌, List, [], ◌∷◌, ◌++◌, ℕ, ◌+◌, ◌-◌, ◌*◌, ◌≤◌, min, length, get_or, take, drop}
+use Rattle.std.specs.Prelude.{List, [], ◌∷◌, ◌++◌, ℕ, ◌+◌, ◌*◌, min, get_or, take, drop}
 use Prim.Native.Char.{code}
 use Rattle.lexicon.specs.Word.{bytes, longest_name}
 use Rattle.digit.specs.Digits.{digits}
@@ -112,9 +112,3 @@ attributes_room = 3 * field_room
 
 abbrev pub line_room : ℕ
 line_room = definition_room + attributes_room
-
--- of any list of so many entries, those from one index up to the other are the `count` from `offset` on: those that there are
-pub record IsPart (size offset count from to : ℕ) : Type 0 where
-  pub ordered : from ≤ to
-  pub inside : to ≤ size
-  pub entries : (l : List ℕ) → length l ≡ size → take (to - from) (drop from l) ≡ take count (drop offset l)

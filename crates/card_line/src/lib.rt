@@ -1,10 +1,10 @@
 // The lines of the shelf card: one for an answer, and one for each record. They are laid into an output buffer, which the program writes out.
 #![tactic(auto)]
 
-ghost use Rattle.std.specs.Prelude.{◌≡◌, ◌+◌, ◌≤◌, min, length, get_or};
+ghost use Rattle.std.specs.Prelude.{◌≡◌, ◌+◌, ◌≤◌, length, get_or, take, drop};
 ghost use Rattle.buffer.specs.Buffer.{Wrote};
 ghost use Rattle.digit.specs.Digits.{digits};
-ghost use Rattle.card_line.specs.Line.{IsPart, field, accepted_line, refused_line, head, pointed, dotted, name, syntax, sub_identifiers};
+ghost use Rattle.card_line.specs.Line.{field, accepted_line, refused_line, head, pointed, dotted, kind, class, access, status, name, syntax, sub_identifiers};
 ghost use Rattle.card_line.specs.Line.{name_field, oid_field, definition_fields, attribute_fields, record_line};
 ghost use Rattle.card_line.specs.Line.{longest_oid, field_room, head_room, number_room, pointed_room, oid_room, definition_room};
 ghost use Rattle.card_line.specs.Line.{attributes_room, line_room};
@@ -18,11 +18,11 @@ const TAB: u8 = 9;
 const LINE_END: u8 = 10;
 
 // The words of a record that a line shows.
-pub const KIND: usize = 0;
+const KIND: usize = 0;
 
 const NAME_OFFSET: usize = 1;
 
-pub const NAME_LENGTH: usize = 2;
+const NAME_LENGTH: usize = 2;
 
 const OID_FIRST: usize = 3;
 
@@ -32,11 +32,11 @@ const SYNTAX_OFFSET: usize = 5;
 
 const SYNTAX_LENGTH: usize = 6;
 
-pub const ACCESS: usize = 7;
+const ACCESS: usize = 7;
 
-pub const STATUS: usize = 8;
+const STATUS: usize = 8;
 
-pub const CLASS: usize = 9;
+const CLASS: usize = 9;
 
 // The most bytes of a name, and the most numbers of an OID. A module with more is refused, so nothing is cut; by these bounds a line
 // has room whatever the words say.
@@ -98,89 +98,12 @@ pub fn write_head(answer: Answer, out: &mut [u8], at: usize) -> usize
     }
 }
 
-// A word of a record; 0 past its end.
-pub fn word(words: &[u32], i: usize) -> u32
-    ensures { result ≡ get_or words.now i 0 }
+// The `count` entries of a list from `offset` on: those that there are.
+fn part<T>(list: &[T], offset: usize, count: usize) -> &[T]
+    ensures { result.now ≡ take count (drop offset list.now) }
 {
-    if i < words.len() { words[i] } else { 0 }
-}
-
-// A part of a list: from its first index up to, not including, the second.
-#[derive(Clone, Copy)]
-struct Part {
-    from: usize,
-    to: usize,
-}
-
-// Which of so many entries are the `count` from `offset` on: those that there are.
-fn part_of(size: usize, offset: usize, count: usize) -> Part
-    ensures { IsPart size offset count result.from result.to }
-{
-    if size <= offset {
-        return Part {
-            from: size,
-            to: size,
-        };
-    }
-    if size - offset <= count {
-        return Part {
-            from: offset,
-            to: size,
-        };
-    }
-    Part {
-        from: offset,
-        to: offset + count,
-    }
-}
-
-// The smaller of the two.
-fn at_most(n: usize, most: usize) -> usize
-    ensures { result ≡ min n most }
-{
-    if n < most { n } else { most }
-}
-
-// The bytes of a name.
-pub fn name_of<'a>(text: &'a [u8], words: &[u32]) -> &'a [u8]
-    ensures { result.now ≡ name text.now words.now }
-{
-    let part = part_of(
-        text.len(),
-        word(words, NAME_OFFSET) as usize,
-        at_most(word(words, NAME_LENGTH) as usize, LONGEST_NAME),
-    );
-    let from = part.from;
-    let to = part.to;
-    &text[from..to]
-}
-
-// The sub-identifiers of a definition.
-fn oid_of<'a>(numbers: &'a [u32], words: &[u32]) -> &'a [u32]
-    ensures { result.now ≡ sub_identifiers numbers.now words.now }
-{
-    let part = part_of(
-        numbers.len(),
-        word(words, OID_FIRST) as usize,
-        at_most(word(words, OID_COUNT) as usize, LONGEST_OID),
-    );
-    let from = part.from;
-    let to = part.to;
-    &numbers[from..to]
-}
-
-// The bytes of a syntax.
-pub fn syntax_of<'a>(text: &'a [u8], words: &[u32]) -> &'a [u8]
-    ensures { result.now ≡ syntax text.now words.now }
-{
-    let part = part_of(
-        text.len(),
-        word(words, SYNTAX_OFFSET) as usize,
-        word(words, SYNTAX_LENGTH) as usize,
-    );
-    let from = part.from;
-    let to = part.to;
-    &text[from..to]
+    let rest = &list[offset.min(list.len())..];
+    &rest[..count.min(rest.len())]
 }
 
 // Writes a sub-identifier, and answers the place after it.
@@ -199,11 +122,9 @@ fn write_pointed(numbers: &[u32], out: &mut [u8], at: usize) -> usize
     ensures short { result ≤ at + pointed_room (length numbers.now) }
 {
     let mut next = at;
-    let mut i = 0;
-    while i < numbers.len() {
+    for n in numbers {
         next = put(out, next, b'.');
-        next = write_number(numbers[i], out, next);
-        i += 1;
+        next = write_number(*n, out, next);
     }
     next
 }
@@ -215,20 +136,11 @@ fn write_dotted(numbers: &[u32], out: &mut [u8], at: usize) -> usize
     ensures bytes { Wrote (dotted numbers.now) at result out.old out.new }
     ensures short { result ≤ at + oid_room }
 {
-    if numbers.len() == 0 {
+    let Some((first, others)) = numbers.split_first() else {
         return put(out, at, b'-');
-    }
-    let next = write_number(numbers[0], out, at);
-    write_pointed(&numbers[1..], out, next)
-}
-
-// Writes the OID of a record, or a hyphen.
-pub fn write_oid_of(words: &[u32], numbers: &[u32], out: &mut [u8], at: usize) -> usize
-    requires { at + oid_room ≤ length out.old }
-    ensures bytes { Wrote (dotted (sub_identifiers numbers.now words.now)) at result out.old out.new }
-    ensures short { result ≤ at + oid_room }
-{
-    write_dotted(oid_of(numbers, words), out, at)
+    };
+    let next = write_number(*first, out, at);
+    write_pointed(others, out, next)
 }
 
 // Writes a name and a tab.
@@ -242,7 +154,7 @@ fn write_name(name: &[u8], out: &mut [u8], at: usize) -> usize
 }
 
 // Writes an OID and a tab.
-fn write_oid(numbers: &[u32], out: &mut [u8], at: usize) -> usize
+fn write_oid_field(numbers: &[u32], out: &mut [u8], at: usize) -> usize
     requires numbers { length numbers.now ≤ longest_oid }
     requires room { at + oid_room + 1 ≤ length out.old }
     ensures bytes { Wrote (oid_field numbers.now) at result out.old out.new }
@@ -252,34 +164,117 @@ fn write_oid(numbers: &[u32], out: &mut [u8], at: usize) -> usize
     put(out, next, TAB)
 }
 
-// Writes what a definition is: kind, name and OID.
-fn write_definition(text: &[u8], words: &[u32], numbers: &[u32], out: &mut [u8], at: usize) -> usize
-    requires { at + definition_room ≤ length out.old }
-    ensures bytes { Wrote (definition_fields text.now words.now numbers.now) at result out.old out.new }
-    ensures short { result ≤ at + definition_room }
-{
-    let next = write_field(word(words, KIND) as u64, TAB, out, at);
-    let next = write_name(name_of(text, words), out, next);
-    write_oid(oid_of(numbers, words), out, next)
+// A definition as the reader records it: its words, and the text and the numbers that they tell the places of.
+#[derive(Clone, Copy)]
+pub struct Record<'a> {
+    pub text: &'a [u8],
+    pub words: &'a [u32],
+    pub numbers: &'a [u32],
 }
 
-// Writes what is said of it: class, access and status.
-fn write_attributes(words: &[u32], out: &mut [u8], at: usize) -> usize
-    requires { at + attributes_room ≤ length out.old }
-    ensures bytes { Wrote (attribute_fields words.now) at result out.old out.new }
-    ensures short { result ≤ at + attributes_room }
-{
-    let next = write_field(word(words, CLASS) as u64, TAB, out, at);
-    let next = write_field(word(words, ACCESS) as u64, TAB, out, next);
-    write_field(word(words, STATUS) as u64, LINE_END, out, next)
-}
+impl<'a> Record<'a> {
+    // A word of the record; 0 past its end.
+    fn word(self, i: usize) -> u32
+        ensures { result ≡ get_or self.entry.words.now i 0 }
+    {
+        self.words.get(i).copied().unwrap_or(0)
+    }
 
-// Writes the line of a record, and answers the place after it.
-pub fn write_record(text: &[u8], words: &[u32], numbers: &[u32], out: &mut [u8], at: usize) -> usize
-    requires { at + line_room ≤ length out.old }
-    ensures bytes { Wrote (record_line text.now words.now numbers.now) at result out.old out.new }
-    ensures short { result ≤ at + line_room }
-{
-    let next = write_definition(text, words, numbers, out, at);
-    write_attributes(words, out, next)
+    // 0 is no kind, no class, no access and no status.
+    pub fn kind(self) -> u32
+        ensures { result ≡ kind self.entry.words.now }
+    {
+        self.word(KIND)
+    }
+
+    pub fn class(self) -> u32
+        ensures { result ≡ class self.entry.words.now }
+    {
+        self.word(CLASS)
+    }
+
+    pub fn access(self) -> u32
+        ensures { result ≡ access self.entry.words.now }
+    {
+        self.word(ACCESS)
+    }
+
+    pub fn status(self) -> u32
+        ensures { result ≡ status self.entry.words.now }
+    {
+        self.word(STATUS)
+    }
+
+    // The bytes of the name.
+    pub fn name(self) -> &'a [u8]
+        ensures { result.now ≡ name self.entry.text.now self.entry.words.now }
+    {
+        let length = self.word(NAME_LENGTH) as usize;
+        part(
+            self.text,
+            self.word(NAME_OFFSET) as usize,
+            length.min(LONGEST_NAME),
+        )
+    }
+
+    // The sub-identifiers of the OID.
+    fn oid(self) -> &'a [u32]
+        ensures { result.now ≡ sub_identifiers self.entry.numbers.now self.entry.words.now }
+    {
+        let count = self.word(OID_COUNT) as usize;
+        part(
+            self.numbers,
+            self.word(OID_FIRST) as usize,
+            count.min(LONGEST_OID),
+        )
+    }
+
+    // The bytes of the syntax.
+    pub fn syntax(self) -> &'a [u8]
+        ensures { result.now ≡ syntax self.entry.text.now self.entry.words.now }
+    {
+        let length = self.word(SYNTAX_LENGTH) as usize;
+        part(self.text, self.word(SYNTAX_OFFSET) as usize, length)
+    }
+
+    // Writes the OID, or a hyphen.
+    pub fn write_oid(self, out: &mut [u8], at: usize) -> usize
+        requires { at + oid_room ≤ length out.old }
+        ensures bytes { Wrote (dotted (sub_identifiers self.entry.numbers.now self.entry.words.now)) at result out.old out.new }
+        ensures short { result ≤ at + oid_room }
+    {
+        write_dotted(self.oid(), out, at)
+    }
+
+    // Writes what the definition is: kind, name and OID.
+    fn write_definition(self, out: &mut [u8], at: usize) -> usize
+        requires { at + definition_room ≤ length out.old }
+        ensures bytes { Wrote (definition_fields self.entry.text.now self.entry.words.now self.entry.numbers.now) at result out.old out.new }
+        ensures short { result ≤ at + definition_room }
+    {
+        let next = write_field(self.kind() as u64, TAB, out, at);
+        let next = write_name(self.name(), out, next);
+        write_oid_field(self.oid(), out, next)
+    }
+
+    // Writes what is said of it: class, access and status.
+    fn write_attributes(self, out: &mut [u8], at: usize) -> usize
+        requires { at + attributes_room ≤ length out.old }
+        ensures bytes { Wrote (attribute_fields self.entry.words.now) at result out.old out.new }
+        ensures short { result ≤ at + attributes_room }
+    {
+        let next = write_field(self.class() as u64, TAB, out, at);
+        let next = write_field(self.access() as u64, TAB, out, next);
+        write_field(self.status() as u64, LINE_END, out, next)
+    }
+
+    // Writes the record's line, and answers the place after it.
+    pub fn write(self, out: &mut [u8], at: usize) -> usize
+        requires { at + line_room ≤ length out.old }
+        ensures bytes { Wrote (record_line self.entry.text.now self.entry.words.now self.entry.numbers.now) at result out.old out.new }
+        ensures short { result ≤ at + line_room }
+    {
+        let next = self.write_definition(out, at);
+        self.write_attributes(out, next)
+    }
 }

@@ -8,13 +8,10 @@ mod column;
 mod meaning;
 mod syntax_line;
 
-use card_line::write_head;
+use card_line::{Record, write_head};
 use column::{Widths, print_column, print_last};
 use output::Output;
 use reader::{Answer, FILE_BYTES, NUMBER_WORDS, RECORD_WORDS};
-
-// The most records that there are.
-const RECORDS: usize = RECORD_WORDS / records::WIDTH;
 
 // How many bytes a file's name may have.
 const NAME: usize = 4096;
@@ -22,13 +19,30 @@ const NAME: usize = 4096;
 // How many bytes the numbers of an OID may take.
 const LINE: usize = 4096;
 
+// What the reader tells of an accepted text.
+#[derive(Clone, Copy)]
+struct Card<'a> {
+    text: &'a [u8],
+    records: &'a [u32],
+    numbers: &'a [u32],
+}
+
+impl<'a> Card<'a> {
+    // The record of these words.
+    fn record(self, words: &'a [u32]) -> Record<'a> {
+        Record {
+            text: self.text,
+            words,
+            numbers: self.numbers,
+        }
+    }
+}
+
 fn main(rt: HostRuntime) {
     let count = command::count_arguments(&rt);
     let mut out = start(&rt, count);
-    let mut i = 1;
-    while i < count {
+    for i in 1..count {
         out = print_argument(&rt, i, 2 < count, out);
-        i += 1;
     }
     output::finish(&rt, out);
 }
@@ -45,13 +59,13 @@ fn print_argument(rt: &HostRuntime, i: usize, named: bool, out: Output) -> Outpu
     let n = file.name;
     let count = match file.content {
         Ok(count) => count,
-        Err(error) => return output::fail(out, error, &name[0..n]),
+        Err(error) => return output::fail(out, error, &name[..n]),
     };
     if named {
-        let headed = output::end_line(output::show(out, &name[0..n]));
-        return print_card(&buf[0..count], headed);
+        let headed = output::end_line(output::show(out, &name[..n]));
+        return print_card(&buf[..count], headed);
     }
-    print_card(&buf[0..count], out)
+    print_card(&buf[..count], out)
 }
 
 fn print_card(text: &[u8], out: Output) -> Output {
@@ -62,84 +76,72 @@ fn print_card(text: &[u8], out: Output) -> Output {
     let Answer::Accepted(_) = answer else {
         return output::refuse(out);
     };
-    print_records(text, &records, &numbers, out)
+    let card = Card {
+        text,
+        records: &records,
+        numbers: &numbers,
+    };
+    print_records(card, out)
 }
 
 // The card's first line.
 fn print_head(answer: Answer, out: Output) -> Output {
     let mut line = [0u8; 64];
     let end = write_head(answer, &mut line, 0);
-    output::print(out, &line[0..end])
-}
-
-// The words of record k; none past the end.
-fn record_at(records: &[u32], k: usize) -> &[u32] {
-    if k < RECORDS {
-        let from = records::WIDTH * k;
-        if from + records::WIDTH <= records.len() {
-            return &records[from..from + records::WIDTH];
-        }
-    }
-    &records[..0]
+    output::print(out, &line[..end])
 }
 
 // A line for each record. Words that are not used are 0, which is no kind.
-fn print_records(text: &[u8], records: &[u32], numbers: &[u32], out: Output) -> Output {
-    let widths = column::measure(records, numbers, out.terminal);
+fn print_records(card: Card, out: Output) -> Output {
+    let widths = if out.terminal {
+        Some(column::measure(card))
+    } else {
+        None
+    };
     let mut next = out;
-    let mut k = 0;
-    while k < RECORDS {
-        let words = record_at(records, k);
-        if card_line::word(words, card_line::KIND) != 0 {
-            next = print_record(text, words, numbers, widths, next);
+    for words in card.records.chunks(records::WIDTH) {
+        let record = card.record(words);
+        if record.kind() != 0 {
+            next = print_record(record, widths, next);
         }
-        k += 1;
     }
     next
 }
 
 // What a definition is, and what is said of it.
-fn print_record(
-    text: &[u8],
-    words: &[u32],
-    numbers: &[u32],
-    widths: Widths,
-    out: Output,
-) -> Output {
-    let out = print_definition(text, words, numbers, widths, out);
-    print_attributes(text, words, widths, out)
+fn print_record(record: Record, widths: Option<Widths>, out: Output) -> Output {
+    let out = print_definition(record, widths, out);
+    print_attributes(record, widths, out)
 }
 
 // Kind, name and OID.
-fn print_definition(
-    text: &[u8],
-    words: &[u32],
-    numbers: &[u32],
-    widths: Widths,
-    out: Output,
-) -> Output {
-    let kind = card_line::word(words, card_line::KIND);
-    let out = meaning::print_kind(kind, widths.kind, out);
-    let out = print_column(card_line::name_of(text, words), widths.name, out);
+fn print_definition(record: Record, widths: Option<Widths>, out: Output) -> Output {
+    let out = print_column(meaning::kind(record.kind()), widths.map(|w| w.kind), out);
+    let out = print_column(record.name(), widths.map(|w| w.name), out);
     let mut line = [0u8; LINE];
-    let end = card_line::write_oid_of(words, numbers, &mut line, 0);
-    print_column(&line[0..end], widths.oid, out)
+    let end = record.write_oid(&mut line, 0);
+    print_column(&line[..end], widths.map(|w| w.oid), out)
 }
 
 // Class, access, status and syntax.
-fn print_attributes(text: &[u8], words: &[u32], widths: Widths, out: Output) -> Output {
-    let class = card_line::word(words, card_line::CLASS);
-    let out = meaning::print_class(class, widths.class, out);
-    let access = card_line::word(words, card_line::ACCESS);
-    let out = meaning::print_access(access, widths.access, out);
-    let status = card_line::word(words, card_line::STATUS);
-    let out = meaning::print_status(status, widths.status, out);
-    print_syntax(card_line::syntax_of(text, words), out)
+fn print_attributes(record: Record, widths: Option<Widths>, out: Output) -> Output {
+    let out = print_column(meaning::class(record.class()), widths.map(|w| w.class), out);
+    let out = print_column(
+        meaning::access(record.access()),
+        widths.map(|w| w.access),
+        out,
+    );
+    let out = print_column(
+        meaning::status(record.status()),
+        widths.map(|w| w.status),
+        out,
+    );
+    print_syntax(record.syntax(), out)
 }
 
 // The syntax in one line; a hyphen where there is none.
 fn print_syntax(syntax: &[u8], out: Output) -> Output {
-    if syntax.len() == 0 {
+    if syntax.is_empty() {
         return print_last(b"-", out);
     }
     let mut line = [0u8; FILE_BYTES];
@@ -147,5 +149,5 @@ fn print_syntax(syntax: &[u8], out: Output) -> Output {
         return print_last(syntax, out);
     }
     let n = syntax_line::lay(syntax, &mut line);
-    print_last(&line[0..n], out)
+    print_last(&line[..n], out)
 }

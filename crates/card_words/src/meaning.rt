@@ -1,56 +1,62 @@
-// The words of a record's numbers, as document 01 and the RFCs have them, in a column of this width. 0 is what a definition does not have.
-use crate::column::print_column;
-use output::Output;
+// The words of a record's numbers, as document 01 and the RFCs have them. 0 is what a definition does not have.
 
-pub fn print_kind(kind: u32, width: usize, out: Output) -> Output {
-    match kind {
-        1 => print_column(b"identity", width, out),
-        2 => print_column(b"plain OID", width, out),
-        3 => print_column(b"object identity", width, out),
-        4 => print_column(b"object", width, out),
-        5 => print_column(b"textual convention", width, out),
-        6 => print_column(b"SEQUENCE type", width, out),
-        7 => print_column(b"notification", width, out),
-        _ => print_column(b"-", width, out),
-    }
+static KINDS: [&[u8]; 8] = [
+    b"-",
+    b"identity",
+    b"plain OID",
+    b"object identity",
+    b"object",
+    b"textual convention",
+    b"SEQUENCE type",
+    b"notification",
+];
+
+static CLASSES: [&[u8]; 15] = [
+    b"-",
+    b"integer",
+    b"enumerated",
+    b"octets",
+    b"OID",
+    b"BITS",
+    b"IpAddress",
+    b"Counter32",
+    b"Gauge32",
+    b"Unsigned32",
+    b"TimeTicks",
+    b"Opaque",
+    b"Counter64",
+    b"table",
+    b"row",
+];
+
+static ACCESSES: [&[u8]; 6] = [
+    b"-",
+    b"not-accessible",
+    b"accessible-for-notify",
+    b"read-only",
+    b"read-write",
+    b"read-create",
+];
+
+static STATUSES: [&[u8]; 4] = [b"-", b"current", b"deprecated", b"obsolete"];
+
+pub fn kind(number: u32) -> &'static [u8] {
+    word_of(&KINDS, number)
 }
 
-pub fn print_class(class: u32, width: usize, out: Output) -> Output {
-    match class {
-        1 => print_column(b"integer", width, out),
-        2 => print_column(b"enumerated", width, out),
-        3 => print_column(b"octets", width, out),
-        4 => print_column(b"OID", width, out),
-        5 => print_column(b"BITS", width, out),
-        6 => print_column(b"IpAddress", width, out),
-        7 => print_column(b"Counter32", width, out),
-        8 => print_column(b"Gauge32", width, out),
-        9 => print_column(b"Unsigned32", width, out),
-        10 => print_column(b"TimeTicks", width, out),
-        11 => print_column(b"Opaque", width, out),
-        12 => print_column(b"Counter64", width, out),
-        13 => print_column(b"table", width, out),
-        14 => print_column(b"row", width, out),
-        _ => print_column(b"-", width, out),
-    }
+pub fn class(number: u32) -> &'static [u8] {
+    word_of(&CLASSES, number)
 }
 
-pub fn print_access(access: u32, width: usize, out: Output) -> Output {
-    match access {
-        1 => print_column(b"not-accessible", width, out),
-        2 => print_column(b"accessible-for-notify", width, out),
-        3 => print_column(b"read-only", width, out),
-        4 => print_column(b"read-write", width, out),
-        5 => print_column(b"read-create", width, out),
-        _ => print_column(b"-", width, out),
-    }
+pub fn access(number: u32) -> &'static [u8] {
+    word_of(&ACCESSES, number)
 }
 
-pub fn print_status(status: u32, width: usize, out: Output) -> Output {
-    match status {
-        1 => print_column(b"current", width, out),
-        2 => print_column(b"deprecated", width, out),
-        3 => print_column(b"obsolete", width, out),
-        _ => print_column(b"-", width, out),
-    }
+pub fn status(number: u32) -> &'static [u8] {
+    word_of(&STATUSES, number)
+}
+
+// The word of a number; a hyphen where it has none.
+fn word_of(words: &'static [&'static [u8]], number: u32) -> &'static [u8] {
+    words.get(number as usize).copied().unwrap_or(b"-")
 }

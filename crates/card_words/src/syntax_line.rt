@@ -16,6 +16,7 @@ pub fn lay(syntax: &[u8], out: &mut [u8]) -> usize
 {
     let mut n = 0;
     let mut at = 0;
+    // An index, not an iterator: a step passes a whole token or gap.
     while at < syntax.len() {
         let step = step_at(syntax, at);
         let end = step.end;
@@ -35,37 +36,20 @@ fn step_at(syntax: &[u8], at: usize) -> Step
     ensures later { at < result.end }
     ensures inside { result.end ≤ length syntax.now }
 {
-    let (gap, end) = match piece_at(syntax, at) {
-        Ok(Found::Gap(end)) => (true, end),
-        Ok(Found::Token(_, end)) => (false, end),
-        Err(_) => (false, at + 1),
-    };
-    if end <= at {
-        return Step {
+    match piece_at(syntax, at) {
+        Ok(Found::Gap(end)) => Step {
+            gap: true,
+            end: end.max(at + 1).min(syntax.len()),
+        },
+        Ok(Found::Token(_, end)) => Step {
+            gap: false,
+            end: end.max(at + 1).min(syntax.len()),
+        },
+        Err(_) => Step {
             gap: false,
             end: at + 1,
-        };
+        },
     }
-    if syntax.len() < end {
-        return Step {
-            gap: false,
-            end: syntax.len(),
-        };
-    }
-    Step { gap, end }
-}
-
-// A byte, where there is room for it.
-fn push(out: &mut [u8], n: usize, b: u8) -> usize
-    requires { n ≤ length out.old }
-    ensures inside { result ≤ length out.new }
-    ensures size { length out.new ≡ length out.old }
-{
-    if n == out.len() {
-        return n;
-    }
-    out[n] = b;
-    n + 1
 }
 
 // A blank, unless one stands there already.
@@ -74,24 +58,19 @@ fn lay_gap(out: &mut [u8], n: usize) -> usize
     ensures inside { result ≤ length out.new }
     ensures size { length out.new ≡ length out.old }
 {
-    if n > 0 {
-        if out[n - 1] == b' ' {
-            return n;
-        }
+    if 0 < n && out[n - 1] == b' ' {
+        return n;
     }
-    push(out, n, b' ')
+    lay_token(b" ", out, n)
 }
 
-fn lay_token(token: &[u8], out: &mut [u8], at: usize) -> usize
-    requires { at ≤ length out.old }
+// The bytes of a token, as far as there is room for them.
+fn lay_token(token: &[u8], out: &mut [u8], n: usize) -> usize
+    requires { n ≤ length out.old }
     ensures inside { result ≤ length out.new }
     ensures size { length out.new ≡ length out.old }
 {
-    let mut n = at;
-    let mut i = 0;
-    while i < token.len() {
-        n = push(out, n, token[i]);
-        i += 1;
-    }
-    n
+    let end = n + token.len().min(out.len() - n);
+    out[n..end].copy_from_slice(&token[..end - n]);
+    end
 }

@@ -1,7 +1,7 @@
 // What may stand where the grammar refuses a text.
-ghost use Rattle.std.specs.Prelude.{◌<◌, ◌≤◌, length};
+ghost use Rattle.std.specs.Prelude.{◌<◌, length};
 
-use crate::class_name::print_class;
+use crate::class_name::class_name;
 use crate::tokens::collect_tokens;
 use crate::word::print_word;
 use output::{Output, print};
@@ -15,15 +15,15 @@ const MOST: usize = 5;
 // By the grammar: a word that is left out, one that may not stand there, or an end that comes too early.
 pub fn print_misplaced(text: &[u8], place: usize, out: Output) -> Output {
     match outside::left_out(text, place) {
-        Left::Nothing => print_expected(text, place, out),
-        Left::Conformance => print_left_out(text, place, b"no conformance macros", out),
-        Left::Macros => print(
+        None => print_expected(text, place, out),
+        Some(Left::Conformance) => print_left_out(text, place, b"no conformance macros", out),
+        Some(Left::Macros) => print(
             out,
             b"'MACRO' is left out: this reader knows no macro definitions",
         ),
-        Left::FirstVersion => print_left_out(text, place, b"SMIv2 alone", out),
-        Left::Exports => print_left_out(text, place, b"no exports", out),
-        Left::Choices => print_left_out(text, place, b"no types by CHOICE", out),
+        Some(Left::FirstVersion) => print_left_out(text, place, b"SMIv2 alone", out),
+        Some(Left::Exports) => print_left_out(text, place, b"no exports", out),
+        Some(Left::Choices) => print_left_out(text, place, b"no types by CHOICE", out),
     }
 }
 
@@ -34,20 +34,21 @@ fn print_left_out(text: &[u8], place: usize, known: &[u8], out: Output) -> Outpu
 }
 
 fn print_expected(text: &[u8], place: usize, out: Output) -> Output {
-    let mut allowed = [false; TERMINALS];
-    collect_allowed(text, &mut allowed);
-    let count = count_named(&allowed);
+    let mut allowed = Allowed {
+        classes: [false; TERMINALS],
+    };
+    collect_allowed(text, &mut allowed.classes);
     if text.len() <= place {
         let out = print(out, b"the text ends here, and the module does not; ");
-        let out = print_allowed(&allowed, count, out);
+        let out = allowed.print(out);
         return print(out, b" may follow");
     }
     let out = print_word(text, place, out);
-    if count == 0 {
+    if allowed.count() == 0 {
         return print(out, b" stands behind the module's END");
     }
     let out = print(out, b" may not stand here; ");
-    let out = print_allowed(&allowed, count, out);
+    let out = allowed.print(out);
     print(out, b" may")
 }
 
@@ -66,88 +67,59 @@ fn collect_allowed(text: &[u8], allowed: &mut [bool; TERMINALS]) {
 fn mark_allowed(classes: &mut [u8], n: usize, allowed: &mut [bool; TERMINALS])
     requires { n < length classes.old }
 {
-    let mut class = 0;
-    while class < TERMINALS {
+    for class in 0..TERMINALS {
         allowed[class] = grammar::allows(classes, n, class as u8);
-        class += 1;
     }
 }
 
-// Whether a class is named: negative numbers are numbers, and status and access words are lower, where that is allowed.
-fn is_named(allowed: &[bool; TERMINALS], class: usize) -> bool {
-    if TERMINALS <= class {
-        return false;
+// The classes that the grammar allows.
+#[derive(Drop)]
+struct Allowed {
+    classes: [bool; TERMINALS],
+}
+
+impl Allowed {
+    fn allows(&self, class: usize) -> bool {
+        self.classes.get(class).copied().unwrap_or(false)
     }
-    if class == terminal::NEGATIVE as usize {
-        return false;
+
+    // Whether a class is named: negative numbers are numbers, and status and access words are lower, where that is allowed.
+    fn names(&self, class: usize) -> bool {
+        class != terminal::NEGATIVE as usize
+            && !(is_lower_word(class) && self.allows(terminal::LOWER as usize))
+            && self.allows(class)
     }
-    if is_lower_word(class) {
-        if allowed[terminal::LOWER as usize] {
-            return false;
+
+    fn count(&self) -> usize {
+        (0..TERMINALS).filter(|class| self.names(*class)).count()
+    }
+
+    // The first of the classes that are named, words before names and names before marks.
+    fn print(&self, out: Output) -> Output {
+        let count = self.count();
+        let mut next = out;
+        let named = (0..TERMINALS).rev().filter(|class| self.names(*class));
+        for (i, class) in named.take(MOST).enumerate() {
+            next = print(next, between(i, count));
+            next = print(next, class_name(class));
+        }
+        if MOST < count {
+            print(next, b" and others")
+        } else {
+            next
         }
     }
-    allowed[class]
 }
 
 fn is_lower_word(class: usize) -> bool {
-    terminal::CURRENT as usize <= class && class <= terminal::READ_CREATE as usize
+    (terminal::CURRENT as usize..=terminal::READ_CREATE as usize).contains(&class)
 }
 
-fn count_named(allowed: &[bool; TERMINALS]) -> usize {
-    let mut n = 0;
-    let mut class = 0;
-    while class < TERMINALS {
-        n += one_if(is_named(allowed, class));
-        class += 1;
+// What stands before the class i of those that are named.
+fn between(i: usize, count: usize) -> &'static [u8] {
+    match (i, count.saturating_sub(i)) {
+        (0, _) | (_, 0) => b"",
+        (_, 1) => b" or ",
+        _ => b", ",
     }
-    n
-}
-
-fn one_if(test: bool) -> usize
-    ensures { result ≤ 1 }
-{
-    if test { 1 } else { 0 }
-}
-
-// The first of the classes that are allowed, words before names and names before marks.
-fn print_allowed(allowed: &[bool; TERMINALS], count: usize, out: Output) -> Output {
-    let mut next = out;
-    let mut named = 0;
-    let mut class = TERMINALS;
-    while 0 < class {
-        class -= 1;
-        if is_named(allowed, class) {
-            next = print_next(class, named, count, next);
-            named += 1;
-        }
-    }
-    if MOST < count {
-        return print(next, b" and others");
-    }
-    next
-}
-
-// One class more, behind those that are named already.
-fn print_next(class: usize, named: usize, count: usize, out: Output) -> Output {
-    if MOST <= named {
-        return out;
-    }
-    if TERMINALS <= class {
-        return out;
-    }
-    let out = print_between(named, count, out);
-    print_class(class as u8, out)
-}
-
-fn print_between(named: usize, count: usize, out: Output) -> Output {
-    if named == 0 {
-        return out;
-    }
-    if count <= named {
-        return out;
-    }
-    if count - named == 1 {
-        return print(out, b" or ");
-    }
-    print(out, b", ")
 }

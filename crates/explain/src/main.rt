@@ -7,6 +7,7 @@
 mod class_name;
 mod count;
 mod expected;
+mod fault;
 mod import;
 mod name;
 mod range;
@@ -17,8 +18,9 @@ mod tokens;
 mod unread;
 mod word;
 
+use fault::Fault;
 use output::Output;
-use reader::{Examined, FILE_BYTES, NUMBER_WORDS, RECORD_WORDS, Refusal};
+use reader::{Examined, FILE_BYTES, NUMBER_WORDS, RECORD_WORDS};
 use source::print_source;
 
 // How many bytes a file's name may have.
@@ -27,10 +29,8 @@ const NAME: usize = 4096;
 fn main(rt: HostRuntime) {
     let count = command::count_arguments(&rt);
     let mut out = start(&rt, count);
-    let mut i = 1;
-    while i < count {
+    for i in 1..count {
         out = explain_argument(&rt, i, out);
-        i += 1;
     }
     output::finish(&rt, out);
 }
@@ -47,9 +47,9 @@ fn explain_argument(rt: &HostRuntime, i: usize, out: Output) -> Output {
     let n = file.name;
     let count = match file.content {
         Ok(count) => count,
-        Err(error) => return output::fail(out, error, &name[0..n]),
+        Err(error) => return output::fail(out, error, &name[..n]),
     };
-    explain_text(&name[0..n], &buf[0..count], out)
+    explain_text(&name[..n], &buf[..count], out)
 }
 
 // Number, place, clause and the other place are the reader's.
@@ -61,32 +61,32 @@ fn explain_text(name: &[u8], text: &[u8], out: Output) -> Output {
             let out = output::show(out, name);
             count::print_accepted(&records, definitions, out)
         }
-        Examined::Refused(refusal) => explain_refusal(name, text, refusal, output::refuse(out)),
+        Examined::Refused(refusal) => explain_fault(
+            Fault {
+                name,
+                text,
+                refusal,
+            },
+            output::refuse(out),
+        ),
     }
 }
 
 // The place at fault with its reason, and then the other one, where the rule is about two.
-fn explain_refusal(name: &[u8], text: &[u8], refusal: Refusal, out: Output) -> Output {
-    let place = refusal.place;
-    let at = place.0;
-    let out = source::print_head(name, text, at, refusal.number, out);
-    let out = reason::print_reason(text, refusal, out);
-    let out = print_source(text, at, out);
-    if shows_other(refusal) {
-        return explain_other(name, text, refusal, out);
+fn explain_fault(fault: Fault, out: Output) -> Output {
+    let place = fault.place();
+    let out = source::print_head(fault, place, out);
+    let out = reason::print_reason(fault, out);
+    let out = print_source(fault.text, place, out);
+    match fault.other() {
+        // The module of an import stands beside the symbol, and is named in the sentence.
+        Some(other) if fault.refusal.number != 10 => explain_other(fault, other, out),
+        _ => out,
     }
-    out
 }
 
-// Whether the other one is shown. The module of an import stands beside the symbol, and is named in the sentence.
-fn shows_other(refusal: Refusal) -> bool {
-    refusal.number != 10 && reason::has_other(refusal)
-}
-
-fn explain_other(name: &[u8], text: &[u8], refusal: Refusal, out: Output) -> Output {
-    let place = refusal.other;
-    let at = place.0;
-    let out = source::print_head(name, text, at, refusal.number, out);
-    let out = reason::print_other(text, refusal, out);
-    print_source(text, at, out)
+fn explain_other(fault: Fault, other: usize, out: Output) -> Output {
+    let out = source::print_head(fault, other, out);
+    let out = reason::print_other(fault, out);
+    print_source(fault.text, other, out)
 }

@@ -1,6 +1,7 @@
 // A place of a text as people see it: its line and column, the line itself, and a mark below the place.
 ghost use Rattle.std.specs.Prelude.{◌≤◌, length};
 
+use crate::fault::Fault;
 use output::{Output, print, print_number, show};
 use position::REACH;
 use visible::WIDEST;
@@ -12,24 +13,20 @@ const SHOWN: usize = WIDEST * REACH;
 pub fn within(text: &[u8], place: usize) -> usize
     ensures { result ≤ length text.now }
 {
-    if place < text.len() {
-        place
-    } else {
-        text.len()
-    }
+    place.min(text.len())
 }
 
 // FILE:LINE:COLUMN: refused NUMBER:, in the form that editors jump to. Columns count bytes.
-pub fn print_head(name: &[u8], text: &[u8], place: usize, number: u8, out: Output) -> Output {
-    let at = within(text, place);
-    let position = position::locate(text, at);
-    let out = show(out, name);
+pub fn print_head(fault: Fault, place: usize, out: Output) -> Output {
+    let at = within(fault.text, place);
+    let position = position::locate(fault.text, at);
+    let out = show(out, fault.name);
     let out = print_colon(out);
     let out = print_number(out, position.line as u64);
     let out = print_colon(out);
     let out = print_number(out, (at - position.start) as u64 + 1);
     let out = print(out, b": refused ");
-    let out = print_number(out, number as u64);
+    let out = print_number(out, fault.refusal.number as u64);
     print(out, b": ")
 }
 
@@ -59,10 +56,7 @@ fn print_part(text: &[u8], at: usize, out: Output) -> Output
 }
 
 fn print_if(test: bool, bytes: &[u8], out: Output) -> Output {
-    if test {
-        return print(out, bytes);
-    }
-    out
+    if test { print(out, bytes) } else { out }
 }
 
 // A mark below the place, behind what stands below what is shown up to it.
@@ -75,6 +69,6 @@ fn print_mark(text: &[u8], at: usize, out: Output) -> Output
     let count = visible::write_visible(text, from, at - from, output::manner(out), &mut shown);
     let n = position::write_margin(&shown, 0, count, &mut margin);
     let out = print_if(position::locate(text, at).start < from, b"  ", out);
-    let out = print(out, &margin[0..n]);
+    let out = print(out, &margin[..n]);
     print(out, b"^\n")
 }

@@ -1,5 +1,5 @@
 // The tokens of a text, cut once more where a sentence needs them.
-ghost use Rattle.std.specs.Prelude.{◌≡◌, ◌≤◌, length};
+ghost use Rattle.std.specs.Prelude.{◌≡◌, ◌≤◌, ◌<◌, IfSome, length};
 ghost use Rattle.token.specs.Table.{longest_text};
 
 use index::wide;
@@ -29,24 +29,18 @@ pub fn collect_tokens(
     }
 }
 
-// The token that starts at a place, of the first n; n where none does.
-pub fn token_at(starts: &[u32], n: usize, place: usize) -> usize
-    ensures { result ≤ n }
-{
-    let mut i = 0;
-    while i < n {
-        if start_at(starts, i) == place {
-            return i;
-        }
-        i += 1;
-    }
-    i
+// The tokens of a text: the class of each, and where it starts.
+#[derive(Clone, Copy)]
+pub struct Tokens<'a> {
+    pub classes: &'a [u8],
+    pub starts: &'a [u32],
 }
 
-// Where token i starts; 0 past the last.
-pub fn start_at(starts: &[u32], i: usize) -> usize {
-    if i < starts.len() {
-        return wide(starts[i]);
+impl<'a> Tokens<'a> {
+    // The token that starts at a place.
+    pub fn at(self, place: usize) -> Option<usize>
+        ensures { IfSome result (λ i. i < length self.entry.starts.now) }
+    {
+        self.starts.iter().position(|start| wide(*start) == place)
     }
-    0
 }

@@ -1,15 +1,16 @@
 // Why no token starts at a place: the byte, and what it could have been.
 use crate::source::within;
-use crate::word::{byte_behind, is_digit, is_word_byte, print_word};
+use crate::word::{byte_behind, print_word};
 use buffer::byte_at;
 use output::{Output, print, print_number};
 
 pub fn print_unread(text: &[u8], place: usize, out: Output) -> Output {
     let out = print_cause(text, place, out);
     if follows_open_text(text, place) {
-        return print(out, b"; a text above may lack its end quote");
+        print(out, b"; a text above may lack its end quote")
+    } else {
+        out
     }
-    out
 }
 
 fn print_cause(text: &[u8], place: usize, out: Output) -> Output {
@@ -31,7 +32,7 @@ fn print_hyphen(text: &[u8], place: usize, out: Output) -> Output {
     if next == b'0' {
         return print(out, b"a hyphen may not stand before 0");
     }
-    if is_digit(next) {
+    if next.is_ascii_digit() {
         let out = print_word(text, place, out);
         return print(
             out,
@@ -47,13 +48,11 @@ fn print_hyphen(text: &[u8], place: usize, out: Output) -> Output {
 // Digits that are no number.
 fn print_digits(text: &[u8], place: usize, out: Output) -> Output {
     let out = print_word(text, place, out);
-    if byte_at(text, place) == b'0' {
-        if is_digit(byte_behind(text, place)) {
-            return print(
-                out,
-                b" starts with 0, as a number of several digits may not",
-            );
-        }
+    if byte_at(text, place) == b'0' && byte_behind(text, place).is_ascii_digit() {
+        return print(
+            out,
+            b" starts with 0, as a number of several digits may not",
+        );
     }
     print(
         out,
@@ -74,28 +73,21 @@ fn print_start(text: &[u8], place: usize, out: Output) -> Output {
     let out = print_number(out, b as u64);
     let out = print_character(text, place, out);
     let out = print(out, b" starts no token");
-    print_advice(b, out)
+    print(out, advice(b))
 }
 
 // Whether the byte-order mark of UTF-8 stands at the place, and that is the text's start.
 fn starts_with_mark(text: &[u8], place: usize) -> bool {
-    if place != 0 {
-        return false;
-    }
-    byte_at(text, 0) == 0xEF && (byte_at(text, 1) == 0xBB && byte_at(text, 2) == 0xBF)
+    place == 0 && text.starts_with(&[0xEF, 0xBB, 0xBF])
 }
 
 // The character that the byte is, where it can be seen.
 fn print_character(text: &[u8], place: usize, out: Output) -> Output {
-    let at = within(text, place);
-    if at < text.len() {
-        match text[at] {
-            b'_' => return print(out, b" (underscore)"),
-            33..=126 => return print_in_brackets(&text[at..at + 1], out),
-            _ => return out,
-        }
+    match byte_at(text, place) {
+        b'_' => print(out, b" (underscore)"),
+        b @ 33..=126 => print_in_brackets(&[b], out),
+        _ => out,
     }
-    out
 }
 
 fn print_in_brackets(bytes: &[u8], out: Output) -> Output {
@@ -104,25 +96,22 @@ fn print_in_brackets(bytes: &[u8], out: Output) -> Output {
     print(out, b")")
 }
 
-fn print_advice(b: u8, out: Output) -> Output {
+fn advice(b: u8) -> &'static [u8] {
     match b {
-        b'_' => print(out, b": a name has letters, digits and hyphens"),
-        b':' => print(out, b": '::=' does"),
-        b'.' => print(out, b": '..' does"),
-        128..=255 => print(out, b": bytes over 127 may stand in comments alone"),
-        _ => out,
+        b'_' => b": a name has letters, digits and hyphens",
+        b':' => b": '::=' does",
+        b'.' => b": '..' does",
+        128..=255 => b": bytes over 127 may stand in comments alone",
+        _ => b"",
     }
 }
 
 // Whether the last quote before the place stands directly before a letter or a digit: as the first quote of a text does, and as the last
 // one, for which it was taken, seldom does.
 fn follows_open_text(text: &[u8], place: usize) -> bool {
-    let mut i = within(text, place);
-    while 0 < i {
-        i -= 1;
-        if byte_at(text, i) == b'"' {
-            return is_word_byte(byte_behind(text, i));
-        }
+    let before = &text[..within(text, place)];
+    match before.iter().rposition(|b| *b == b'"') {
+        Some(i) => byte_behind(text, i).is_ascii_alphanumeric(),
+        None => false,
     }
-    false
 }

@@ -8,39 +8,19 @@ use output::{Output, print, show};
 // The most bytes that are quoted of a word, as many as a name may have.
 const LONGEST: usize = 64;
 
-pub fn is_digit(b: u8) -> bool {
-    match b {
-        b'0'..=b'9' => true,
-        _ => false,
-    }
-}
-
-// Whether a byte is a letter or a digit.
-pub fn is_word_byte(b: u8) -> bool {
-    match b {
-        b'0'..=b'9' | b'A'..=b'Z' | b'a'..=b'z' => true,
-        _ => false,
-    }
-}
-
 // The byte behind a place, or 0 where there is none.
 pub fn byte_behind(text: &[u8], place: usize) -> u8 {
     if place < text.len() {
-        return byte_at(text, place + 1);
+        byte_at(text, place + 1)
+    } else {
+        0
     }
-    0
 }
 
 // Whether a name or a number goes on at i: a letter or a digit, or a hyphen before one.
 fn goes_on(text: &[u8], i: usize) -> bool {
     let b = byte_at(text, i);
-    if is_word_byte(b) {
-        return true;
-    }
-    if b != b'-' {
-        return false;
-    }
-    is_word_byte(byte_behind(text, i))
+    b.is_ascii_alphanumeric() || b == b'-' && byte_behind(text, i).is_ascii_alphanumeric()
 }
 
 // Where the word ends that stands at a place: a name or a number.
@@ -49,14 +29,12 @@ pub fn word_end(text: &[u8], at: usize) -> usize
     ensures low { at ≤ result }
     ensures high { result ≤ length text.now }
 {
-    let mut i = at;
-    while i < text.len() {
-        i += 1;
+    for i in at + 1..text.len() {
         if !goes_on(text, i) {
             return i;
         }
     }
-    i
+    text.len()
 }
 
 // The word that stands at a place, in quotes.
@@ -80,10 +58,7 @@ fn quoted_end(text: &[u8], at: usize) -> usize
     if goes_on(text, at) {
         return word_end(text, at);
     }
-    if at < text.len() {
-        return at + 1;
-    }
-    at
+    text.len().min(at + 1)
 }
 
 fn print_quoted(text: &[u8], at: usize, out: Output) -> Output

@@ -1,24 +1,30 @@
--- Where a piece of a text ends, by what the code found at its place. Assumes nothing.
+-- Which words are the same, and where a piece of a text ends, by what the code found at its place. Assumes nothing.
 use Prim.Native.Nat.{ℕ, ◌+◌, ◌≤◌, ◌<◌}
 use mathlib.Core.Path.{◌≡◌, refl, sym, subst, ◌∙◌, ap}
-use mathlib.Core.List.{List}
-use native.Mathlib.Nat.{add-zero, sub-zero}
+use mathlib.Core.List.{List, [], ◌∷◌}
+use mathlib.Core.Bool.{◌&&◌}
+use native.Mathlib.Nat.{add-zero}
 use native.Mathlib.Omega.{arith}
-use lib.ListN.{length, take, drop, length-drop, drop_of_length-le}
-use lib.Seq.{take-length}
+use lib.Dec.{eqb}
+use lib.Pointwise.{pointwise}
+use lib.ListN.{length, drop, length-drop, drop_of_length-le}
 use Rattle.std.specs.Prelude.{Result, Ok, Err}
 use Rattle.piece.specs.Piece.{Piece, gap, token, refusal, size, piece, punctuation}
 use Rattle.piece.specs.Found.{found_at}
 use Rattle.piece.specs.declared.Found.{Found}
 use Rattle.piece.proofs.Pieces.{Fit}
 use Rattle.token.proofs.Left.{fit_at}
-use Rattle.lexicon.specs.Word.{between}
+use Rattle.lexicon.specs.Word.{between, same}
 use Rattle.lexicon.specs.Byte.{class_of, class_in, rows}
 use Rattle.outside.specs.Outside.{behind, standing}
 
--- a word from its start to its end
-pub whole_word : (w : List ℕ) → between w 0 (length w) ≡ w
-whole_word w = ap (λ n. take n (drop 0 w)) (sub-zero (length w)) ∙ take-length w
+-- byte strings are compared as spellings are
+pub same_is : (a b : List ℕ) → pointwise eqb a b ≡ same a b
+unfolding same
+same_is [] [] = refl
+same_is [] (y ∷ ys) = refl
+same_is (x ∷ xs) [] = refl
+same_is (x ∷ xs) (y ∷ ys) = ap (λ r. eqb x y && r) (same_is xs ys)
 
 module _ (t : List ℕ) (at : ℕ) where
   -- a piece ends where it was found to, and a refusal where it starts

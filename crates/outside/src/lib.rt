@@ -2,17 +2,14 @@
 #![tactic(auto)]
 
 ghost use Rattle.std.specs.Prelude.{◌≡◌, ◌≤◌, length};
-ghost use Rattle.lexicon.specs.Word.{same, between, Within};
-ghost use Rattle.outside.specs.Outside.{among, conformance_words, first_words, kind_of, behind, left_out, is_left, is_outside};
+ghost use Rattle.lexicon.specs.Word.{same};
+ghost use Rattle.outside.specs.Outside.{among, conformance_words, first_words, kind_of, behind, left_out, is_outside};
 
-use lexicon::word::same_spelling;
 use piece::{Found, piece_at};
 
 // What of SMI is left out.
 #[derive(Clone, Copy)]
 pub enum Left {
-    // Nothing: the module is at fault.
-    Nothing,
     // The macros of RFC 2580.
     Conformance,
     // Definitions of macros.
@@ -25,61 +22,49 @@ pub enum Left {
     Choices,
 }
 
-// Whether the bytes from start to end are this word.
-fn is_word(text: &[u8], start: usize, end: usize, word: &[u8]) -> bool
-    requires { Within text.now start end }
-    ensures { result ≡ same (between text.now start end) word.now }
+// Whether a word is spelled so.
+#[tactic(auto, using(crate::proofs::Ends::same_is))]
+fn is_word(word: &[u8], spelling: &[u8]) -> bool
+    ensures { result ≡ same word.now spelling.now }
 {
-    same_spelling(text, start, end, word, 0, word.len())
+    word == spelling
 }
 
-fn is_conformance(text: &[u8], start: usize, end: usize) -> bool
-    requires { Within text.now start end }
-    ensures { result ≡ among (between text.now start end) conformance_words }
+#[tactic(auto, unfolding(crate::specs::Outside::among, crate::specs::Outside::conformance_words, lexicon::specs::Word::bytes))]
+fn is_conformance(word: &[u8]) -> bool
+    ensures { result ≡ among word.now conformance_words }
 {
-    if is_word(text, start, end, b"OBJECT-GROUP") {
-        return true;
-    }
-    if is_word(text, start, end, b"NOTIFICATION-GROUP") {
-        return true;
-    }
-    if is_word(text, start, end, b"MODULE-COMPLIANCE") {
-        return true;
-    }
-    is_word(text, start, end, b"AGENT-CAPABILITIES")
+    is_word(word, b"OBJECT-GROUP")
+        || is_word(word, b"NOTIFICATION-GROUP")
+        || is_word(word, b"MODULE-COMPLIANCE")
+        || is_word(word, b"AGENT-CAPABILITIES")
 }
 
-fn is_of_first_version(text: &[u8], start: usize, end: usize) -> bool
-    requires { Within text.now start end }
-    ensures { result ≡ among (between text.now start end) first_words }
+#[tactic(auto, unfolding(crate::specs::Outside::among, crate::specs::Outside::first_words, lexicon::specs::Word::bytes))]
+fn is_of_first_version(word: &[u8]) -> bool
+    ensures { result ≡ among word.now first_words }
 {
-    if is_word(text, start, end, b"ACCESS") {
-        return true;
-    }
-    is_word(text, start, end, b"TRAP-TYPE")
+    is_word(word, b"ACCESS") || is_word(word, b"TRAP-TYPE")
 }
 
-// What the word from start to end is of.
-fn kind_of(text: &[u8], start: usize, end: usize) -> Left
-    requires { Within text.now start end }
-    ensures { result ≡ kind_of (between text.now start end) }
+// What a word is of.
+#[tactic(auto, unfolding(crate::specs::Outside::kind_of, crate::specs::Outside::macro_word, crate::specs::Outside::exports_word, crate::specs::Outside::choice_word, lexicon::specs::Word::bytes))]
+fn kind_of(word: &[u8]) -> Option<Left>
+    ensures { result ≡ kind_of word.now }
 {
-    if is_conformance(text, start, end) {
-        return Left::Conformance;
+    if is_conformance(word) {
+        Some(Left::Conformance)
+    } else if is_word(word, b"MACRO") {
+        Some(Left::Macros)
+    } else if is_of_first_version(word) {
+        Some(Left::FirstVersion)
+    } else if is_word(word, b"EXPORTS") {
+        Some(Left::Exports)
+    } else if is_word(word, b"CHOICE") {
+        Some(Left::Choices)
+    } else {
+        None
     }
-    if is_word(text, start, end, b"MACRO") {
-        return Left::Macros;
-    }
-    if is_of_first_version(text, start, end) {
-        return Left::FirstVersion;
-    }
-    if is_word(text, start, end, b"EXPORTS") {
-        return Left::Exports;
-    }
-    if is_word(text, start, end, b"CHOICE") {
-        return Left::Choices;
-    }
-    Left::Nothing
 }
 
 // Where the token or gap that stands at a place ends.
@@ -99,48 +84,32 @@ fn piece_end(text: &[u8], at: usize) -> usize
     }
 }
 
-// What a text has at a place that is left out.
-pub fn left_out(text: &[u8], place: usize) -> Left
+// What a text has at a place that is left out; nothing, where the module is at fault.
+#[tactic(auto, unfolding(crate::specs::Outside::left_out, crate::specs::Outside::standing, crate::specs::Outside::macro_word, lexicon::specs::Word::bytes))]
+pub fn left_out(text: &[u8], place: usize) -> Option<Left>
     ensures { result ≡ left_out text.now place }
 {
     if text.len() <= place {
-        return Left::Nothing;
+        return None;
     }
     let end = piece_end(text, place);
     let next = piece_end(text, end);
     let last = piece_end(text, next);
-    if is_word(text, next, last, b"MACRO") {
-        return Left::Macros;
+    if is_word(&text[next..last], b"MACRO") {
+        return Some(Left::Macros);
     }
-    kind_of(text, place, end)
-}
-
-// Whether something is left out.
-fn is_left(left: Left) -> bool
-    ensures { result ≡ is_left left }
-{
-    match left {
-        Left::Nothing => false,
-        Left::Conformance => true,
-        Left::Macros => true,
-        Left::FirstVersion => true,
-        Left::Exports => true,
-        Left::Choices => true,
-    }
+    kind_of(&text[place..end])
 }
 
 // Whether the refusal of this number and clause, at this place of the text, is of what is left out.
+#[tactic(auto, unfolding(crate::specs::Outside::is_outside))]
 pub fn is_outside(number: u8, clause: u8, text: &[u8], place: usize) -> bool
     ensures { result ≡ is_outside number clause text.now place }
 {
-    if number == 2 {
-        return true;
+    match number {
+        2 => true,
+        7 => left_out(text, place).is_some(),
+        10 => clause == 2,
+        _ => false,
     }
-    if number == 10 {
-        return clause == 2;
-    }
-    if number == 7 {
-        return is_left(left_out(text, place));
-    }
-    false
 }

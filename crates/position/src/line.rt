@@ -1,6 +1,6 @@
 // Lines of a text.
 ghost use Rattle.std.specs.Prelude.{◌≡◌, ◌≤◌, length};
-ghost use Rattle.position.specs.Line.{is_end, line_at, start_at, without_return, end_at, feed_after};
+ghost use Rattle.position.specs.Line.{line_at, start_at, without_return, end_at, feed_after};
 
 const LINE_FEED: u8 = 10;
 
@@ -13,14 +13,8 @@ pub struct Position {
     pub start: usize,
 }
 
-// Whether a line ends at byte i.
-fn is_end(text: &[u8], i: usize) -> bool
-    ensures { result ≡ is_end text.now i }
-{
-    buffer::byte_at(text, i) == LINE_FEED
-}
-
 // The line that a place stands in.
+#[tactic(auto, using(crate::proofs::LineLaws::line_steps))]
 pub fn locate(text: &[u8], place: usize) -> Position
     requires { place ≤ length text.now }
     ensures line { result.line ≡ line_at text.now place }
@@ -29,32 +23,28 @@ pub fn locate(text: &[u8], place: usize) -> Position
 {
     let mut line = 1;
     let mut start = 0;
-    let mut i = 0;
-    while i < place {
-        if is_end(text, i) {
+    for (i, b) in text[..place].iter().enumerate() {
+        if *b == LINE_FEED {
             line += 1;
-            i += 1;
-            start = i;
-        } else {
-            i += 1;
+            start = i + 1;
         }
     }
     Position { line, start }
 }
 
 // Where a line from `place` on ends that runs up to `end`: before a carriage return, where one ends it.
+#[tactic(auto, unfolding(crate::specs::Line::without_return))]
 fn without_return(text: &[u8], place: usize, end: usize) -> usize
     requires order { place ≤ end }
     ensures is { result ≡ without_return text.now place end }
     ensures low { place ≤ result }
     ensures high { result ≤ end }
 {
-    if place < end {
-        if buffer::byte_at(text, end - 1) == CARRIAGE_RETURN {
-            return end - 1;
-        }
+    if place < end && buffer::byte_at(text, end - 1) == CARRIAGE_RETURN {
+        end - 1
+    } else {
+        end
     }
-    end
 }
 
 // Where the next line feed stands from a place on, or where the text ends.

@@ -2,21 +2,19 @@
 ghost use Rattle.std.specs.Prelude.{◌≡◌, ◌+◌, ◌≤◌, ◌<◌, length, take};
 ghost use Rattle.position.specs.Margin.{reaches, is_inside, below, margin};
 
-use buffer::byte_at;
 use character::sequence_size;
 
 // Whether a character that starts so many bytes before byte k reaches over it.
+#[tactic(auto, unfolding(crate::specs::Margin::reaches))]
 fn reaches(text: &[u8], k: usize, back: usize) -> bool
     requires index { k < length text.now }
     ensures { result ≡ reaches text.now k back }
 {
-    if back <= k {
-        return back < sequence_size(text, k - back);
-    }
-    false
+    back <= k && back < sequence_size(text, k - back)
 }
 
 // Whether byte k is one of a character's further bytes.
+#[tactic(auto, unfolding(crate::specs::Margin::is_inside))]
 pub fn is_inside(text: &[u8], k: usize) -> bool
     requires index { k < length text.now }
     ensures { result ≡ is_inside text.now k }
@@ -25,19 +23,18 @@ pub fn is_inside(text: &[u8], k: usize) -> bool
 }
 
 // What stands below a character that starts with this byte.
+#[tactic(auto, unfolding(crate::specs::Margin::below))]
 fn below(b: u8) -> u8
     ensures { result ≡ below b }
 {
-    if b < 9 {
-        32
-    } else if b <= 13 {
-        b
-    } else {
-        32
+    match b {
+        9..=13 => b,
+        _ => b' ',
     }
 }
 
 // Lays what stands below the `count` bytes from `start` on into the buffer, and answers how many bytes that takes.
+#[tactic(auto, using(crate::proofs::MarginLaws::margin_steps))]
 pub fn write_margin(text: &[u8], start: usize, count: usize, out: &mut [u8]) -> usize
     requires inside { start + count ≤ length text.now }
     requires room { count ≤ length out.old }
@@ -45,14 +42,11 @@ pub fn write_margin(text: &[u8], start: usize, count: usize, out: &mut [u8]) -> 
     ensures bytes { take result out.new ≡ margin text.now start count }
 {
     let mut n = 0;
-    let mut i = 0;
-    while i < count {
-        if is_inside(text, start + i) {
-            i += 1;
-        } else {
-            out[n] = below(byte_at(text, start + i));
+    for i in 0..count {
+        let k = start + i;
+        if !is_inside(text, k) {
+            out[n] = below(text[k]);
             n += 1;
-            i += 1;
         }
     }
     n

@@ -22,19 +22,16 @@ fn first_start(text: &[u8], k: usize) -> usize
     ensures low { k ≤ result }
     ensures high { result ≤ k + 3 }
 {
-    if !is_inside(text, k) {
-        return k;
-    }
-    if !is_inside(text, k + 1) {
-        return k + 1;
-    }
-    if !is_inside(text, k + 2) {
-        return k + 2;
+    for i in k..k + 3 {
+        if !is_inside(text, i) {
+            return i;
+        }
     }
     k + 3
 }
 
 // Where the part starts that is shown of the line that a place stands in.
+#[tactic(auto, unfolding(crate::specs::Window::shown_from))]
 fn shown_from(text: &[u8], place: usize) -> usize
     requires { place ≤ length text.now }
     ensures is { result ≡ shown_from text.now place }
@@ -49,6 +46,7 @@ fn shown_from(text: &[u8], place: usize) -> usize
 }
 
 // Where it ends. The first place from three bytes before the limit on is not past it.
+#[tactic(auto, unfolding(crate::specs::Window::shown_to))]
 fn shown_to(text: &[u8], place: usize) -> usize
     requires { place ≤ length text.now }
     ensures is { result ≡ shown_to text.now place }

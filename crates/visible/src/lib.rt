@@ -21,13 +21,15 @@ pub struct Manner {
 pub const WIDEST: usize = 4;
 
 // Whether a byte is a control byte of ASCII.
+#[tactic(auto, unfolding(crate::specs::Visible::is_control))]
 fn is_control(b: u8) -> bool
     ensures { result ≡ is_control b }
 {
-    (b < 32) | (b == 127)
+    b < 32 || b == 127
 }
 
 // The byte before byte k, or 0 where k is the first.
+#[tactic(auto, unfolding(crate::specs::Visible::byte_before))]
 fn byte_before(bytes: &[u8], k: usize) -> u8
     ensures { result ≡ byte_before bytes.now k }
 {
@@ -35,46 +37,43 @@ fn byte_before(bytes: &[u8], k: usize) -> u8
 }
 
 // Whether byte k is one of the later control bytes, 128 to 159: alone, or as the character of that number.
+#[tactic(auto, unfolding(crate::specs::Visible::is_late_control))]
 fn is_late_control(bytes: &[u8], k: usize) -> bool
     requires { k < length bytes.now }
     ensures { result ≡ is_late_control bytes.now k }
 {
-    let b = byte_at(bytes, k);
-    if b < 128 {
-        return false;
+    match byte_at(bytes, k) {
+        128..=159 => !is_inside(bytes, k) || byte_before(bytes, k) == 0xC2,
+        _ => false,
     }
-    if 159 < b {
-        return false;
-    }
-    if is_inside(bytes, k) {
-        return byte_before(bytes, k) == 0xC2;
-    }
-    true
 }
 
 // Whether byte k would break a line of a list, or be taken for the escape of one that does.
+#[tactic(auto, unfolding(crate::specs::Visible::breaks_line))]
 fn breaks_line(bytes: &[u8], k: usize) -> bool
     ensures { result ≡ breaks_line bytes.now k }
 {
     let b = byte_at(bytes, k);
-    is_control(b) | (b == b'\\')
+    is_control(b) || b == b'\\'
 }
 
 // Whether byte k would do more at a terminal than be seen.
+#[tactic(auto, unfolding(crate::specs::Visible::breaks_terminal))]
 fn breaks_terminal(bytes: &[u8], k: usize) -> bool
     requires { k < length bytes.now }
     ensures { result ≡ breaks_terminal bytes.now k }
 {
     let b = byte_at(bytes, k);
-    (is_control(b) & (b != b'\t')) | is_late_control(bytes, k)
+    (is_control(b) && b != b'\t') || is_late_control(bytes, k)
 }
 
 // Whether byte k is written as its number.
+#[tactic(auto, unfolding(crate::specs::Visible::is_hidden))]
 fn is_hidden(bytes: &[u8], k: usize, manner: Manner) -> bool
     requires { k < length bytes.now }
     ensures { result ≡ is_hidden manner bytes.now k }
 {
-    (manner.line & breaks_line(bytes, k)) | (manner.terminal & breaks_terminal(bytes, k))
+    (manner.line && breaks_line(bytes, k)) || (manner.terminal && breaks_terminal(bytes, k))
 }
 
 // Writes a byte as its number, and answers the place after it.
@@ -115,10 +114,8 @@ pub fn write_visible(
     ensures inside { result ≤ length out.new }
 {
     let mut next = 0;
-    let mut i = 0;
-    while i < count {
+    for i in 0..count {
         next = write_seen(bytes, from + i, manner, out, next);
-        i += 1;
     }
     next
 }

@@ -1,6 +1,0 @@
--- The files are counted up to the last.
-use Rattle.std.proofs.Common.{◌-◌}
-use Rattle.explain.proofs.main.Given as goal
-
-abbrev pub decreases-loop-i : goal.decreases-loop-i
-decreases-loop-i l = l.count - l.i
