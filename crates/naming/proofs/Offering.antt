@@ -6,7 +6,6 @@ use mathlib.Core.List.{List}
 use Prim.Native.Nat.{ℕ, ◌+◌, ◌<◌}
 use native.Mathlib.Omega.{arith}
 use Rattle.rule.specs.Rule.{judge_one}
-use Rattle.rule.specs.declared.Judgement.TheVariants.{Broken}
 use Rattle.rule.proofs.Judged.{Judging, judging_next, judging_broken}
 use Rattle.token.specs.Token.{Meaning}
 use Rattle.symbol.specs.Symbol.{symbol_of}
@@ -18,6 +17,7 @@ use Rattle.scope.specs.Held.{import_word}
 use Rattle.naming.specs.Rules.{not_offered}
 use Rattle.naming.specs.Told.{offer_at, missing}
 use Rattle.naming.specs.declared.offer.Offer.TheVariants.{Word, Missing}
+use Rattle.std.specs.Prelude.{Err}
 
 module _ (ms : List Meaning) (i : ℕ) where
   abbrev breaks : Bool
@@ -60,6 +60,6 @@ module _ (ms : List Meaning) (i : ℕ) where
     unfolding not_offered
     offer_next w e = judging_next g h {test = false} (sym (word_kept w e)) refl
 
-    pub offer_judged : Missing ≡ offer_at ms i → Broken (missing ms i) ≡ judge_one (not_offered ms)
+    pub offer_judged : Missing ≡ offer_at ms i → Err (missing ms i) ≡ judge_one (not_offered ms)
     unfolding not_offered
     offer_judged e = judging_broken g h {test = true} (sym (missing_broken e)) refl _ refl

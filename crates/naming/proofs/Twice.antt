@@ -10,7 +10,6 @@ use lib.ListN.{length, replicate}
 use Rattle.index.specs.First.{any}
 use Rattle.index.proofs.Search.{true_false, answers, first_from, first_passed, first_is, first_end, any_at, none_any}
 use Rattle.rule.specs.Rule.{judge_one}
-use Rattle.rule.specs.declared.Judgement.TheVariants.{Kept, Broken}
 use Rattle.rule.proofs.Judged.{Judging, judging_start, judging_next, judging_broken, judging_kept}
 use Rattle.lexicon.specs.Word.{same}
 use Rattle.lexicon.proofs.Words.{same_equal}
@@ -28,6 +27,7 @@ use Rattle.scope.specs.Lead.{introduces}
 use Rattle.naming.specs.Rules.{introduces_name, is_again, first_name, introduced_again}
 use Rattle.naming.specs.Told.{Introduces}
 use Rattle.naming.specs.declared.again.Introduced.TheVariants.{New, Again}
+use Rattle.std.specs.Prelude.{Ok, Err}
 
 pub or_second : (a b : Bool) → b ≡ true → (a || b) ≡ true
 or_second true b e = refl
@@ -96,7 +96,7 @@ module _ (ms : List Meaning) where
       again_next e = judging_next g h {test = false} (sym e) refl
 
       pub again_judged : introduces (classes_of ms) i ≡ true → (j : ℕ) → Introduces ms i (Again j)
-          → Broken (record { number = 9; clause = 0; token = record { 0 = i }; other = record { 0 = j } }) ≡ judge_one (introduced_again ms)
+          → Err (record { number = 9; clause = 0; token = record { 0 = i }; other = record { 0 = j } }) ≡ judge_one (introduced_again ms)
       unfolding introduced_again
       again_judged own j told =
           judging_broken g h {test = true} (sym (again_broken i own j told)) refl _
@@ -169,8 +169,8 @@ module _ (text starts ends : List ℕ) (t : TokensHeld text (classes_of (meaning
         }
 
         pub naming_again : (j : ℕ) → Introduces (meanings_in text) i (Again j)
-            → Broken (record { number = 9; clause = 0; token = record { 0 = i }; other = record { 0 = j } }) ≡ judge_one (introduced_again (meanings_in text))
+            → Err (record { number = 9; clause = 0; token = record { 0 = i }; other = record { 0 = j } }) ≡ judge_one (introduced_again (meanings_in text))
         naming_again j told = again_judged (meanings_in text) (length cs) i c.judging h own j told
 
-    pub naming_end : length cs ≤ i → Kept ≡ judge_one (introduced_again (meanings_in text))
+    pub naming_end : length cs ≤ i → Ok tt ≡ judge_one (introduced_again (meanings_in text))
     naming_end h = judging_kept c.judging h

@@ -13,7 +13,7 @@ ghost use Rattle.naming.specs.declared.again.Introduced.TheVariants.{New};
 use definition::begins;
 use index::{TokenIndex, wide};
 use name_tree::{KEYS, admit};
-use rule::{Finding, Judgement};
+use rule::Finding;
 use scope::{imports_end, is_import};
 use symbol::part::names_iso;
 
@@ -71,7 +71,7 @@ pub fn judge_introduced(
     starts: &[u32],
     ends: &[u32],
     links: &mut [u32],
-) -> Judgement
+) -> Result<(), Finding>
     requires tokens { TokensHeld text.now classes.now starts.now ends.now }
     requires links { length links.old ≡ length classes.now }
     ensures long { length links.new ≡ length links.old }
@@ -84,7 +84,7 @@ pub fn judge_introduced(
         if introduces(classes, end, i) {
             let told = introduction(text, starts, ends, &mut heads, links, i);
             if let Introduced::Again(j) = told {
-                return Judgement::Broken(Finding {
+                return Err(Finding {
                     number: 9,
                     clause: 0,
                     token: TokenIndex(i),
@@ -96,5 +96,5 @@ pub fn judge_introduced(
             i += 1;
         }
     }
-    Judgement::Kept
+    Ok(())
 }

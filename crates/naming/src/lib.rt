@@ -23,7 +23,7 @@ use module_table::WIDTH;
 use number::fill_numbers;
 use offer::judge_offers;
 use outline::{Collected, collect_outline};
-use rule::{Finding, Judgement};
+use rule::Finding;
 use usage::judge_uses;
 
 // What the rules on names say of a module.
@@ -55,7 +55,7 @@ fn judge_names(
     ends: &[u32],
     values: &mut [u32],
     definitions: &[usize],
-) -> Judgement
+) -> Result<(), Finding>
     requires tokens { TokensHeld text.now classes.now starts.now ends.now }
     requires values { length values.old ≡ length classes.now }
     requires outlined { definitions_in definitions.now ≡ outline (classes_of (meanings_in text.now)) }
@@ -65,28 +65,28 @@ fn judge_names(
     ensures filled { ValuesFilled (meanings_in text.now) result values.new }
 {
     let introduced = judge_introduced(text, classes, starts, ends, values);
-    let Judgement::Kept = introduced else {
+    let Ok(()) = introduced else {
         return introduced;
     };
     let offers = judge_offers(text, classes, starts, ends, values);
-    let Judgement::Kept = offers else {
+    let Ok(()) = offers else {
         return offers;
     };
     let uses = judge_uses(text, classes, starts, ends, values, definitions);
-    let Judgement::Kept = uses else {
+    let Ok(()) = uses else {
         return uses;
     };
     fill_numbers(text, classes, starts, ends, values);
-    Judgement::Kept
+    Ok(())
 }
 
 // The answer to definitions that were collected and rules that were judged.
-fn answer(count: usize, judged: Judgement) -> Names
+fn answer(count: usize, judged: Result<(), Finding>) -> Names
     ensures { result ≡ answer_of count judged }
 {
     match judged {
-        Judgement::Kept => Names::Named(count),
-        Judgement::Broken(f) => Names::Broken(f),
+        Ok(()) => Ok(count),
+        Err(f) => Err(f),
     }
 }
 
@@ -110,7 +110,7 @@ pub fn read_names(
 {
     let collected = collect_outline(classes, definitions);
     match collected {
-        Collected::TooMany(token) => Names::Broken(plain_finding(8, token.0)),
+        Collected::TooMany(token) => Err(plain_finding(8, token.0)),
         Collected::All(count) => answer(
             count,
             judge_names(

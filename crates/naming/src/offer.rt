@@ -9,7 +9,7 @@ ghost use Rattle.naming.specs.Told.{offer_at, missing, ImportsFilled};
 
 use index::TokenIndex;
 use module_table::{Lead, word_for};
-use rule::{Finding, Judgement};
+use rule::Finding;
 use scope::{imports_end, is_import, is_offered, name_at, source};
 use symbol::part::{names_module, symbol_named};
 
@@ -82,7 +82,7 @@ pub fn judge_offers(
     starts: &[u32],
     ends: &[u32],
     values: &mut [u32],
-) -> Judgement
+) -> Result<(), Finding>
     requires tokens { TokensHeld text.now classes.now starts.now ends.now }
     requires values { length values.old ≡ length classes.now }
     ensures long { length values.new ≡ length values.old }
@@ -94,10 +94,10 @@ pub fn judge_offers(
     while i < end {
         let offer = offer_at(text, classes, starts, ends, end, i);
         let Offer::Word(word) = offer else {
-            return Judgement::Broken(missing_finding(text, classes, starts, ends, i));
+            return Err(missing_finding(text, classes, starts, ends, i));
         };
         values[i] = word;
         i += 1;
     }
-    Judgement::Kept
+    Ok(())
 }

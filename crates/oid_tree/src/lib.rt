@@ -19,7 +19,7 @@ pub use crate::room::MOST_NUMBERS;
 use crate::room::judge_lengths;
 use crate::writer::write_oids;
 use oid_head::judge_reached;
-use rule::Judgement;
+use rule::Finding;
 
 // Refusals 12 to 14. Where they are kept, each definition says where the numbers of its OID start and how many they are, and the
 // number buffer holds them.
@@ -28,7 +28,7 @@ pub fn collect_oids(
     values: &[u32],
     definitions: &mut [usize],
     numbers: &mut [u32],
-) -> Judgement
+) -> Result<(), Finding>
     requires tokens { length classes.now ≤ longest_text }
     requires definitions { length definitions.old ≤ most_definitions * width }
     requires numbers { most_numbers ≤ length numbers.old }
@@ -36,12 +36,12 @@ pub fn collect_oids(
         definitions.old definitions.new numbers.old numbers.new }
 {
     let reached = judge_reached(values, definitions);
-    let Judgement::Kept = reached else {
+    let Ok(()) = reached else {
         return reached;
     };
     measure(classes, values, definitions);
     let lengths = judge_lengths(definitions);
-    let Judgement::Kept = lengths else {
+    let Ok(()) = lengths else {
         return lengths;
     };
     write_oids(classes, values, definitions, numbers);

@@ -7,7 +7,7 @@ ghost use Rattle.oid_tree.specs.Refusal.{long_by_count, room_by_count};
 use index::RecordIndex;
 use module_table::{count, definition_at};
 use oid_head::finding_at;
-use rule::Judgement;
+use rule::Finding;
 
 // The numbers of the refusals.
 const TOO_LONG: u8 = 13;
@@ -20,7 +20,7 @@ const LONGEST_OID: usize = 128;
 pub const MOST_NUMBERS: usize = 8192;
 
 // The first definition whose OID has over 128 numbers.
-fn judge_long(definitions: &[usize]) -> Judgement
+fn judge_long(definitions: &[usize]) -> Result<(), Finding>
     ensures { result ≡ judge_one (long_by_count (definitions_in definitions.now)) }
 {
     let c = count(definitions);
@@ -28,15 +28,15 @@ fn judge_long(definitions: &[usize]) -> Judgement
     while k < c {
         let own = definition_at(definitions, RecordIndex(k));
         if LONGEST_OID < own.count {
-            return Judgement::Broken(finding_at(definitions, RecordIndex(k), TOO_LONG));
+            return Err(finding_at(definitions, RecordIndex(k), TOO_LONG));
         }
         k += 1;
     }
-    Judgement::Kept
+    Ok(())
 }
 
 // The definition with which the numbers pass 8,192.
-fn judge_room(definitions: &[usize]) -> Judgement
+fn judge_room(definitions: &[usize]) -> Result<(), Finding>
     ensures { result ≡ judge_one (room_by_count (definitions_in definitions.now)) }
 {
     let c = count(definitions);
@@ -45,21 +45,21 @@ fn judge_room(definitions: &[usize]) -> Judgement
     while k < c {
         let own = definition_at(definitions, RecordIndex(k));
         if MOST_NUMBERS - total < own.count {
-            return Judgement::Broken(finding_at(definitions, RecordIndex(k), PAST_ROOM));
+            return Err(finding_at(definitions, RecordIndex(k), PAST_ROOM));
         }
         total += own.count;
         k += 1;
     }
-    Judgement::Kept
+    Ok(())
 }
 
 // Refusals 13 and 14, of definitions that say how many numbers they have.
-pub fn judge_lengths(definitions: &[usize]) -> Judgement
+pub fn judge_lengths(definitions: &[usize]) -> Result<(), Finding>
     ensures { result ≡ judge (long_by_count (definitions_in definitions.now) ∷ room_by_count
         (definitions_in definitions.now) ∷ []) }
 {
     let long = judge_long(definitions);
-    let Judgement::Kept = long else {
+    let Ok(()) = long else {
         return long;
     };
     judge_room(definitions)

@@ -12,10 +12,8 @@ use lib.ListN.{length, take, get_or-eq_default}
 use lib.Seq.{take_at}
 use Rattle.index.proofs.Search.{true_false, answers}
 use Rattle.terminal.specs.Terminal.{lower, current}
-use Rattle.rule.specs.Rule.{judge_one, judge}
+use Rattle.rule.specs.Rule.{judge_one, judge, Judgement}
 use Rattle.rule.specs.declared.Finding.{Finding}
-use Rattle.rule.specs.declared.Judgement.{Judgement}
-use Rattle.rule.specs.declared.Judgement.TheVariants.{Kept, Broken}
 use Rattle.token.specs.Token.{Tok, Meaning, meanings, class_of_token}
 use Rattle.token.specs.Cut.{cut, meanings_in}
 use Rattle.token.specs.Table.{overlaid}
@@ -52,6 +50,7 @@ use Rattle.reader.proofs.Counting.{numbers_counted}
 use Rattle.reader.proofs.Row.{first_kept}
 use Rattle.reader.proofs.Spelled.{rules_judged}
 use Rattle.reader.proofs.TwoNumbers.{notifications_two}
+use Rattle.std.specs.Prelude.{Ok, Err}
 
 -- ---- how names are spelled
 
@@ -92,7 +91,7 @@ module _ (text classes starts ends : List ℕ) (t : TokensHeld text classes star
       pub oids_judged : r ≡ judge (collecting_rules (named ms))
       oids_judged = c.judged ∙ ap (λ (m : Module). judge (collecting_rules m)) named_held
 
-      module _ (kept : r ≡ Kept) where
+      module _ (kept : r ≡ Ok tt) where
         oids_held : definitions_in w1 ≡ (numbered ms).definitions
         oids_held = (c.held kept).definitions ∙ ap (λ (m : Module). (with_oids m).definitions) named_held
 
@@ -154,17 +153,17 @@ module _ (text classes starts ends : List ℕ) (t : TokensHeld text classes star
 -- ---- the answer
 
 module _ (ts : List Tok) (starts : List ℕ) (held : starts ≡ starts_of ts) (r j : Judgement) (is : r ≡ j) where
-  pub answer_broken : (f : Finding) → r ≡ Broken f → (a : Examined) → a ≡ refusal_of starts r → a ≡ examined_to (judged ts j)
+  pub answer_broken : (f : Finding) → r ≡ Err f → (a : Examined) → a ≡ refusal_of starts r → a ≡ examined_to (judged ts j)
   answer_broken f e a answered =
-      answered ∙ ap (refusal_of starts) e ∙ ap (λ (s : List ℕ). refusal_of s (Broken f)) held
+      answered ∙ ap (refusal_of starts) e ∙ ap (λ (s : List ℕ). refusal_of s (Err f)) held
       ∙ sym (ap (λ (x : Judgement). examined_to (judged ts x)) (sym is ∙ e))
 
-  pub laid_broken : (f : Finding) → r ≡ Broken f → (records numbers numbers' : List ℕ) → length numbers' ≡ length numbers
+  pub laid_broken : (f : Finding) → r ≡ Err f → (records numbers numbers' : List ℕ) → length numbers' ≡ length numbers
       → Laid (judged ts j) records records numbers numbers'
   laid_broken f e records numbers numbers' same =
       subst (λ (x : Judgement). Laid (judged ts x) records records numbers numbers') (sym (sym is ∙ e)) (refl, same)
 
-module _ (ts : List Tok) (j : Judgement) (kept : j ≡ Kept) where
+module _ (ts : List Tok) (j : Judgement) (kept : j ≡ Ok tt) where
   pub answer_kept : (count : ℕ) → count ≡ count_of (module_of (meanings ts)) → Accepted count ≡ examined_to (judged ts j)
   answer_kept count counted = ap Accepted counted ∙ sym (ap (λ (x : Judgement). examined_to (judged ts x)) kept)
 

@@ -1,8 +1,7 @@
 -- What the calls answer and what they leave in the two buffers, for any text and any buffers.
 -- Assumes nothing.
-use Rattle.std.specs.Prelude.{◌≡◌, ◌⊎◌, List, [], ◌++◌, ℕ, ◌-◌, ◌*◌, ◌≤◌, ◌<◌, length, get_or, drop, replicate}
-use Rattle.rule.specs.declared.Judgement.{Judgement}
-use Rattle.rule.specs.declared.Judgement.TheVariants as judgement
+use Rattle.std.specs.Prelude.{◌≡◌, ◌⊎◌, List, [], ◌++◌, ℕ, ◌-◌, ◌*◌, ◌≤◌, ◌<◌, length, get_or, drop, replicate, Ok, Err}
+use Rattle.rule.specs.Rule.{Judgement}
 use Rattle.token.specs.Table.{longest_text, overlaid}
 use Rattle.module_table.specs.Module.{most_definitions}
 use Rattle.oid_tree.specs.Refusal.{most_numbers}
@@ -83,8 +82,8 @@ alone number place =
 
 -- the answer where a rule is broken; `starts` are where the tokens start
 abbrev pub refusal_of : List ℕ → Judgement → Examined
-refusal_of starts judgement.Kept = examined.Accepted 0
-refusal_of starts (judgement.Broken f) =
+refusal_of starts (Ok tt) = examined.Accepted 0
+refusal_of starts (Err f) =
     examined.Refused (record {
       number = f.number;
       clause = f.clause;

@@ -23,7 +23,7 @@ use naming::{Names, read_names};
 use oid_holder::judge_twins;
 use oid_tree::collect_oids;
 use records::write_records;
-use rule::Judgement;
+use rule::Finding;
 use token::LONGEST_TEXT;
 
 // How many words the most definitions have.
@@ -48,12 +48,12 @@ fn start_of(starts: &[u32], i: TokenIndex) -> Place
 }
 
 // The answer to a judgement that refuses. To one that keeps all, which is none, it answers no definitions.
-fn refused(starts: &[u32], verdict: Judgement) -> Examined
+fn refused(starts: &[u32], verdict: Result<(), Finding>) -> Examined
     ensures { result ≡ refusal_of starts.now verdict }
 {
     match verdict {
-        Judgement::Kept => Examined::Accepted(0),
-        Judgement::Broken(finding) => {
+        Ok(()) => Examined::Accepted(0),
+        Err(finding) => {
             let token = finding.token;
             let other = finding.other;
             Examined::Refused(Refusal {
@@ -67,12 +67,12 @@ fn refused(starts: &[u32], verdict: Judgement) -> Examined
 }
 
 // What the rules on names say.
-fn verdict_of(names: Names) -> Judgement
+fn verdict_of(names: Names) -> Result<(), Finding>
     ensures { result ≡ judgement names }
 {
     match names {
-        Names::Named(_) => Judgement::Kept,
-        Names::Broken(finding) => Judgement::Broken(finding),
+        Ok(_) => Ok(()),
+        Err(finding) => Err(finding),
     }
 }
 
@@ -125,28 +125,28 @@ pub fn read_derived(
     let mut values = blank_values();
     let mut table = blank_table();
     let names = read_names(text, classes, starts, ends, &mut values[..n], &mut table);
-    let Names::Named(count) = names else {
+    let Ok(count) = names else {
         return refused(starts, verdict_of(names));
     };
     let words = count * WIDTH;
     let values = &values[..n];
     let definitions = &mut table[..words];
     let oids = collect_oids(classes, values, definitions, numbers);
-    let Judgement::Kept = oids else {
+    let Ok(()) = oids else {
         return refused(starts, oids);
     };
     let used = numbers_used(definitions);
     let numbers = &numbers[..used];
     let twins = judge_twins(definitions, numbers);
-    let Judgement::Kept = twins else {
+    let Ok(()) = twins else {
         return refused(starts, twins);
     };
     let syntaxes = judge_syntaxes(text, starts, ends, classes, values, definitions);
-    let Judgement::Kept = syntaxes else {
+    let Ok(()) = syntaxes else {
         return refused(starts, syntaxes);
     };
     let objects = judge_objects(values, definitions, numbers);
-    let Judgement::Kept = objects else {
+    let Ok(()) = objects else {
         return refused(starts, objects);
     };
     write_records(starts, ends, definitions, records);

@@ -8,7 +8,6 @@ use Prim.Native.Nat.{ℕ, ◌*◌, ◌≤◌, ◌<◌}
 use native.Mathlib.Omega.{arith}
 use lib.ListN.{length, take, drop}
 use Rattle.rule.specs.Rule.{judge}
-use Rattle.rule.specs.declared.Judgement.TheVariants.{Kept}
 use Rattle.rule.proofs.Judged.{AllKept, judged_kept}
 use Rattle.token.specs.Token.{Meaning}
 use Rattle.token.specs.Cut.{cut, meanings_in}
@@ -38,6 +37,7 @@ use Rattle.statements.proofs.CutOut.{words_cut}
 use Rattle.statements.proofs.Room.{kept_rest, words_fit}
 use Rattle.statements.proofs.Breaches.{Ordered}
 use Rattle.statements.proofs.Right.{refused_exactly, accepted_exactly, accepted_is, later_refusal}
+use Rattle.std.specs.Prelude.{Ok}
 
 -- where all rules are kept, each definition of a kind with an OID has the numbers that are resolved, and no others
 resolved_of : (ms : List Meaning) → AllKept (rules ms) → (k : ℕ) → k < definitions_in (module_of ms) → has_value (at (named ms) k) ≡ true
@@ -84,12 +84,12 @@ module _ (text : List ℕ) (order : Ordered (meanings_in text)) (placed : Placed
 
     -- where it is accepted
     module _ (zero : number_of answer ≡ 0) where
-      all_kept : (judge (rules (meanings_in text)) ≡ Kept) × (found ≡ judged (cut text).tokens Kept)
+      all_kept : (judge (rules (meanings_in text)) ≡ Ok tt) × (found ≡ judged (cut text).tokens (Ok tt))
       all_kept =
           let c = accepted_is text order placed answer records records' numbers numbers' reads zero in
           accepted_kept text parsing c.0 (sym left.answered ∙ c.1)
 
-      found_all : found ≡ judged (cut text).tokens Kept
+      found_all : found ≡ judged (cut text).tokens (Ok tt)
       found_all = all_kept.1
 
       all_counted : answered_count answer ≡ definitions_in (module_of (meanings_in text))

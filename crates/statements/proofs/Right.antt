@@ -6,9 +6,7 @@ use mathlib.Core.List.{List}
 use Prim.Native.Nat.{ℕ, ◌<◌}
 use native.Mathlib.Omega.{arith}
 use lib.ListN.{length}
-use Rattle.rule.specs.Rule.{judge}
-use Rattle.rule.specs.declared.Judgement.{Judgement}
-use Rattle.rule.specs.declared.Judgement.TheVariants.{Kept, Broken}
+use Rattle.rule.specs.Rule.{judge, Judgement}
 use Rattle.rule.proofs.Judged.{judged_kept, judged_broken}
 use Rattle.token.specs.Cut.{Ending, whole, refused, cut, meanings_in}
 use Rattle.grammar.specs.Answer.{Verdict, derived}
@@ -24,6 +22,7 @@ use Rattle.statements.proofs.Ordered.{Placed}
 use Rattle.statements.specs.Breach.{WithinLimits, Cuts, InBreach, FirstBreach}
 use Rattle.statements.proofs.Limits.{Lent, short, long, within, lent}
 use Rattle.statements.proofs.Breaches.{Ordered, Least, least_first, one_first, numbered, first_short, first_long, past_limits, first_uncut, first_underived, none_broken, first_broken}
+use Rattle.std.specs.Prelude.{Ok, Err}
 
 -- what an answer says of breaches, where the buffers lent have so many words
 abbrev pub Right : List ℕ → ℕ → ℕ → Answer → Type 0
@@ -42,8 +41,8 @@ module _ (text : List ℕ) (order : Ordered (meanings_in text)) (placed : Placed
     by_verdict cuts derived d = go (judge (rules (meanings_in text))) refl
       where
         go : (j : Judgement) → judge (rules (meanings_in text)) ≡ j → Right text a b (answer_to (judged (cut text).tokens j))
-        go Kept is = none_broken text a b order limits cuts (d.otherwise.0 refl) (judged_kept (rules (meanings_in text)) is)
-        go (Broken f) is =
+        go (Ok tt) is = none_broken text a b order limits cuts (d.otherwise.0 refl) (judged_kept (rules (meanings_in text)) is)
+        go (Err f) is =
             first_broken text a b order limits cuts (d.otherwise.0 refl) placed f (judged_broken (rules (meanings_in text)) f is)
     by_verdict cuts (refused-at i) d = first_underived text a b order limits cuts _ (d.exactly.0 refl) (d.at_fault refl)
 

@@ -8,7 +8,7 @@ use crate::Limits;
 use crate::number::{class_at, end_in, is_outside, less};
 use definition::Span;
 use index::TokenIndex;
-use rule::{Finding, Judgement};
+use rule::Finding;
 
 // Whether a token of this class is a number.
 fn is_number(class: u8) -> bool
@@ -68,7 +68,7 @@ fn limit_clause(classes: &[u8], values: &[u32], limits: Limits, i: usize) -> u8
 }
 
 // Refusal 17 on the ranges of a restriction.
-pub fn judge_limits(classes: &[u8], values: &[u32], limits: Limits, span: Span) -> Judgement
+pub fn judge_limits(classes: &[u8], values: &[u32], limits: Limits, span: Span) -> Result<(), Finding>
     requires { length classes.now ≤ 65536 }
     ensures { result ≡ judge_one (limit_rule classes.now values.now limits span) }
 {
@@ -77,7 +77,7 @@ pub fn judge_limits(classes: &[u8], values: &[u32], limits: Limits, span: Span) 
     while i < to {
         let clause = limit_clause(classes, values, limits, i);
         if 0 < clause {
-            return Judgement::Broken(Finding {
+            return Err(Finding {
                 number: 17,
                 clause,
                 token: TokenIndex(i),
@@ -86,5 +86,5 @@ pub fn judge_limits(classes: &[u8], values: &[u32], limits: Limits, span: Span) 
         }
         i += 1;
     }
-    Judgement::Kept
+    Ok(())
 }

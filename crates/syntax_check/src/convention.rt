@@ -6,11 +6,11 @@ ghost use Rattle.syntax_check.specs.Refusal.{indirect_convention};
 
 use index::{RecordIndex, TokenIndex};
 use module_table::{count, definition_at};
-use rule::{Finding, Judgement};
+use rule::Finding;
 use type_class::is_indirect;
 
 // Refusal 19 of all definitions; the place is the convention's SYNTAX name.
-pub fn judge_conventions(classes: &[u8], values: &[u32], definitions: &[usize]) -> Judgement
+pub fn judge_conventions(classes: &[u8], values: &[u32], definitions: &[usize]) -> Result<(), Finding>
     requires { length classes.now ≤ 65536 }
     ensures { result ≡ judge_one (indirect_convention classes.now values.now (definitions_in definitions.now)) }
 {
@@ -20,7 +20,7 @@ pub fn judge_conventions(classes: &[u8], values: &[u32], definitions: &[usize]) 
         let d = definition_at(definitions, RecordIndex(k));
         if is_indirect(classes, values, d) {
             let place = d.syntax.from;
-            return Judgement::Broken(Finding {
+            return Err(Finding {
                 number: 19,
                 clause: 0,
                 token: TokenIndex(place),
@@ -29,5 +29,5 @@ pub fn judge_conventions(classes: &[u8], values: &[u32], definitions: &[usize]) 
         }
         k += 1;
     }
-    Judgement::Kept
+    Ok(())
 }

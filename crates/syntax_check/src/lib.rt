@@ -15,7 +15,7 @@ use convention::judge_conventions;
 use definition::Span;
 use enumeration::Enumeration;
 use restriction::{judge_all_items, judge_all_ranges};
-use rule::Judgement;
+use rule::Finding;
 use sub_type::Limits;
 
 // What is asked of the ranges of all definitions: refusal 16 or 17.
@@ -48,20 +48,20 @@ pub fn judge_syntax(
     classes: &[u8],
     values: &[u32],
     definitions: &[usize],
-) -> Judgement
+) -> Result<(), Finding>
     requires { length classes.now ≤ 65536 }
     ensures { result ≡ judge (rules_over (spelling_in text.now starts.now ends.now) classes.now values.now (definitions_in definitions.now)) }
 {
     let places = judge_all_ranges(classes, values, definitions, Demand::Places);
-    let Judgement::Kept = places else {
+    let Ok(()) = places else {
         return places;
     };
     let limits = judge_all_ranges(classes, values, definitions, Demand::Limits);
-    let Judgement::Kept = limits else {
+    let Ok(()) = limits else {
         return limits;
     };
     let items = judge_all_items(text, starts, ends, classes, values, definitions);
-    let Judgement::Kept = items else {
+    let Ok(()) = items else {
         return items;
     };
     judge_conventions(classes, values, definitions)

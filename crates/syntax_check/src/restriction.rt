@@ -11,16 +11,16 @@ use enumeration::judge_items;
 use index::RecordIndex;
 use module_table::{count, definition_at};
 use range_list::judge_misplaced;
-use rule::Judgement;
+use rule::Finding;
 use sub_type::judge_limits;
 
 // What a test of ranges says, whichever refusal it is of.
-fn judge_range_test(classes: &[u8], values: &[u32], test: RangeTest) -> Judgement
+fn judge_range_test(classes: &[u8], values: &[u32], test: RangeTest) -> Result<(), Finding>
     requires { length classes.now ≤ 65536 }
     ensures { (number : ℕ) → result ≡ judge_one (range_test_rule classes.now values.now number test) }
 {
     match test {
-        RangeTest::Untested => Judgement::Kept,
+        RangeTest::Untested => Ok(()),
         RangeTest::Placed(span) => judge_misplaced(classes, values, span),
         RangeTest::Within(limits, span) => judge_limits(classes, values, limits, span),
     }
@@ -32,7 +32,7 @@ pub fn judge_all_ranges(
     values: &[u32],
     definitions: &[usize],
     demand: Demand,
-) -> Judgement
+) -> Result<(), Finding>
     requires { length classes.now ≤ 65536 }
     ensures { result ≡ judge (each (range_rule_of classes.now values.now (definitions_in definitions.now) demand) 0 (length (definitions_in definitions.now))) }
 {
@@ -42,12 +42,12 @@ pub fn judge_all_ranges(
         let d = definition_at(definitions, RecordIndex(k));
         let test = range_test(classes, values, definitions, demand, d);
         let judged = judge_range_test(classes, values, test);
-        let Judgement::Kept = judged else {
+        let Ok(()) = judged else {
             return judged;
         };
         k += 1;
     }
-    Judgement::Kept
+    Ok(())
 }
 
 // What a test of items says.
@@ -58,12 +58,12 @@ fn judge_item_test(
     classes: &[u8],
     values: &[u32],
     test: ItemTest,
-) -> Judgement
+) -> Result<(), Finding>
     requires { length classes.now ≤ 65536 }
     ensures { result ≡ judge_one (item_test_rule (spelling_in text.now starts.now ends.now) classes.now values.now test) }
 {
     match test {
-        ItemTest::Itemless => Judgement::Kept,
+        ItemTest::Itemless => Ok(()),
         ItemTest::Items(items) => judge_items(text, starts, ends, classes, values, items),
     }
 }
@@ -76,7 +76,7 @@ pub fn judge_all_items(
     classes: &[u8],
     values: &[u32],
     definitions: &[usize],
-) -> Judgement
+) -> Result<(), Finding>
     requires { length classes.now ≤ 65536 }
     ensures { result ≡ judge (each (item_rule_of (spelling_in text.now starts.now ends.now) classes.now values.now (definitions_in definitions.now)) 0 (length (definitions_in definitions.now))) }
 {
@@ -86,10 +86,10 @@ pub fn judge_all_items(
         let d = definition_at(definitions, RecordIndex(k));
         let test = items_of(classes, d);
         let judged = judge_item_test(text, starts, ends, classes, values, test);
-        let Judgement::Kept = judged else {
+        let Ok(()) = judged else {
             return judged;
         };
         k += 1;
     }
-    Judgement::Kept
+    Ok(())
 }

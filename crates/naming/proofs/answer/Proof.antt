@@ -12,11 +12,11 @@ enum_told c = search rules
 enum-known-judged : tie.Need-enum_known-judged
 enum-known-judged c = search rules
 
-returns : tie.Need-returns-in-Kept
-returns c = sym (ap (answer_of c.args.count) c.in-Kept.is)
+returns : tie.Need-returns-in-Ok
+returns c = sym (ap (answer_of c.args.count) c.in-Ok.is)
 
-returns-2 : tie.Need-returns-in-Broken
-returns-2 c = sym (ap (answer_of c.args.count) c.in-Broken.is)
+returns-2 : tie.Need-returns-in-Err
+returns-2 c = sym (ap (answer_of c.args.count) c.in-Err.is)
 
 pub answer_spec : {M : Type 1} → statement M
 answer_spec = tie.close (tie.spec

@@ -4,8 +4,7 @@ use mathlib.Core.Path.{◌≡◌, sym, ap, subst, ◌∙◌}
 use mathlib.Core.List.{List, ◌∷◌}
 use Prim.Native.Nat.{ℕ}
 use lib.ListN.{length, take}
-use Rattle.rule.specs.Rule.{judge}
-use Rattle.rule.specs.declared.Judgement.{Judgement}
+use Rattle.rule.specs.Rule.{judge, Judgement}
 use Rattle.rule.proofs.Judged.{kept_next, broken_first}
 use Rattle.token.specs.Token.{Meaning}
 use Rattle.token.specs.Cut.{meanings_in}
@@ -50,10 +49,10 @@ long₃ j = j.judge_uses-uses.ensures.0 ∙ long₂ (second_of j)
 
 -- each step that finds its rule kept leaves the rules after it to judge
 after₁ : (j : Second) → judge (after_count (said_by (first_of j))) ≡ judge (not_offered (said_by (first_of j)) ∷ use_rules (said_by (first_of j)))
-after₁ j = kept_next _ _ _ (first_of j).judge_introduced-introduced.ensures.1 j.in-Kept.is
+after₁ j = kept_next _ _ _ (first_of j).judge_introduced-introduced.ensures.1 j.in-Ok.is
 
 after₂ : (j : Third) → judge (after_count (said_by (first_of (second_of j)))) ≡ judge (use_rules (said_by (first_of (second_of j))))
-after₂ j = after₁ (second_of j) ∙ kept_next _ _ _ (second_of j).judge_offers-offers.ensures.1.0 j.in-Kept-offers.is
+after₂ j = after₁ (second_of j) ∙ kept_next _ _ _ (second_of j).judge_offers-offers.ensures.1.0 j.in-Ok-offers.is
 
 judge-introduced-requires : tie.Need-judge_introduced-introduced-requires
 judge-introduced-requires c κs = search rules
@@ -76,7 +75,7 @@ returns c =
 judge-offers-requires : tie.Need-judge_offers-offers-requires
 judge-offers-requires c κs = search rules
 
-enum-told-3 : tie.Need-enum_told-in-Kept-offers
+enum-told-3 : tie.Need-enum_told-in-Ok-offers
 enum-told-3 c = search rules
 
 enum-told-4 : tie.Need-enum_told-in_default-offers
@@ -97,12 +96,12 @@ judge-uses-requires c κs =
     let s = start_of (first_of j.before.before.before.before) in
     let all = long₂ j.before.before.before.before ∙ s.requires.1.0 in
     let cs = classes_are _ _ _ _ s.requires.0 in
-    let filled = subst (λ (x : Judgement). ImportsFilled (meanings_in s.args.text.now) x j.judge_offers-offers.new.values) c.in-Kept-offers.is j.judge_offers-offers.ensures.1.1 in
-    let offers = all_offered _ (sym c.in-Kept-offers.is ∙ j.judge_offers-offers.ensures.1.0) in
+    let filled = subst (λ (x : Judgement). ImportsFilled (meanings_in s.args.text.now) x j.judge_offers-offers.new.values) c.in-Ok-offers.is j.judge_offers-offers.ensures.1.1 in
+    let offers = all_offered _ (sym c.in-Ok-offers.is ∙ j.judge_offers-offers.ensures.1.0) in
     let imports = imports_held _ _ _ (held_said _ _ _ _ s.requires.0) offers _ (all ∙ ap length cs) filled in
-    (s.requires.0, (all, (subst (λ (l : List ℕ). ImportsHeld (meanings_in s.args.text.now) (take (imports_end l) j.judge_offers-offers.new.values)) (sym cs) imports, (s.requires.1.1.0, (s.requires.1.1.1, names_distinct _ (sym j.in-Kept.is ∙ (first_of j.before.before.before.before).judge_introduced-introduced.ensures.1))))))
+    (s.requires.0, (all, (subst (λ (l : List ℕ). ImportsHeld (meanings_in s.args.text.now) (take (imports_end l) j.judge_offers-offers.new.values)) (sym cs) imports, (s.requires.1.1.0, (s.requires.1.1.1, names_distinct _ (sym j.in-Ok.is ∙ (first_of j.before.before.before.before).judge_introduced-introduced.ensures.1))))))
 
-enum-told-5 : tie.Need-enum_told-in-Kept-uses
+enum-told-5 : tie.Need-enum_told-in-Ok-uses
 enum-told-5 c = search rules
 
 enum-told-6 : tie.Need-enum_told-in_default-uses
@@ -134,9 +133,9 @@ returns-4 c =
     let j₁ = first_of j₂ in
     let s = start_of j₁ in
     let ms = meanings_in s.args.text.now in
-    let kept₁ = j₂.in-Kept.is in
-    let kept₂ = j₃.in-Kept-offers.is in
-    let kept₃ = f.in-Kept-uses.is in
+    let kept₁ = j₂.in-Ok.is in
+    let kept₂ = j₃.in-Ok-offers.is in
+    let kept₃ = f.in-Ok-uses.is in
     let long = f.fill_numbers.ensures.0 ∙ long₃ j₃.before.before.before.before.before.before.before in
     let counted = s.requires.1.0 ∙ sym (said_counted _ _ _ _ s.requires.0) in
     let values = all_values _ _ _ (held_said _ _ _ _ s.requires.0) _ _ _ (sym kept₁ ∙ j₁.judge_introduced-introduced.ensures.1)

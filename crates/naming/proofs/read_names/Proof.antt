@@ -6,7 +6,6 @@ use native.Mathlib.Omega.{arith}
 use lib.ListN.{length, take}
 use mathlib.Core.List.{List}
 use lib.Seq.{length-take-le}
-use Rattle.rule.specs.declared.Judgement.TheVariants.{Broken}
 use Rattle.token.specs.Cut.{meanings_in}
 use Rattle.definition.specs.Landmark.{definitions}
 use Rattle.module_table.specs.Definition.{width, definitions_in}
@@ -15,12 +14,12 @@ use Rattle.outline.specs.Outline.{outline, Outlines}
 use Rattle.outline.specs.declared.Collected.TheVariants.{All}
 use Rattle.outline.proofs.Outline.{outline_counted}
 use Rattle.scope.proofs.Tokens.{classes_are, few_classes}
-use Rattle.naming.specs.Told.{judgement, Holds}
-use Rattle.naming.specs.declared.Names.{Names}
+use Rattle.naming.specs.Told.{judgement, Holds, Names}
 use Rattle.naming.proofs.Reading.{many_judged, answer_judged, answer_holds}
 use borrow.Author.Rules.{rules}
 use Rattle.naming.proofs.read_names.Statement.{statement}
 use Rattle.naming.proofs.read_names.Tie as tie
+use Rattle.std.specs.Prelude.{Err}
 
 abbrev Outlined : Type 0
 Outlined = tie.After-collect_outline-collected
@@ -85,7 +84,7 @@ returns c =
     let many = subst (Outlines s.args.classes.now o.collect_outline-collected.new.definitions) c.in-TooMany.is o.collect_outline-collected.ensures.1 in
     let more = rw cs at many.0 in
     let is = rw cs at many.1 in
-    (refl, (o.collect_outline-collected.ensures.0, (ap Broken c.plain_finding.ensures ∙ many_judged _ more _ is, tt)))
+    (refl, (o.collect_outline-collected.ensures.0, (ap Err c.plain_finding.ensures ∙ many_judged _ more _ is, tt)))
 
 same-length-2 : tie.Need-shape_of-values
 same-length-2 c = search rules

@@ -50,12 +50,12 @@ measure-requires : tie.Need-measure-requires
 measure-requires c κs =
     let t = c in
     let r = t in
-    ((entered r.before.before).requires.0, ((entered r.before.before).requires.1.0, reached_kept _ _ _ (sym (rule_12 r.before.before) ∙ t.in-Kept.is)))
+    ((entered r.before.before).requires.0, ((entered r.before.before).requires.1.0, reached_kept _ _ _ (sym (rule_12 r.before.before) ∙ t.in-Ok.is)))
 
 judge-lengths-requires : tie.Need-judge_lengths-lengths-requires
 judge-lengths-requires c κs = search rules
 
-enum-told-3 : tie.Need-enum_told-in-Kept-lengths
+enum-told-3 : tie.Need-enum_told-in-Ok-lengths
 enum-told-3 c = search rules
 
 enum-told-4 : tie.Need-enum_told-in_default-lengths
@@ -70,7 +70,7 @@ returns-2 c =
     let w = measured l.before in
     let t = w in
     let r = t in
-    long_left _ _ _ _ (rule_12 r.before.before.before) t.in-Kept.is _ w.measure.ensures _ (rules_13_14 l.before) _ c.in_default-lengths.is _
+    long_left _ _ _ _ (rule_12 r.before.before.before) t.in-Ok.is _ w.measure.ensures _ (rules_13_14 l.before) _ c.in_default-lengths.is _
 
 write-oids-requires : tie.Need-write_oids-requires
 write-oids-requires c κs =
@@ -79,10 +79,10 @@ write-oids-requires c κs =
     let w = measured l.before.before in
     let t = w in
     let r = t in (
-      measured_reach _ _ _ _ w.measure.ensures (reached_kept _ _ _ (sym (rule_12 r.before.before.before) ∙ t.in-Kept.is)),
+      measured_reach _ _ _ _ w.measure.ensures (reached_kept _ _ _ (sym (rule_12 r.before.before.before) ∙ t.in-Ok.is)),
       (
         measured_placed _ _ _ _ w.measure.ensures,
-        omega (arith, measured_room _ _ _ _ w.measure.ensures (sym (rules_13_14 l.before.before) ∙ k.in-Kept-lengths.is), (entered r.before.before.before).requires.1.1),
+        omega (arith, measured_room _ _ _ _ w.measure.ensures (sym (rules_13_14 l.before.before) ∙ k.in-Ok-lengths.is), (entered r.before.before.before).requires.1.1),
       ),
     )
 
@@ -99,7 +99,7 @@ returns-3 c =
     let w = measured l.before.before.before.before.before in
     let t = w in
     let r = t in
-    all_left _ _ _ _ (rule_12 r.before.before.before) t.in-Kept.is _ w.measure.ensures _ (rules_13_14 l.before.before.before.before.before) _ _ o.write_oids.auto.numbers o.write_oids.ensures
+    all_left _ _ _ _ (rule_12 r.before.before.before) t.in-Ok.is _ w.measure.ensures _ (rules_13_14 l.before.before.before.before.before) _ _ o.write_oids.auto.numbers o.write_oids.ensures
 
 pub collect_oids_spec : {M : Type 1} → statement M
 collect_oids_spec =

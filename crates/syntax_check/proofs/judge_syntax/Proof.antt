@@ -42,25 +42,25 @@ abbrev all_rules : tie.Start → List Rule
 all_rules s = rules_over (spelling_in s.args.text.now s.args.starts.now s.args.ends.now) s.args.classes.now s.args.values.now (definitions_in s.args.definitions.now)
 
 -- what is left to judge where the rules before are kept
-after_places : (c : tie.In-Kept) → (let s = start_of c.before in judge (all_rules s) ≡ judge (from_limits s))
+after_places : (c : tie.In-Ok) → (let s = start_of c.before in judge (all_rules s) ≡ judge (from_limits s))
 unfolding rules_over
 after_places c =
     let j = c in
     let s = start_of j.before in
-    kept_row (ranges_of s Places) (from_limits s) _ j.judge_all_ranges-places.ensures c.in-Kept.is
+    kept_row (ranges_of s Places) (from_limits s) _ j.judge_all_ranges-places.ensures c.in-Ok.is
 
-after_limits : (c : tie.In-Kept-limits) → (let s = start_of c.before.before.before in judge (all_rules s) ≡ judge (from_items s))
+after_limits : (c : tie.In-Ok-limits) → (let s = start_of c.before.before.before in judge (all_rules s) ≡ judge (from_items s))
 after_limits c =
     let j = c in
     let s = start_of j.before.before.before in
-    after_places j.before.before ∙ kept_row (ranges_of s Limits) (from_items s) _ j.judge_all_ranges-limits.ensures c.in-Kept-limits.is
+    after_places j.before.before ∙ kept_row (ranges_of s Limits) (from_items s) _ j.judge_all_ranges-limits.ensures c.in-Ok-limits.is
 
-after_items : (c : tie.In-Kept-items)
+after_items : (c : tie.In-Ok-items)
     → (let s = start_of c.before.before.before.before.before in judge (all_rules s) ≡ judge (from_conventions s))
 after_items c =
     let j = c in
     let s = start_of j.before.before.before.before.before in
-    after_limits j.before.before ∙ kept_row (items_of s) (from_conventions s) _ j.judge_all_items-items.ensures c.in-Kept-items.is
+    after_limits j.before.before ∙ kept_row (items_of s) (from_conventions s) _ j.judge_all_items-items.ensures c.in-Ok-items.is
 
 judge-all-ranges-requires : tie.Need-judge_all_ranges-places-requires
 judge-all-ranges-requires c κs = search rules
@@ -81,7 +81,7 @@ returns c =
 judge-all-ranges-requires-2 : tie.Need-judge_all_ranges-limits-requires
 judge-all-ranges-requires-2 c κs = search rules
 
-enum-told-3 : tie.Need-enum_told-in-Kept-limits
+enum-told-3 : tie.Need-enum_told-in-Ok-limits
 enum-told-3 c = search rules
 
 enum-told-4 : tie.Need-enum_told-in_default-limits
@@ -96,7 +96,7 @@ returns-2 c =
 judge-all-items-requires : tie.Need-judge_all_items-items-requires
 judge-all-items-requires c κs = search rules
 
-enum-told-5 : tie.Need-enum_told-in-Kept-items
+enum-told-5 : tie.Need-enum_told-in-Ok-items
 enum-told-5 c = search rules
 
 enum-told-6 : tie.Need-enum_told-in_default-items

@@ -6,7 +6,6 @@ use native.Mathlib.Omega.{arith}
 use borrow.Author.Rules.{rules}
 use lib.ListN.{length, get_or, length-set}
 use Rattle.index.proofs.Collected.{filled_more}
-use Rattle.rule.specs.declared.Judgement.TheVariants.{Broken}
 use Rattle.rule.proofs.Judged.{Judging, judging_start, judging_kept}
 use Rattle.token.specs.Cut.{meanings_in}
 use Rattle.scope.specs.Token.{classes_of}
@@ -18,6 +17,7 @@ use Rattle.naming.specs.Rules.{not_offered}
 use Rattle.naming.proofs.Offering.{word_is, offer_next, offer_judged}
 use Rattle.naming.proofs.offer.judge_offers.Statement.{statement}
 use Rattle.naming.proofs.offer.judge_offers.Tie as tie
+use Rattle.std.specs.Prelude.{Err}
 
 abbrev invariant-loop : tie.invariant-loop-i
 invariant-loop text classes starts ends values₀ end i₀ values i =
@@ -77,7 +77,7 @@ returns c =
     let a = c in
     let l = a in
     let told = sym c.in_default.is ∙ a.offer_at-offer.ensures in
-    (l.loop-i.invariant.1, (ap Broken c.missing_finding.ensures ∙ offer_judged _ _ _ l.loop-i.invariant.2 (inside l.before.before.before.before a.loop-i-test.true) told, tt))
+    (l.loop-i.invariant.1, (ap Err c.missing_finding.ensures ∙ offer_judged _ _ _ l.loop-i.invariant.2 (inside l.before.before.before.before a.loop-i-test.true) told, tt))
 
 mul-values : tie.Need-offset_bounds-values-i invariant-loop decreases-loop
 mul-values c =

@@ -24,7 +24,7 @@ judge-room-requires c κs = search rules
 returns-2 : tie.Need-returns
 returns-2 c =
     let k = c in
-    c.judge_room.ensures ∙ judge_alone _ ∙ sym (kept_next _ _ _ k.judge_long-long.ensures k.in-Kept.is)
+    c.judge_room.ensures ∙ judge_alone _ ∙ sym (kept_next _ _ _ k.judge_long-long.ensures k.in-Ok.is)
 
 pub judge_lengths_spec : {M : Type 1} → statement M
 judge_lengths_spec =

@@ -8,7 +8,6 @@ use borrow.Author.Rules.{rules}
 use lib.ListN.{length, get_or, take, drop, length-append, length-take}
 use lib.Seq.{take_at, length-take-le}
 use Rattle.rule.specs.Rule.{judge_one, judge}
-use Rattle.rule.specs.declared.Judgement.TheVariants.{Kept}
 use Rattle.token.specs.Token.{Tok, Meaning}
 use Rattle.token.specs.Cut.{cut, meanings_in}
 use Rattle.token.specs.Table.{overlaid}
@@ -19,8 +18,7 @@ use Rattle.scope.proofs.Tokens.{few_classes, classes_are}
 use Rattle.naming.specs.Rules.{name_rules}
 use Rattle.naming.specs.Values.{values_of}
 use Rattle.naming.specs.Values as naming
-use Rattle.naming.specs.Told.{judgement, Holds}
-use Rattle.naming.specs.declared.Names.{Names}
+use Rattle.naming.specs.Told.{judgement, Holds, Names}
 use Rattle.oid_tree.specs.Refusal.{counts_before, collecting_rules}
 use Rattle.oid_tree.specs.Stage.{with_oids}
 use Rattle.records.specs.Record.{records_before, AllFit}
@@ -33,6 +31,7 @@ use Rattle.reader.proofs.Fitting as fitting
 use Rattle.reader.proofs.Stages as stages
 use Rattle.reader.proofs.module.read_derived.Statement.{statement}
 use Rattle.reader.proofs.module.read_derived.Tie as tie
+use Rattle.std.specs.Prelude.{Ok}
 
 -- ---- the places, and what the slices hold there
 
@@ -42,47 +41,47 @@ start n = n.before.before.before.before.before.before.before.before.before.befor
 abbrev ms : tie.After-read_names-names → List Meaning
 ms n = meanings_in (start n).args.text.now
 
-abbrev named : tie.In-Named → tie.After-read_names-names
+abbrev named : tie.In-Ok → tie.After-read_names-names
 named k = k.before.before.before
 
-abbrev count : tie.In-Named → ℕ
-count k = k.in-Named.count
+abbrev count : tie.In-Ok → ℕ
+count k = k.in-Ok.count
 
 -- the values of all tokens, and the words of the definitions
-abbrev values : tie.In-Named → List ℕ
+abbrev values : tie.In-Ok → List ℕ
 values k =
     take (length (start (named k)).args.classes.now)
     ((named k).read_names-names.new.values ++ drop (length (start (named k)).args.classes.now) (named k).blank_values-values.result)
 
-abbrev outlined : tie.In-Named → List ℕ
+abbrev outlined : tie.In-Ok → List ℕ
 outlined k = take (count k * 22) (named k).read_names-names.new.definitions
 
 abbrev tokens : tie.After-read_names-names → List Tok
 tokens n = (cut (start n).args.text.now).tokens
 
 -- the names are known
-holds : (k : tie.In-Named) → Holds (ms (named k)) (Names.Named (count k)) (named k).read_names-names.new.values (named k).read_names-names.new.definitions
-holds k = subst (λ (r : Names). Holds (ms (named k)) r (named k).read_names-names.new.values (named k).read_names-names.new.definitions) k.in-Named.is (named k).read_names-names.ensures.1.1.1
+holds : (k : tie.In-Ok) → Holds (ms (named k)) (Ok (count k)) (named k).read_names-names.new.values (named k).read_names-names.new.definitions
+holds k = subst (λ (r : Names). Holds (ms (named k)) r (named k).read_names-names.new.values (named k).read_names-names.new.definitions) k.in-Ok.is (named k).read_names-names.ensures.1.1.1
 
-names_kept : (k : tie.In-Named) → judge (name_rules (ms (named k))) ≡ Kept
-names_kept k = sym (named k).read_names-names.ensures.1.1.0 ∙ ap judgement k.in-Named.is
+names_kept : (k : tie.In-Ok) → judge (name_rules (ms (named k))) ≡ Ok tt
+names_kept k = sym (named k).read_names-names.ensures.1.1.0 ∙ ap judgement k.in-Ok.is
 
-values_long : (k : tie.In-Named) → length (named k).read_names-names.new.values ≡ length (start (named k)).args.classes.now
+values_long : (k : tie.In-Ok) → length (named k).read_names-names.new.values ≡ length (start (named k)).args.classes.now
 values_long k =
     let n = named k in
     n.read_names-names.ensures.0 ∙ length-take-le _ _ (omega (arith, few_classes _ _ _ _ (start n).requires.0, n.blank_values-values.ensures))
 
-values_are : (k : tie.In-Named) → values k ≡ values_of (ms (named k))
+values_are : (k : tie.In-Ok) → values k ≡ values_of (ms (named k))
 values_are k = take_at (named k).read_names-names.new.values _ _ (values_long k) ∙ (holds k).0
 
-values_room : (k : tie.In-Named) → length (start (named k)).args.classes.now ≤ length ((named k).read_names-names.new.values ++ drop (length (start (named k)).args.classes.now) (named k).blank_values-values.result)
+values_room : (k : tie.In-Ok) → length (start (named k)).args.classes.now ≤ length ((named k).read_names-names.new.values ++ drop (length (start (named k)).args.classes.now) (named k).blank_values-values.result)
 values_room k = omega (arith, values_long k, length-append (named k).read_names-names.new.values (drop (length (start (named k)).args.classes.now) (named k).blank_values-values.result))
 
 -- there are at most 512 definitions
-words_long : (k : tie.In-Named) → length (named k).read_names-names.new.definitions ≡ 11264
+words_long : (k : tie.In-Ok) → length (named k).read_names-names.new.definitions ≡ 11264
 words_long k = (named k).read_names-names.ensures.1.0 ∙ (named k).blank_table-table.ensures
 
-few : (k : tie.In-Named) → count k ≤ 512
+few : (k : tie.In-Ok) → count k ≤ 512
 few k =
     omega (
       arith,
@@ -93,15 +92,15 @@ few k =
       words_long k,
     )
 
-table_room : (k : tie.In-Named) → count k * 22 ≤ length (named k).read_names-names.new.definitions
+table_room : (k : tie.In-Ok) → count k * 22 ≤ length (named k).read_names-names.new.definitions
 table_room k = omega (arith, few k, words_long k)
 
-outlined_long : (k : tie.In-Named) → length (outlined k) ≡ count k * 22
+outlined_long : (k : tie.In-Ok) → length (outlined k) ≡ count k * 22
 outlined_long k = length-take-le _ _ (table_room k)
 
 -- ---- OIDs
 
-abbrev after_names : tie.After-collect_oids-oids → tie.In-Named
+abbrev after_names : tie.After-collect_oids-oids → tie.In-Ok
 after_names o = o.before.before.before.before.before
 
 oids_judged : (o : tie.After-collect_oids-oids) → o.collect_oids-oids.result ≡ judge (collecting_rules (naming.named (ms (named (after_names o)))))
@@ -109,17 +108,17 @@ oids_judged o =
     let k = after_names o in
     derived.oids_judged _ _ _ _ (start (named k)).requires.0 _ _ (values_are k) (holds k).2 _ _ _ _ o.collect_oids-oids.ensures
 
-abbrev after_oids : tie.In-Kept → tie.After-collect_oids-oids
+abbrev after_oids : tie.In-Ok → tie.After-collect_oids-oids
 after_oids e = e.before.before.before.before.before
 
-oids_kept : (e : tie.In-Kept) → judge (collecting_rules (naming.named (ms (named (after_names (after_oids e)))))) ≡ Kept
-oids_kept e = sym (oids_judged (after_oids e)) ∙ e.in-Kept.is
+oids_kept : (e : tie.In-Ok) → judge (collecting_rules (naming.named (ms (named (after_names (after_oids e)))))) ≡ Ok tt
+oids_kept e = sym (oids_judged (after_oids e)) ∙ e.in-Ok.is
 
-numbers_few : (e : tie.In-Kept) → counts_before (definitions_in (after_oids e).collect_oids-oids.new.definitions) (length (definitions_in (after_oids e).collect_oids-oids.new.definitions)) ≤ 8192
+numbers_few : (e : tie.In-Ok) → counts_before (definitions_in (after_oids e).collect_oids-oids.new.definitions) (length (definitions_in (after_oids e).collect_oids-oids.new.definitions)) ≤ 8192
 numbers_few e =
     let o = after_oids e in
     let k = after_names o in
-    derived.numbers_few _ _ _ _ (start (named k)).requires.0 _ _ (values_are k) (holds k).2 _ _ _ _ o.collect_oids-oids.ensures e.in-Kept.is
+    derived.numbers_few _ _ _ _ (start (named k)).requires.0 _ _ (values_are k) (holds k).2 _ _ _ _ o.collect_oids-oids.ensures e.in-Ok.is
 
 used_room : (u : tie.After-numbers_used-used) → u.numbers_used-used.result ≤ length (after_oids u.before).collect_oids-oids.new.numbers
 used_room u =
@@ -133,10 +132,10 @@ twins_judged w =
     let e = u in
     let o = after_oids e.before.before in
     let k = after_names o in
-    derived.twins_judged _ _ _ _ (start (named k)).requires.0 _ _ (values_are k) (holds k).2 _ _ _ _ o.collect_oids-oids.ensures e.in-Kept.is _ u.numbers_used-used.ensures _ w.judge_twins-twins.ensures
+    derived.twins_judged _ _ _ _ (start (named k)).requires.0 _ _ (values_are k) (holds k).2 _ _ _ _ o.collect_oids-oids.ensures e.in-Ok.is _ u.numbers_used-used.ensures _ w.judge_twins-twins.ensures
 
-twins_kept : (e : tie.In-Kept-twins) → judge_one (held_twice (numbered (ms (named (after_names (after_oids e.before.before.before))))).definitions (numbered (ms (named (after_names (after_oids e.before.before.before))))).numbers) ≡ Kept
-twins_kept e = sym (twins_judged e.before) ∙ e.in-Kept-twins.is
+twins_kept : (e : tie.In-Ok-twins) → judge_one (held_twice (numbered (ms (named (after_names (after_oids e.before.before.before))))).definitions (numbered (ms (named (after_names (after_oids e.before.before.before))))).numbers) ≡ Ok tt
+twins_kept e = sym (twins_judged e.before) ∙ e.in-Ok-twins.is
 
 -- ---- syntaxes
 
@@ -155,7 +154,7 @@ syntaxes_judged y =
     let e = u in
     let o = after_oids e.before.before in
     let k = after_names o in
-    derived.syntaxes_judged _ _ _ _ (start (named k)).requires.0 _ _ (values_are k) (holds k).2 _ _ _ _ o.collect_oids-oids.ensures e.in-Kept.is _ u.numbers_used-used.ensures _ _ y.judge_syntaxes-syntaxes.ensures
+    derived.syntaxes_judged _ _ _ _ (start (named k)).requires.0 _ _ (values_are k) (holds k).2 _ _ _ _ o.collect_oids-oids.ensures e.in-Ok.is _ u.numbers_used-used.ensures _ _ y.judge_syntaxes-syntaxes.ensures
 
 classes_held : (y : tie.After-judge_syntaxes-syntaxes) → definitions_in y.judge_syntaxes-syntaxes.new.definitions ≡ (classed (ms (named_of y))).definitions
 classes_held y =
@@ -163,14 +162,14 @@ classes_held y =
     let e = u in
     let o = after_oids e.before.before in
     let k = after_names o in
-    derived.classes_held _ _ _ _ (start (named k)).requires.0 _ _ (values_are k) (holds k).2 _ _ _ _ o.collect_oids-oids.ensures e.in-Kept.is _ u.numbers_used-used.ensures _ _ y.judge_syntaxes-syntaxes.ensures
+    derived.classes_held _ _ _ _ (start (named k)).requires.0 _ _ (values_are k) (holds k).2 _ _ _ _ o.collect_oids-oids.ensures e.in-Ok.is _ u.numbers_used-used.ensures _ _ y.judge_syntaxes-syntaxes.ensures
 
 -- ---- objects
 
 abbrev syntaxed : tie.After-judge_objects-objects → tie.After-judge_syntaxes-syntaxes
 syntaxed j = j.before.before.before.before.before
 
-abbrev syntaxes_told : tie.After-judge_objects-objects → tie.In-Kept-syntaxes
+abbrev syntaxes_told : tie.After-judge_objects-objects → tie.In-Ok-syntaxes
 syntaxes_told j = j.before.before
 
 objects_judged : (j : tie.After-judge_objects-objects) → j.judge_objects-objects.result ≡ judge (module_rules (ms (named_of (syntaxed j))))
@@ -180,8 +179,8 @@ objects_judged j =
     let e = u in
     let o = after_oids e.before.before in
     let k = after_names o in
-    stages.objects_judged (ms (named k)) (names_kept k) (oids_kept e.before.before) (twins_kept y.before.before) (sym (syntaxes_judged y) ∙ (syntaxes_told j).in-Kept-syntaxes.is) _
-    (derived.objects_found _ _ _ _ (start (named k)).requires.0 _ _ (values_are k) (holds k).2 _ _ _ _ o.collect_oids-oids.ensures e.in-Kept.is _ u.numbers_used-used.ensures _ _ y.judge_syntaxes-syntaxes.ensures _ _ j.judge_objects-objects.ensures)
+    stages.objects_judged (ms (named k)) (names_kept k) (oids_kept e.before.before) (twins_kept y.before.before) (sym (syntaxes_judged y) ∙ (syntaxes_told j).in-Ok-syntaxes.is) _
+    (derived.objects_found _ _ _ _ (start (named k)).requires.0 _ _ (values_are k) (holds k).2 _ _ _ _ o.collect_oids-oids.ensures e.in-Ok.is _ u.numbers_used-used.ensures _ _ y.judge_syntaxes-syntaxes.ensures _ _ j.judge_objects-objects.ensures)
 
 module_held : (j : tie.After-judge_objects-objects) → definitions_in j.judge_objects-objects.new.definitions ≡ (module_of (ms (named_of (syntaxed j)))).definitions
 module_held j =
@@ -190,7 +189,7 @@ module_held j =
     let e = u in
     let o = after_oids e.before.before in
     let k = after_names o in
-    derived.module_held _ _ _ _ (start (named k)).requires.0 _ _ (values_are k) (holds k).2 _ _ _ _ o.collect_oids-oids.ensures e.in-Kept.is _ u.numbers_used-used.ensures _ _ y.judge_syntaxes-syntaxes.ensures _ _ j.judge_objects-objects.ensures
+    derived.module_held _ _ _ _ (start (named k)).requires.0 _ _ (values_are k) (holds k).2 _ _ _ _ o.collect_oids-oids.ensures e.in-Ok.is _ u.numbers_used-used.ensures _ _ y.judge_syntaxes-syntaxes.ensures _ _ j.judge_objects-objects.ensures
 
 -- ---- what is left
 
@@ -206,7 +205,7 @@ unfolding with_oids
 numbers_held j =
     let o = oided (syntaxed j) in
     let k = after_names o in
-    derived.numbers_held _ _ _ _ (start (named k)).requires.0 _ _ (values_are k) (holds k).2 _ _ _ _ o.collect_oids-oids.ensures (twinned (syntaxed j)).in-Kept.is
+    derived.numbers_held _ _ _ _ (start (named k)).requires.0 _ _ (values_are k) (holds k).2 _ _ _ _ o.collect_oids-oids.ensures (twinned (syntaxed j)).in-Ok.is
 
 blank-values-requires : tie.Need-blank_values-values-requires
 blank-values-requires c κs = search rules
@@ -272,7 +271,7 @@ collect-oids-requires c κs =
     let s = start (named k.before.before.before.before) in
     (few_classes _ _ _ _ s.requires.0, (omega (arith, outlined_long k.before.before.before.before, few k.before.before.before.before), s.requires.1.1.0))
 
-enum-told-2 : tie.Need-enum_told-in-Kept
+enum-told-2 : tie.Need-enum_told-in-Ok
 enum-told-2 c = search rules
 
 enum-told-3 : tie.Need-enum_told-in_default-oids
@@ -309,7 +308,7 @@ judge-twins-requires c κs =
     let e = c in
     omega (arith, e.collect_oids-oids.ensures.words_long, outlined_long (after_names (after_oids e.before)), few (after_names (after_oids e.before)))
 
-enum-told-4 : tie.Need-enum_told-in-Kept-twins
+enum-told-4 : tie.Need-enum_told-in-Ok-twins
 enum-told-4 c = search rules
 
 enum-told-5 : tie.Need-enum_told-in_default-twins
@@ -339,7 +338,7 @@ judge-syntaxes-requires c κs =
     let w = c in
     few_classes _ _ _ _ (start (named (after_names (after_oids w.before.before.before.before)))).requires.0
 
-enum-told-6 : tie.Need-enum_told-in-Kept-syntaxes
+enum-told-6 : tie.Need-enum_told-in-Ok-syntaxes
 enum-told-6 c = search rules
 
 enum-told-7 : tie.Need-enum_told-in_default-syntaxes
@@ -373,10 +372,10 @@ judge-objects-requires c κs =
     let o = after_oids e.before.before in
     let k = after_names o in (
       omega (arith, ap length (classes_held y.before.before.before.before), counting.classed_counted (ms (named k)), (holds k).1, few k),
-      derived.two_related _ _ _ _ (start (named k)).requires.0 _ _ (values_are k) (holds k).2 _ _ _ _ o.collect_oids-oids.ensures e.in-Kept.is _ u.numbers_used-used.ensures _ _ y.judge_syntaxes-syntaxes.ensures (start (named k)).requires.1.1.1,
+      derived.two_related _ _ _ _ (start (named k)).requires.0 _ _ (values_are k) (holds k).2 _ _ _ _ o.collect_oids-oids.ensures e.in-Ok.is _ u.numbers_used-used.ensures _ _ y.judge_syntaxes-syntaxes.ensures (start (named k)).requires.1.1.1,
     )
 
-enum-told-8 : tie.Need-enum_told-in-Kept-objects
+enum-told-8 : tie.Need-enum_told-in-Ok-objects
 enum-told-8 c = search rules
 
 enum-told-9 : tie.Need-enum_told-in_default-objects
@@ -408,7 +407,7 @@ write-records-requires c κs =
     let e = (twinned y) in (
       omega (arith, ap length (module_held j.before.before.before.before), counting.module_counted (ms n), (holds k).1, few k, s.requires.1.0),
       subst AllFit (sym (module_held j.before.before.before.before))
-          (fitting.all_fit (ms n) (λ i. subst (λ (cs : List ℕ). get_or cs i 0 < 256) (classes_are _ _ _ _ s.requires.0) (omega (arith, n.shared_slice_known-2-1.given i))) (omega (arith, numbers_few e.before.before, derived.numbers_long _ _ _ _ s.requires.0 _ _ (values_are k) (holds k).2 _ _ _ _ o.collect_oids-oids.ensures e.in-Kept.is))),
+          (fitting.all_fit (ms n) (λ i. subst (λ (cs : List ℕ). get_or cs i 0 < 256) (classes_are _ _ _ _ s.requires.0) (omega (arith, n.shared_slice_known-2-1.given i))) (omega (arith, numbers_few e.before.before, derived.numbers_long _ _ _ _ s.requires.0 _ _ (values_are k) (holds k).2 _ _ _ _ o.collect_oids-oids.ensures e.in-Ok.is))),
     )
 
 same-length-5 : tie.Need-shape_of-records
@@ -422,7 +421,7 @@ returns-6 c =
     let e = c in
     let j = e in
     let k = after_names (oided (syntaxed j.before.before.before.before.before.before.before.before)) in
-    let all = sym (objects_judged j.before.before.before.before.before.before.before.before) ∙ e.in-Kept-objects.is in
+    let all = sym (objects_judged j.before.before.before.before.before.before.before.before) ∙ e.in-Ok-objects.is in
     (derived.answer_kept (tokens (named k)) _ all _ ((holds k).1 ∙ sym (counting.module_counted (ms (named k)))), derived.laid_kept (tokens (named k)) _ all _ _ _ _ (c.write_records.ensures.held ∙ records_held j.before.before.before.before.before.before.before.before) (numbers_held j.before.before.before.before.before.before.before.before))
 
 pub read_derived_spec : {M : Type 1} → statement M

@@ -16,23 +16,23 @@ enum-known-verdict c = search rules
 start-of-requires : tie.Need-start_of-requires
 start-of-requires c κs = search rules
 
-start-of-requires-2 : tie.Need-start_of-requires-in-Broken
+start-of-requires-2 : tie.Need-start_of-requires-in-Err
 start-of-requires-2 c κs = search rules
 
-returns : tie.Need-returns-in-Kept
+returns : tie.Need-returns-in-Ok
 returns c = search rules
 
-returns-2 : tie.Need-returns-in-Broken
+returns-2 : tie.Need-returns-in-Err
 returns-2 c =
     let place = c.start_of.ensures in
-    let other = c.start_of-in-Broken.ensures in
+    let other = c.start_of-in-Err.ensures in
     (λ i. Refused (record {
-      number = c.in-Broken.finding.number;
-      clause = c.in-Broken.finding.clause;
+      number = c.in-Err.finding.number;
+      clause = c.in-Err.finding.clause;
       place = record { 0 = place i };
       other = record { 0 = other i };
     }))
-    ∙ sym (ap (refusal_of c.args.starts.now) c.in-Broken.is)
+    ∙ sym (ap (refusal_of c.args.starts.now) c.in-Err.is)
 
 pub refused_spec : {M : Type 1} → statement M
 refused_spec =

@@ -12,11 +12,11 @@ enum_told c = search rules
 enum-known-names : tie.Need-enum_known-names
 enum-known-names c = search rules
 
-returns : tie.Need-returns-in-Named
+returns : tie.Need-returns-in-Ok
 returns c = search rules
 
-returns-2 : tie.Need-returns-in-Broken
-returns-2 c = sym (ap judgement c.in-Broken.is)
+returns-2 : tie.Need-returns-in-Err
+returns-2 c = sym (ap judgement c.in-Err.is)
 
 pub verdict_of_spec : {M : Type 1} → statement M
 verdict_of_spec = tie.close (tie.spec

@@ -73,7 +73,7 @@ returns c =
 judge-access-requires : tie.Need-judge_access-access-requires
 judge-access-requires c κs = search rules
 
-enum-told-3 : tie.Need-enum_told-in-Kept-access
+enum-told-3 : tie.Need-enum_told-in-Ok-access
 enum-told-3 c = search rules
 
 enum-told-4 : tie.Need-enum_told-in_default-access
@@ -88,7 +88,7 @@ returns-2 c =
     let a = c in
     record {
       held = (parents (tables a.before)).collect_parents.ensures;
-      judged = second_of_three _ _ _ _ (tables_judged (tables a.before)) a.in-Kept.is _ (access_judged a.before) _ c.in_default-access.is;
+      judged = second_of_three _ _ _ _ (tables_judged (tables a.before)) a.in-Ok.is _ (access_judged a.before) _ c.in_default-access.is;
     }
 
 judge-notifications-requires : tie.Need-judge_notifications-requires
@@ -110,7 +110,7 @@ returns-3 c =
     record {
       held = (parents t).collect_parents.ensures;
       judged =
-          third_of_three _ _ _ _ (tables_judged t) a.in-Kept.is _ (access_judged a.before.before) told.in-Kept-access.is _
+          third_of_three _ _ _ _ (tables_judged t) a.in-Ok.is _ (access_judged a.before.before) told.in-Ok-access.is _
           (c.judge_notifications.ensures
           ∙ ap (λ (ds : List Definition). judge_one (notification_broken ds s.args.values.now s.args.numbers.now)) (parents t).collect_parents.ensures);
     }

@@ -73,7 +73,7 @@ loop-again : tie.Need-loop-k-preserved invariant-loop decreases-loop
 loop-again c =
     let j = c in
     let l = j in
-    (asked_next _ _ _ _ l.loop-k.invariant.0 _ (judged j.before) (inside j.before.before.before.before) c.in-Kept.is, l.loop-k.invariant.1)
+    (asked_next _ _ _ _ l.loop-k.invariant.0 _ (judged j.before) (inside j.before.before.before.before) c.in-Ok.is, l.loop-k.invariant.1)
 
 returns-2 : tie.Need-returns invariant-loop decreases-loop
 returns-2 c = asked_end _ _ _ _ c.loop-k.invariant.0 (omega (arith, c.loop-k-test.false, c.loop-k.invariant.1))
