@@ -30,7 +30,7 @@ use Rattle.oid_tree.proofs.Measuring.{stage_alike}
 use Rattle.oid_tree.proofs.Counted.{numbers_fit, lengths_same}
 use Rattle.std.specs.Prelude.{Ok, Err}
 
-broken_kept : (f : Finding) → Err f ≡ Ok tt → ⊥
+broken_kept : (f : Finding) → ◌≡◌ {A = Judgement} (Err f) (Ok tt) → ⊥
 broken_kept f e = let z : ◌≡◌ {A = ℕ} 0 1 = cc in omega arith
 
 module _ (classes values words : List ℕ) where

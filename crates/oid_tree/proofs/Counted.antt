@@ -31,7 +31,7 @@ plain_same number ds es p q counted names same =
     ∙ ap (λ (k : ℕ). cond (ltb k (length ds)) (Err (finding_at number es k)) (Ok tt)) (first_same p q 0 (length ds) (omega arith) (λ i l h. same i h))
     ∙ go (first q 0 (length ds)) (ltb (first q 0 (length ds)) (length ds)) refl
   where
-    go : (k : ℕ) (b : Bool) → ltb k (length ds) ≡ b → cond b (Err (finding_at number es k)) (Ok tt) ≡ cond b (Err (finding_at number ds k)) (Ok tt)
+    go : (k : ℕ) (b : Bool) → ltb k (length ds) ≡ b → ◌≡◌ {A = Judgement} (cond b (Err (finding_at number es k)) (Ok tt)) (cond b (Err (finding_at number ds k)) (Ok tt))
     go k true e = let name = names k (ltb-true k (length ds) e) in
         λ i. Err (record { number = number; clause = 0; token = name i; other = name i })
     go k false e = refl

@@ -35,15 +35,9 @@ pub fn collect_oids(
     ensures { Collected (named_in classes.now values.now definitions.old) result
         definitions.old definitions.new numbers.old numbers.new }
 {
-    let reached = judge_reached(values, definitions);
-    let Ok(()) = reached else {
-        return reached;
-    };
+    judge_reached(values, definitions)?;
     measure(classes, values, definitions);
-    let lengths = judge_lengths(definitions);
-    let Ok(()) = lengths else {
-        return lengths;
-    };
+    judge_lengths(definitions)?;
     write_oids(classes, values, definitions, numbers);
-    lengths
+    Ok(())
 }
