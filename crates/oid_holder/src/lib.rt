@@ -135,15 +135,12 @@ pub fn judge_twins(definitions: &[usize], numbers: &[u32]) -> Result<(), Finding
 {
     let mut heads = [0usize; KEYS];
     let mut links = [0usize; ENTRIES];
-    let c = count(definitions);
-    let mut k = 0;
-    while k < c {
+    for k in 0..count(definitions) {
         let key = oid_key(definitions, numbers, RecordIndex(k));
         if is_held_twice(definitions, numbers, RecordIndex(k), &heads, &links, key) {
             return Err(twin_at(definitions, numbers, RecordIndex(k)));
         }
         insert(&mut heads, &mut links, k, key);
-        k += 1;
     }
     Ok(())
 }

@@ -1,9 +1,10 @@
 -- A rule for each index in a row, and one rule at each index: what is said of them one after the other.
 -- Assumes nothing.
-use mathlib.Core.Path.{◌≡◌, refl, sym, ap, ◌∙◌}
+use mathlib.Core.Path.{◌≡◌, refl, sym, ap, subst, ◌∙◌}
 use mathlib.Core.Bool.{Bool, true, false, cond}
 use mathlib.Core.List.{[], ◌∷◌}
 use Prim.Native.Nat.{ℕ, zero, suc, ◌+◌, ◌-◌, ◌≤◌, ◌<◌}
+use native.Mathlib.Decide.{dec_le}
 use native.Mathlib.Numerals.{add-one}
 use native.Mathlib.Omega.{arith}
 use Rattle.rule.specs.Rule.{Rule, Judgement, finding, judge_one, judge, each_of, each}
@@ -46,19 +47,27 @@ module _ (rule : ℕ → Rule) where
       sym now ∙ asked
 
   -- each index says what its rule says
-  pub judged_each : {Says : ℕ → Judgement → Type 0} (n : ℕ) (j : Judgement) → JudgedEach Says n j
-      → ((k : ℕ) → k < n → (i : Judgement) → Says k i → i ≡ judge_one (rule k)) → j ≡ judge (each rule 0 n)
-  judged_each {Says} n j judged says = go j judged.said
+  pub judged_each : {Says : ℕ → Judgement → Type 0} (a b : ℕ) (j : Judgement) → JudgedEach Says a b j
+      → ((k : ℕ) → a ≤ k → k < b → (i : Judgement) → Says k i → i ≡ judge_one (rule k)) → j ≡ judge (each rule a b)
+  judged_each {Says} a b j judged says = go j judged.said
     where
-      asked : (k : ℕ) → k ≤ n → KeptBefore Says k → Asked 0 n k
-      asked zero h kept = refl
-      asked (suc k) h kept =
-          rw (sym (add-one k)) (asked_next 0 n k (asked k (omega arith) (λ i l. kept i (omega arith))) (Ok tt) (says k (omega arith) (Ok tt) (kept k (omega arith))) (omega arith) refl)
+      asked : (n : ℕ) → a + n ≤ b → KeptBefore Says a (a + n) → Asked a b (a + n)
+      asked zero h kept = let e : a ≡ a + 0 = omega arith in subst (Asked a b) e refl
+      asked (suc n) h kept =
+          let e : (a + n) + 1 ≡ a + suc n = omega arith in
+          subst (Asked a b) e (asked_next a b (a + n) (asked n (omega arith) (λ i l m. kept i l (omega arith))) (Ok tt) (says (a + n) (omega arith) (omega arith) (Ok tt) (kept (a + n) (omega arith) (omega arith))) (omega arith) refl)
 
-      go : (i : Judgement) → SaidOfEach Says n i → i ≡ judge (each rule 0 n)
-      go (Ok _) kept = asked_end 0 n n (asked n (omega arith) kept) (omega arith)
-      go (Err f) b =
-          asked_broken 0 n b.index (asked b.index (omega (arith, b.below)) b.before) (Err f) (says b.index b.below (Err f) b.broken) b.below f refl
+      asked_at : (k : ℕ) → a ≤ k → k ≤ b → KeptBefore Says a k → Asked a b k
+      asked_at k l h kept = let e : a + (k - a) ≡ k = omega arith in subst (Asked a b) e (asked (k - a) (omega (arith, e)) (subst (KeptBefore Says a) (sym e) kept))
+
+      ended : Dec (a ≤ b) → KeptBefore Says a b → Ok tt ≡ judge (each rule a b)
+      ended (yes l) kept = asked_end a b b (asked_at b l (omega arith) kept) (omega arith)
+      ended (no l) kept = asked_end a b a refl (omega (arith, l))
+
+      go : (i : Judgement) → SaidOfEach Says a b i → i ≡ judge (each rule a b)
+      go (Ok _) kept = ended (dec_le a b) kept
+      go (Err f) s =
+          asked_broken a b s.index (asked_at s.index s.inside.0 (omega (arith, s.inside.1)) s.before) (Err f) (says s.index s.inside.0 s.inside.1 (Err f) s.broken) s.inside.1 f refl
 
 -- what a rule says of an index
 module _ (r : Rule) (k : ℕ) where
@@ -87,21 +96,21 @@ module _ (r : Rule) (k : ℕ) where
       go false e = let z : ◌≡◌ {A = ℕ} 0 1 = cc in absurd (omega arith)
 
 -- each index says what one rule says of it
-pub judged_at : (r : Rule) {Says : ℕ → Judgement → Type 0} (n : ℕ) (j : Judgement) → JudgedEach Says n j → r.from ≡ 0 → r.to ≡ n
-    → ((k : ℕ) → k < n → (i : Judgement) → Says k i → i ≡ judge_at r k) → j ≡ judge_one r
-judged_at r {Says} n j judged from to says = go j judged.said
+pub judged_at : (r : Rule) {Says : ℕ → Judgement → Type 0} (a b : ℕ) (j : Judgement) → JudgedEach Says a b j → r.from ≡ a → r.to ≡ b
+    → ((k : ℕ) → a ≤ k → k < b → (i : Judgement) → Says k i → i ≡ judge_at r k) → j ≡ judge_one r
+judged_at r {Says} a b j judged from to says = go j judged.said
   where
-    kept_before : (k : ℕ) → k ≤ n → KeptBefore Says k → (i : ℕ) → i < k → r.breach i ≡ false
-    kept_before k h kept i l = not_broken r i (says i (omega arith) (Ok tt) (kept i l))
+    kept_before : (k : ℕ) → k ≤ b → KeptBefore Says a k → (i : ℕ) → r.from ≤ i → i < k → r.breach i ≡ false
+    kept_before k h kept i l m = not_broken r i (says i (omega (arith, from)) (omega arith) (Ok tt) (kept i (omega (arith, from)) m))
 
-    go : (i : Judgement) → SaidOfEach Says n i → i ≡ judge_one r
-    go (Ok _) kept = never_broken r (λ i l h. kept_before n (omega arith) kept i (omega (arith, to)))
-    go (Err f) b =
-        let at = broken_so r b.index f (says b.index b.below (Err f) b.broken) in
+    go : (i : Judgement) → SaidOfEach Says a b i → i ≡ judge_one r
+    go (Ok _) kept = never_broken r (λ i l h. kept_before b (omega arith) kept i l (omega (arith, to)))
+    go (Err f) s =
+        let at = broken_so r s.index f (says s.index s.inside.0 s.inside.1 (Err f) s.broken) in
         broken_at r f (record {
-          index = b.index;
-          inside = (omega (arith, from), omega (arith, to, b.below));
+          index = s.index;
+          inside = (omega (arith, from, s.inside.0), omega (arith, to, s.inside.1));
           found = at.1;
           breaks = at.0;
-          none_before = λ i l h. kept_before b.index (omega (arith, b.below)) b.before i h;
+          none_before = λ i l h. kept_before s.index (omega (arith, s.inside.1)) s.before i l h;
         })

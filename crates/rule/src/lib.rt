@@ -2,7 +2,7 @@
 // sense, and the laws by which every layer judges.
 #![tactic(auto)]
 
-ghost use Rattle.std.specs.Prelude.{ℕ, ◌<◌};
+ghost use Rattle.std.specs.Prelude.{ℕ, ◌≤◌, ◌<◌};
 ghost use Rattle.rule.specs.Each.{KeptBefore, JudgedEach};
 
 use index::TokenIndex;
@@ -17,16 +17,17 @@ pub struct Finding {
     pub other: TokenIndex,
 }
 
-// Judges each index below `end` in turn: the first that is not kept says what is broken. An index is judged only where all before it
-// were kept.
+// Judges each index from `from` on, below `to`, in turn: the first that is not kept says what is broken. An index is judged only where
+// all before it were kept.
 pub fn judge_each<F: Fn(usize) -> Result<(), Finding>>(
-    end: usize,
+    from: usize,
+    to: usize,
     judge_at: F,
 ) -> Result<(), Finding>
-    requires { (k : ℕ) → k < end → KeptBefore (F.post judge_at) k → F.pre judge_at k }
-    ensures { JudgedEach (F.post judge_at) end result }
+    requires { (k : ℕ) → from ≤ k → k < to → KeptBefore (F.post judge_at) from k → F.pre judge_at k }
+    ensures { JudgedEach (F.post judge_at) from to result }
 {
-    for k in 0..end {
+    for k in from..to {
         judge_at(k)?;
     }
     Ok(())

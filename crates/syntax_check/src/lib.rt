@@ -13,7 +13,6 @@ ghost use Rattle.syntax_check.specs.Refusal.{rules_over};
 
 use convention::judge_conventions;
 use definition::Span;
-use enumeration::Enumeration;
 use restriction::{judge_all_items, judge_all_ranges};
 use rule::Finding;
 use sub_type::Limits;
@@ -33,13 +32,6 @@ pub enum RangeTest {
     Within(Limits, Span),
 }
 
-// The items of a definition that are tested, if it has them.
-#[derive(Clone, Copy)]
-pub enum ItemTest {
-    Itemless,
-    Items(Enumeration),
-}
-
 // Refusals 16 to 19: 16 of all definitions before 17 of any, and so on.
 pub fn judge_syntax(
     text: &[u8],
@@ -52,17 +44,8 @@ pub fn judge_syntax(
     requires { length classes.now ≤ 65536 }
     ensures { result ≡ judge (rules_over (spelling_in text.now starts.now ends.now) classes.now values.now (definitions_in definitions.now)) }
 {
-    let places = judge_all_ranges(classes, values, definitions, Demand::Places);
-    let Ok(()) = places else {
-        return places;
-    };
-    let limits = judge_all_ranges(classes, values, definitions, Demand::Limits);
-    let Ok(()) = limits else {
-        return limits;
-    };
-    let items = judge_all_items(text, starts, ends, classes, values, definitions);
-    let Ok(()) = items else {
-        return items;
-    };
+    judge_all_ranges(classes, values, definitions, Demand::Places)?;
+    judge_all_ranges(classes, values, definitions, Demand::Limits)?;
+    judge_all_items(text, starts, ends, classes, values, definitions)?;
     judge_conventions(classes, values, definitions)
 }

@@ -53,9 +53,7 @@ pub fn judge_tables(values: &[u32], definitions: &[usize], numbers: &[u32]) -> R
     collect_row_clauses(definitions, numbers, &mut row_clauses);
     let mut name_clauses = [0u8; MOST_DEFINITIONS];
     collect_name_clauses(values, definitions, &mut name_clauses);
-    let n = count(definitions);
-    let mut k = 0;
-    while k < n {
+    for k in 0..count(definitions) {
         let clause = picked(
             definition_at(definitions, RecordIndex(k)),
             row_clauses[k],
@@ -64,7 +62,6 @@ pub fn judge_tables(values: &[u32], definitions: &[usize], numbers: &[u32]) -> R
         if clause != 0 {
             return Err(found(values, definitions, RecordIndex(k), clause));
         }
-        k += 1;
     }
     Ok(())
 }

@@ -8,4 +8,4 @@ use Rattle.oid_tree.proofs.room.judge_long.Goals as goal
 
 pub returns : goal.returns
 unfolding long_by_count
-returns c = judged_at (long_by_count (definitions_in c.args.definitions.now)) _ _ c.judge_each.ensures refl (sym c.count.ensures) (λ k h j says. search rules)
+returns c = judged_at (long_by_count (definitions_in c.args.definitions.now)) _ _ _ c.judge_each.ensures refl (sym c.count.ensures) (λ k l h j says. search rules)
