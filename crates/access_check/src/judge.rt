@@ -63,7 +63,11 @@ pub fn judge_access(values: &[u32], definitions: &[usize], numbers: &[u32]) -> R
 }
 
 // What refusal 22 says.
-pub fn judge_notifications(values: &[u32], definitions: &[usize], numbers: &[u32]) -> Result<(), Finding>
+pub fn judge_notifications(
+    values: &[u32],
+    definitions: &[usize],
+    numbers: &[u32],
+) -> Result<(), Finding>
     requires { TwoNumbers (definitions_in definitions.now) numbers.now }
     ensures { result ≡ judge_one (notification_broken (definitions_in definitions.now) values.now numbers.now) }
 {

@@ -34,9 +34,17 @@ fn judge_convention_at(
 }
 
 // Refusal 19 of all definitions.
-pub fn judge_conventions(classes: &[u8], values: &[u32], definitions: &[usize]) -> Result<(), Finding>
+pub fn judge_conventions(
+    classes: &[u8],
+    values: &[u32],
+    definitions: &[usize],
+) -> Result<(), Finding>
     requires { length classes.now ≤ 65536 }
     ensures { result ≡ judge_one (indirect_convention classes.now values.now (definitions_in definitions.now)) }
 {
-    judge_each(0, count(definitions), |k| judge_convention_at(classes, values, definitions, RecordIndex(k)))
+    judge_each(
+        0,
+        count(definitions),
+        |k| judge_convention_at(classes, values, definitions, RecordIndex(k)),
+    )
 }

@@ -52,7 +52,11 @@ pub fn judge_all_ranges(
     requires { length classes.now ≤ 65536 }
     ensures { result ≡ judge (each (range_rule_of classes.now values.now (definitions_in definitions.now) demand) 0 (length (definitions_in definitions.now))) }
 {
-    judge_each(0, count(definitions), |k| judge_ranges_of(classes, values, definitions, demand, RecordIndex(k)))
+    judge_each(
+        0,
+        count(definitions),
+        |k| judge_ranges_of(classes, values, definitions, demand, RecordIndex(k)),
+    )
 }
 
 // Refusal 18 of a definition.
