@@ -13,11 +13,13 @@ use Rattle.token.specs.Token.{Meaning}
 use Rattle.definition.specs.Landmark.{definitions}
 use Rattle.module_table.specs.Definition.{width, definitions_in}
 use Rattle.module_table.specs.Module.{most_definitions}
-use Rattle.outline.specs.Outline.{outline}
+use Rattle.index.specs.declared.TokenIndex.{TokenIndex}
+use Rattle.outline.specs.Outline.{outline, Outlines}
+use Rattle.outline.proofs.Outline.{outline_counted}
 use Rattle.scope.specs.Token.{classes_of}
 use Rattle.naming.specs.Rules.{too_many, after_count, name_rules}
-use Rattle.naming.specs.Told.{plain, ValuesFilled, answer_of, judgement, Holds}
-use Rattle.std.specs.Prelude.{Ok, Err}
+use Rattle.naming.specs.Told.{plain, ValuesFilled}
+use Rattle.std.specs.Prelude.{Result, Ok, Err}
 
 -- where a rule is broken nothing is said of the values
 pub broken_filled : (ms : List Meaning) (j : Judgement) (f : Finding) (values : List ℕ) → j ≡ Err f → ValuesFilled ms j values
@@ -46,20 +48,14 @@ module _ (ms : List Meaning) where
       kept_next (too_many ms) (after_count ms) (Ok tt)
       (never_broken (too_many ms) (λ k l h. ne_eqb k most_definitions (λ same. omega arith))) refl
 
-  answered : (count : ℕ) (j : Judgement) → judgement (answer_of count j) ≡ j
-  answered count (Ok tt) = refl
-  answered count (Err f) = refl
-
-  holding : (count : ℕ) (j : Judgement) (values words : List ℕ) → ValuesFilled ms j values → count ≡ length (outline (classes_of ms))
-      → definitions_in (take (count * width) words) ≡ outline (classes_of ms) → Holds ms (answer_of count j) values words
-  holding count (Ok tt) values words filled is held = (filled, is, held)
-  holding count (Err f) values words filled is held = tt
-
-  -- the answer, by the judgement of the rules after the first
-  module _ (count : ℕ) (j : Judgement) where
-    pub answer_judged : j ≡ judge (after_count ms) → length (definitions (classes_of ms)) ≤ most_definitions → judgement (answer_of count j) ≡ judge (name_rules ms)
-    answer_judged is few = answered count j ∙ is ∙ sym (few_judged few)
-
-    pub answer_holds : (values words : List ℕ) → ValuesFilled ms j values → count ≡ length (outline (classes_of ms))
-        → definitions_in (take (count * width) words) ≡ outline (classes_of ms) → Holds ms (answer_of count j) values words
-    answer_holds values words filled is held = holding count j values words filled is held
+  -- what collecting the definitions leaves where they are not too many, said of the tokens
+  pub collected : (cs words : List ℕ) {r : Result ℕ TokenIndex} (n : ℕ) → cs ≡ classes_of ms → Outlines cs words r → r ≡ Ok n
+      → (n ≡ length (outline (classes_of ms)))
+      × (length (definitions (classes_of ms)) ≤ most_definitions)
+      × (definitions_in (take (n * width) words) ≡ outline (classes_of ms))
+  collected cs words n same o is =
+      let held = subst (Outlines cs words) is o in (
+        held.0 ∙ ap (λ (l : List ℕ). length (outline l)) same,
+        subst (λ (l : List ℕ). length (definitions l) ≤ most_definitions) same (omega (arith, held.0, held.1, outline_counted cs)),
+        held.2 ∙ ap outline same,
+      )
