@@ -89,6 +89,7 @@ pub fn judge_reached(values: &[u32], definitions: &[usize]) -> Result<(), Findin
     ensures { result ≡ judge_one (unreached (named_in [] values.now definitions.now)) }
 {
     judge_each(
+        0,
         count(definitions),
         |k| judge_reached_at(values, definitions, RecordIndex(k)),
     )

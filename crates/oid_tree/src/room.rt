@@ -36,6 +36,7 @@ fn judge_long(definitions: &[usize]) -> Result<(), Finding>
     ensures { result ≡ judge_one (long_by_count (definitions_in definitions.now)) }
 {
     judge_each(
+        0,
         count(definitions),
         |k| judge_long_at(definitions, RecordIndex(k)),
     )

@@ -27,12 +27,12 @@ unfolding judge
 first_kept r rs e = go (judge_one r) refl e
   where
     go : (j : Judgement) → judge_one r ≡ j → and_then j (judge rs) ≡ Ok tt → (judge_one r ≡ Ok tt) × (judge rs ≡ Ok tt)
-    go (Ok tt) is kept = (is, kept)
+    go (Ok _) is kept = (is, kept)
     go (Err f) is kept = let z : ◌≡◌ {A = ℕ} 0 1 = cc in absurd (omega arith)
 
 pub both_kept : (rs ss : List Rule) → judge (rs ++ ss) ≡ Ok tt → (judge rs ≡ Ok tt) × (judge ss ≡ Ok tt)
 both_kept rs ss e = go (judge rs) refl (sym (judge_row rs ss) ∙ e)
   where
     go : (j : Judgement) → judge rs ≡ j → and_then j (judge ss) ≡ Ok tt → (judge rs ≡ Ok tt) × (judge ss ≡ Ok tt)
-    go (Ok tt) is kept = (is, kept)
+    go (Ok _) is kept = (is, kept)
     go (Err f) is kept = let z : ◌≡◌ {A = ℕ} 0 1 = cc in absurd (omega arith)

@@ -21,9 +21,8 @@ use Rattle.enumeration.specs.Refusal.{item_rule}
 use Rattle.syntax_check.specs.Refusal.{item_test_rule, items_of, item_rule_of, rules_over, range_rule_of, indirect_convention}
 use Rattle.syntax_check.specs.declared.Demand.TheVariants.{Places}
 use Rattle.syntax_check.specs.declared.Demand.TheVariants.{Limits as Limited}
-use Rattle.syntax_check.specs.declared.ItemTest.{ItemTest}
-use Rattle.syntax_check.specs.declared.ItemTest.TheVariants.{Itemless, Items}
-use Rattle.std.specs.Prelude.{Ok, Err}
+use Rattle.enumeration.specs.declared.Enumeration.{Enumeration}
+use Rattle.std.specs.Prelude.{Ok, Err, Option, None, Some}
 
 module _ (cs vs : List ℕ) (x y : ℕ → List ℕ) (agree : (i : ℕ) → is_name cs i ≡ true → x i ≡ y i) where
   module _ (i : ℕ) (name : is_name cs i ≡ true) where
@@ -82,9 +81,9 @@ module _ (cs vs : List ℕ) (x y : ℕ → List ℕ) (agree : (i : ℕ) → is_n
         ap (λ (j : Judgement). cond (any (breach y) from to) j (Ok tt)) (says_same k name))
         (λ e. rw e)
 
-  test_judged : (test : ItemTest) → judge_one (item_test_rule x cs vs test) ≡ judge_one (item_test_rule y cs vs test)
-  test_judged Itemless = refl
-  test_judged (Items e) = item_judged e.limits e.span
+  test_judged : (test : Option Enumeration) → judge_one (item_test_rule x cs vs test) ≡ judge_one (item_test_rule y cs vs test)
+  test_judged None = refl
+  test_judged (Some e) = item_judged e.limits e.span
 
   module _ (ds : List Definition) where
     each_judged : (a n : ℕ) → judge (each_of (item_rule_of x cs vs ds) a n) ≡ judge (each_of (item_rule_of y cs vs ds) a n)

@@ -77,7 +77,7 @@ records_of ts m = records_before (starts_of ts) (ends_of ts) m.definitions (coun
 
 -- of tokens that the grammar derives, by what the rules say: a refusal is placed at the start of its token
 abbrev pub judged : List Tok → Judgement → Outcome
-judged ts (Ok tt) =
+judged ts (Ok _) =
     accepted (count_of (module_of (meanings ts))) (records_of ts (module_of (meanings ts))) (module_of (meanings ts)).numbers
 judged ts (Err f) = refused f.number f.clause (start_of ts f.token.0) (start_of ts f.other.0)
 
