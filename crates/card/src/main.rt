@@ -11,7 +11,7 @@ ghost use Rattle.card.specs.Page.{longest_path, page_size, full};
 
 use card_line::{write_head, write_record};
 use output::Output;
-use reader::{Answer, FILE_BYTES, NUMBER_WORDS, RECORD_WORDS};
+use reader::{FILE_BYTES, NUMBER_WORDS, RECORD_WORDS};
 use std::io;
 
 // Once the page holds so many bytes it is written out. Behind them there is room for what comes next, which is a line at most.
@@ -160,7 +160,7 @@ fn print_card(text: &[u8], page: &mut [u8], laid: Laid) -> Laid
     let answer = reader::read(text, &mut records, &mut numbers);
     let start = make_room(page, laid);
     let next = write_head(answer, page, start.at);
-    let Answer::Accepted(count) = answer else {
+    let Ok(count) = answer else {
         return refuse(laid_to(start, next));
     };
     write_records(text, &records, count, &numbers, page, laid_to(start, next))

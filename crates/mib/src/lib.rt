@@ -9,7 +9,7 @@ ghost use Rattle.row_status.specs.RowStatus.{outcome};
 ghost use Rattle.mib.specs.Raw.{laid, step_words, ReadRaw, OctetsRaw, IntegerRaw, SetRaw};
 
 use hint::Answer as Printing;
-use reader::Answer as Reading;
+use reader::PlainRefusal;
 use row_status::Answer as Step;
 
 // Lays words over the first of a slice, as far as it reaches.
@@ -27,35 +27,35 @@ fn lay(words: &[usize], answer: &mut [usize])
 }
 
 // The number, the place and the count of the reader's answer.
-fn number_of(reading: Reading) -> usize
+fn number_of(reading: Result<usize, PlainRefusal>) -> usize
     ensures { result ≡ number_of reading }
 {
     match reading {
-        Reading::Accepted(_) => 0,
-        Reading::Refused(number, _) => number as usize,
+        Ok(_) => 0,
+        Err(refusal) => refusal.number as usize,
     }
 }
 
-fn place_of(reading: Reading) -> usize
+fn place_of(reading: Result<usize, PlainRefusal>) -> usize
     ensures { result ≡ place_of reading }
 {
     match reading {
-        Reading::Accepted(_) => 0,
-        Reading::Refused(_, place) => place.0,
+        Ok(_) => 0,
+        Err(refusal) => refusal.place.0,
     }
 }
 
-fn count_of(reading: Reading) -> usize
+fn count_of(reading: Result<usize, PlainRefusal>) -> usize
     ensures { result ≡ answered_count reading }
 {
     match reading {
-        Reading::Accepted(count) => count,
-        Reading::Refused(_, _) => 0,
+        Ok(count) => count,
+        Err(_) => 0,
     }
 }
 
 // Lays number, place and count of the reader's answer.
-fn lay_reading(reading: Reading, answer: &mut [usize])
+fn lay_reading(reading: Result<usize, PlainRefusal>, answer: &mut [usize])
     ensures { answer.new ≡ laid (number_of reading ∷ place_of reading ∷ answered_count reading ∷ [])
         answer.old }
 {

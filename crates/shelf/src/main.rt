@@ -11,7 +11,7 @@ ghost use Rattle.command.specs.Within.{ListWithin};
 use card_line::write_head;
 use command::{List, NO_LINE};
 use output::{Output, say, say_number};
-use reader::{Answer, Examined, FILE_BYTES, NUMBER_WORDS, RECORD_WORDS, Refusal};
+use reader::{FILE_BYTES, NUMBER_WORDS, PlainRefusal, RECORD_WORDS, Refusal};
 use std::io;
 
 // The files are counted by their answers: accepted, each refusal by its number, which is a byte, and those that cannot be read.
@@ -161,30 +161,33 @@ fn answer_file(
     print_line(name, answer, output::judge(out, number_of(answer) as u64))
 }
 
-fn read_text(text: &[u8]) -> Examined {
+fn read_text(text: &[u8]) -> Result<usize, Refusal> {
     let mut records = [0u32; RECORD_WORDS];
     let mut numbers = [0u32; NUMBER_WORDS];
     reader::examine(text, &mut records, &mut numbers)
 }
 
 // Number, place and count alone, which the line has.
-fn answer_of(examined: Examined) -> Answer {
+fn answer_of(examined: Result<usize, Refusal>) -> Result<usize, PlainRefusal> {
     match examined {
-        Examined::Refused(refusal) => refused(refusal),
-        Examined::Accepted(definitions) => Answer::Accepted(definitions),
+        Err(refusal) => Err(plain(refusal)),
+        Ok(definitions) => Ok(definitions),
     }
 }
 
-fn refused(refusal: Refusal) -> Answer {
+fn plain(refusal: Refusal) -> PlainRefusal {
     let place = refusal.place;
-    Answer::Refused(refusal.number, place)
+    PlainRefusal {
+        number: refusal.number,
+        place,
+    }
 }
 
 // Counts a file by what was found of it.
-fn count_examined(text: &[u8], examined: Examined, counts: &mut [u64]) {
+fn count_examined(text: &[u8], examined: Result<usize, Refusal>, counts: &mut [u64]) {
     match examined {
-        Examined::Refused(refusal) => count_refused(text, refusal, counts),
-        Examined::Accepted(_) => count_one(counts, ACCEPTED),
+        Err(refusal) => count_refused(text, refusal, counts),
+        Ok(_) => count_one(counts, ACCEPTED),
     }
 }
 
@@ -197,15 +200,15 @@ fn count_refused(text: &[u8], refusal: Refusal, counts: &mut [u64]) {
 }
 
 // The number of the answer; 0 where the module is accepted.
-fn number_of(answer: Answer) -> usize {
+fn number_of(answer: Result<usize, PlainRefusal>) -> usize {
     match answer {
-        Answer::Accepted(_) => ACCEPTED,
-        Answer::Refused(number, _) => number as usize,
+        Ok(_) => ACCEPTED,
+        Err(refusal) => refusal.number as usize,
     }
 }
 
 // The name, a tab, and the first line of the card.
-fn print_line(name: &[u8], answer: Answer, out: Output) -> Output {
+fn print_line(name: &[u8], answer: Result<usize, PlainRefusal>, out: Output) -> Output {
     let mut line = [0u8; 64];
     let next = buffer::put(&mut line, 0, b'\t');
     let end = write_head(answer, &mut line, next);

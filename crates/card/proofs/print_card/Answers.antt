@@ -8,5 +8,5 @@ pub write_records-requires-clause-records : goal.write_records-requires-clause-r
 write_records-requires-clause-records c =
     let size = length-replicate {A = ℕ} 5120 0 in
     let room = length-replicate {A = ℕ} 8192 0 in
-    let few = accepted_few _ _ _ _ _ _ _ c.in-Accepted.ensures (omega (arith, size)) (omega (arith, room)) refl in
+    let few = accepted_few _ _ _ _ _ _ _ c.in-Ok.ensures (omega (arith, size)) (omega (arith, room)) refl in
     omega (arith, few, size, c.read-answer.auto.records)
