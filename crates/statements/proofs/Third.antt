@@ -15,8 +15,7 @@ use Rattle.syntax.specs.Parsing.{ThirdDemand as ParsingDemand, answer_to as pars
 use Rattle.syntax.specs.declared.Answer.{Answer as Parsing}
 use Rattle.syntax.proofs.Parsed.{third_demand as parsing-demand}
 use Rattle.reader.specs.Reading.{rules, judged, outcome}
-use Rattle.reader.specs.Buffers.{number_of, answer_to, Reads}
-use Rattle.reader.specs.declared.Answer.{Answer}
+use Rattle.reader.specs.Buffers.{number_of, answer_to, Reads, Answer}
 use Rattle.statements.specs.Order.{rank}
 use Rattle.statements.specs.Breach.{WithinLimits, Cuts}
 use Rattle.statements.specs.Statements.{ThirdDemand}
