@@ -14,7 +14,7 @@ use Rattle.reader.specs.Reading.{Outcome, rules}
 use Rattle.reader.proofs.Kept.{few_definitions, accepted_kept}
 use Rattle.reader.specs.Buffers.{record_words, number_words, Answer, refused_by, answer_to, Reads}
 use Rattle.reader.specs.Buffers.{answered_count as count-in}
-use Rattle.std.specs.Prelude.{Ok, Err}
+use Rattle.std.specs.Prelude.{Ok}
 
 module _ (text : List ℕ) (count : ℕ) where
   module _ (answer : Answer) (records r numbers n : List ℕ) (reads : Reads text answer records r numbers n)

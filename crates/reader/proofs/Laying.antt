@@ -22,7 +22,6 @@ use Rattle.syntax.specs.declared.Answer.{Answer as Parsing}
 use Rattle.syntax.specs.declared.Answer.TheVariants.{Derived, Underived, Uncut}
 use Rattle.reader.specs.Reading.{judged, rules, outcome}
 use Rattle.reader.specs.Buffers.{examined_to, unparsed, Laid, Examined}
-use Rattle.std.specs.Prelude.{Ok, Err}
 
 -- ---- the slices that hold the tokens alone
 

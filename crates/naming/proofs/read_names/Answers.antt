@@ -7,7 +7,7 @@ use Rattle.token.specs.Cut.{meanings_in}
 use Rattle.scope.proofs.Tokens.{classes_are}
 use Rattle.naming.specs.Told.{plain, judgement}
 use Rattle.naming.proofs.Reading.{many_judged, few_judged, collected}
-use Rattle.std.specs.Prelude.{Ok, Err}
+use Rattle.std.specs.Prelude.{Err}
 use Rattle.naming.proofs.read_names.Goals as goal
 
 pub returns-in_err-count-clause-judged : goal.returns-in_err-count-clause-judged

@@ -9,7 +9,7 @@ use Rattle.module_table.specs.Definition.{definitions_in}
 use Rattle.syntax_check.specs.declared.Demand.{Demand}
 use Rattle.syntax_check.specs.declared.Demand.TheVariants.{Places, Limits}
 use Rattle.syntax_check.specs.Refusal.{range_rule_of, item_rule_of, indirect_convention, rules_over}
-use Rattle.std.specs.Prelude.{Ok, Err}
+use Rattle.std.specs.Prelude.{Ok}
 use Rattle.syntax_check.proofs.judge_syntax.Goals as goal
 
 module _ (x : Spelling) (cs vs : List ℕ) (ds : List Definition) where

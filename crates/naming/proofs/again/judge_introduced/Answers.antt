@@ -1,7 +1,6 @@
 -- `judge_introduced` is right by the law of the loop that puts names into trees.
 -- Assumes nothing.
 use Rattle.std.proofs.Common.{sym, ap, ◌∙◌, arith, length}
-use Rattle.token.specs.Cut.{meanings_in}
 use Rattle.scope.specs.Lead.{introduces}
 use Rattle.scope.proofs.Tokens.{classes_are, held_said}
 use Rattle.naming.proofs.Twice.{naming_start, naming_skip, naming_new, naming_again, naming_end}

@@ -5,7 +5,6 @@ use lib.Seq.{take_at, length-take-le}
 use Rattle.rule.specs.Rule.{judge}
 use Rattle.token.specs.Cut.{cut, meanings_in}
 use Rattle.token.specs.Table.{overlaid}
-use Rattle.module_table.specs.declared.Definition.{Definition}
 use Rattle.module_table.proofs.Table.{table_counted}
 use Rattle.scope.proofs.Tokens.{few_classes, classes_are}
 use Rattle.naming.specs.Told.{judgement}

@@ -1,7 +1,7 @@
 -- `judge_tables` is right by the law of the loop that judges a rule.
 -- Assumes nothing.
 use lib.Dec.{ltb}
-use Rattle.std.proofs.Common.{rules, refl, sym, ap, ◌≡◌, ◌∙◌, arith}
+use Rattle.std.proofs.Common.{refl, sym, ap, ◌≡◌, ◌∙◌, arith}
 use Rattle.rule.proofs.Judged.{judging_start, judging_next, judging_broken, judging_kept}
 use Rattle.module_table.specs.Definition.{definitions_in}
 use Rattle.table_check.specs.Refusal.{clause_of, table_broken}
