@@ -13,7 +13,6 @@ use Rattle.index.specs.First.{first}
 use Rattle.index.proofs.Search.{true_false, answers, first_hit, first_none, first_holds, first_passed, first_is, first_end}
 use Rattle.rule.specs.Rule.{Rule, finding, judge_one}
 use Rattle.rule.specs.declared.Finding.{Finding}
-use Rattle.rule.specs.declared.Judgement.TheVariants.{Kept, Broken}
 use Rattle.rule.proofs.Judged.{breach_here, none_left}
 use Rattle.module_table.specs.Definition.{entry}
 use Rattle.module_table.specs.declared.Definition.{Definition}
@@ -25,6 +24,7 @@ use Rattle.object_tree.proofs.Parents.{both}
 use Rattle.access_check.specs.Access.{clashes, is_written_column, access_clause}
 use Rattle.access_check.specs.Notification.{is_not_zeroed}
 use Rattle.access_check.specs.Found.{own_clause}
+use Rattle.std.specs.Prelude.{Ok, Err}
 
 -- ---- what a rule says, by its first breach
 
@@ -32,12 +32,12 @@ module _ (r : Rule) (n k : ℕ) (from : r.from ≡ 0) (end : r.to ≡ n) (is : k
   whole : first r.breach 0 n ≡ first r.breach r.from n
   whole = ap (λ (a : ℕ). first r.breach a n) (sym from)
 
-  pub first_broken : k < n → (f : Finding) → f ≡ finding r k → Broken f ≡ judge_one r
+  pub first_broken : k < n → (f : Finding) → f ≡ finding r k → Err f ≡ judge_one r
   first_broken h f at =
       let holds : r.breach k ≡ true = ap r.breach is ∙ first_holds r.breach 0 n (omega (arith, is)) (omega arith) in
       breach_here r n k end (first_hit r.breach k n h holds ∙ is ∙ whole) h holds f at
 
-  pub none_broken : n ≤ k → Kept ≡ judge_one r
+  pub none_broken : n ≤ k → Ok tt ≡ judge_one r
   none_broken h = none_left r n k end (first_none r.breach k n h ∙ is ∙ whole) h
 
 -- ---- the earlier of two searches

@@ -12,7 +12,7 @@ use crate::fault::{clause_at, first_fault};
 use crate::notification::notification_other;
 use index::{RecordIndex, TokenIndex};
 use module_table::{count, definition_at};
-use rule::{Finding, Judgement};
+use rule::Finding;
 
 // The numbers of the refusals, and that of the clause on a clash.
 const ACCESS_BROKEN: u8 = 21;
@@ -42,7 +42,7 @@ fn found(
 }
 
 // What refusal 21 says: the first clash, or an earlier object at fault by itself.
-pub fn judge_access(values: &[u32], definitions: &[usize], numbers: &[u32]) -> Judgement
+pub fn judge_access(values: &[u32], definitions: &[usize], numbers: &[u32]) -> Result<(), Finding>
     ensures { result ≡ judge_one (access_broken (definitions_in definitions.now) values.now) }
 {
     let n = count(definitions);
@@ -51,19 +51,23 @@ pub fn judge_access(values: &[u32], definitions: &[usize], numbers: &[u32]) -> J
     if (clash < n) & (clash <= fault) {
         let k = RecordIndex(clash);
         let other = access_other(values, definitions, CLASH, k);
-        return Judgement::Broken(found(definitions, ACCESS_BROKEN, CLASH, k, other));
+        return Err(found(definitions, ACCESS_BROKEN, CLASH, k, other));
     }
     if fault < n {
         let k = RecordIndex(fault);
         let clause = clause_at(values, definitions, numbers, Check::Access, k);
         let other = access_other(values, definitions, clause, k);
-        return Judgement::Broken(found(definitions, ACCESS_BROKEN, clause, k, other));
+        return Err(found(definitions, ACCESS_BROKEN, clause, k, other));
     }
-    Judgement::Kept
+    Ok(())
 }
 
 // What refusal 22 says.
-pub fn judge_notifications(values: &[u32], definitions: &[usize], numbers: &[u32]) -> Judgement
+pub fn judge_notifications(
+    values: &[u32],
+    definitions: &[usize],
+    numbers: &[u32],
+) -> Result<(), Finding>
     requires { TwoNumbers (definitions_in definitions.now) numbers.now }
     ensures { result ≡ judge_one (notification_broken (definitions_in definitions.now) values.now numbers.now) }
 {
@@ -73,7 +77,7 @@ pub fn judge_notifications(values: &[u32], definitions: &[usize], numbers: &[u32
         let k = RecordIndex(fault);
         let clause = clause_at(values, definitions, numbers, Check::Notification, k);
         let other = notification_other(values, definitions, clause, k);
-        return Judgement::Broken(found(definitions, NOTIFICATION_BROKEN, clause, k, other));
+        return Err(found(definitions, NOTIFICATION_BROKEN, clause, k, other));
     }
-    Judgement::Kept
+    Ok(())
 }

@@ -14,20 +14,19 @@ use Rattle.token.specs.Table.{longest_text}
 use Rattle.module_table.specs.Module.{most_definitions}
 use Rattle.reader.specs.Reading.{Outcome, rules}
 use Rattle.reader.proofs.Kept.{few_definitions, accepted_kept}
-use Rattle.reader.specs.Buffers.{record_words, number_words, answer_to, Reads}
+use Rattle.reader.specs.Buffers.{record_words, number_words, Answer, refused_by, answer_to, Reads}
 use Rattle.reader.specs.Buffers.{answered_count as count-in}
-use Rattle.reader.specs.declared.Answer.{Answer}
-use Rattle.reader.specs.declared.Answer.TheVariants.{Accepted, Refused}
+use Rattle.std.specs.Prelude.{Ok}
 
 module _ (text : List ℕ) (count : ℕ) where
   module _ (answer : Answer) (records r numbers n : List ℕ) (reads : Reads text answer records r numbers n)
-      (room : record_words ≤ length records) (space : number_words ≤ length numbers) (accepted : answer ≡ Accepted count) where
+      (room : record_words ≤ length records) (space : number_words ≤ length numbers) (accepted : answer ≡ Ok count) where
     accepted_within : length text ≤ longest_text
     accepted_within = go (dec_lt longest_text (length text))
       where
         go : Dec (longest_text < length text) → length text ≤ longest_text
         go (yes over) =
-            let same : Accepted count ≡ Refused 2 (record { 0 = 0 }) = sym accepted ∙ (reads.long room space over).answered in
+            let same : ◌≡◌ {A = Answer} (Ok count) (refused_by 2 0) = sym accepted ∙ (reads.long room space over).answered in
             let z : ◌≡◌ {A = ℕ} 0 1 = cc in
             absurd (omega arith)
         go (no within) = omega (arith, within)

@@ -10,7 +10,7 @@ ghost use Rattle.card.specs.Page.{longest_path, page_size, full};
 
 use card_line::{Record, write_head};
 use output::Output;
-use reader::{Answer, FILE_BYTES, NUMBER_WORDS, RECORD_WORDS};
+use reader::{FILE_BYTES, NUMBER_WORDS, PlainRefusal, RECORD_WORDS};
 use std::io;
 
 // How many bytes a page has.
@@ -118,17 +118,17 @@ impl Page {
         let answer = reader::read(text, &mut records, &mut numbers);
         self.lay_head(answer);
         match answer {
-            Answer::Accepted(count) => self.lay_records(
+            Ok(count) => self.lay_records(
                 text,
                 &records[..records::WIDTH * count],
                 &numbers,
             ),
-            Answer::Refused(_, _) => self.out = output::refuse(self.out),
+            Err(_) => self.out = output::refuse(self.out),
         }
     }
 
     // The card's first line.
-    fn lay_head(&mut self, answer: Answer) {
+    fn lay_head(&mut self, answer: Result<usize, PlainRefusal>) {
         self.make_room();
         let at = self.at;
         self.at = write_head(answer, &mut self.bytes, at);

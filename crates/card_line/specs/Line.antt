@@ -1,12 +1,11 @@
 -- The lines of the card: document 01, "The shelf card". `text` is the module's text, `words` are those of one record, and `numbers` is
 -- the number buffer.
 -- Assumes nothing.
-use Rattle.std.specs.Prelude.{List, [], ◌∷◌, ◌++◌, ℕ, ◌+◌, ◌*◌, min, get_or, take, drop}
+use Rattle.std.specs.Prelude.{List, [], ◌∷◌, ◌++◌, ℕ, ◌+◌, ◌*◌, min, get_or, take, drop, Ok, Err}
 use Prim.Native.Char.{code}
 use Rattle.lexicon.specs.Word.{bytes, longest_name}
 use Rattle.digit.specs.Digits.{digits}
-use Rattle.reader.specs.declared.Answer.{Answer}
-use Rattle.reader.specs.declared.Answer.TheVariants.{Accepted, Refused}
+use Rattle.reader.specs.Buffers.{Answer}
 
 -- what stands between the fields of a line, and behind the last
 abbrev pub tab : ℕ
@@ -27,8 +26,8 @@ unfoldable pub refused_line : ℕ → ℕ → List ℕ
 refused_line number place = (bytes "refused" ++ tab ∷ []) ++ (field number tab ++ field place line_end)
 
 abbrev pub head : Answer → List ℕ
-head (Accepted count) = accepted_line count
-head (Refused number place) = refused_line number place.0
+head (Ok count) = accepted_line count
+head (Err r) = refused_line r.number r.place.0
 
 -- further numbers, each behind a point
 unfoldable pub pointed : List ℕ → List ℕ

@@ -11,7 +11,7 @@ ghost use Rattle.card_line.specs.Line.{attributes_room, line_room};
 
 use buffer::{copy, put};
 use digit::{glyph_of, print_digits};
-use reader::Answer;
+use reader::PlainRefusal;
 
 const TAB: u8 = 9;
 
@@ -87,14 +87,14 @@ fn write_refused(number: u8, place: usize, out: &mut [u8], at: usize) -> usize
 }
 
 // Writes the card's first line, and answers the place after it.
-pub fn write_head(answer: Answer, out: &mut [u8], at: usize) -> usize
+pub fn write_head(answer: Result<usize, PlainRefusal>, out: &mut [u8], at: usize) -> usize
     requires { at + head_room ≤ length out.old }
     ensures bytes { Wrote (head answer) at result out.old out.new }
     ensures short { result ≤ at + head_room }
 {
     match answer {
-        Answer::Accepted(count) => write_accepted(count, out, at),
-        Answer::Refused(number, place) => write_refused(number, place.0, out, at),
+        Ok(count) => write_accepted(count, out, at),
+        Err(refusal) => write_refused(refusal.number, refusal.place.0, out, at),
     }
 }
 

@@ -11,7 +11,7 @@ mod syntax_line;
 use card_line::{Record, write_head};
 use column::{Widths, print_column, print_last};
 use output::Output;
-use reader::{Answer, FILE_BYTES, NUMBER_WORDS, RECORD_WORDS};
+use reader::{FILE_BYTES, NUMBER_WORDS, PlainRefusal, RECORD_WORDS};
 
 // How many bytes a file's name may have.
 const NAME: usize = 4096;
@@ -73,7 +73,7 @@ fn print_card(text: &[u8], out: Output) -> Output {
     let mut numbers = [0u32; NUMBER_WORDS];
     let answer = reader::read(text, &mut records, &mut numbers);
     let out = print_head(answer, out);
-    let Answer::Accepted(_) = answer else {
+    let Ok(_) = answer else {
         return output::refuse(out);
     };
     let card = Card {
@@ -85,7 +85,7 @@ fn print_card(text: &[u8], out: Output) -> Output {
 }
 
 // The card's first line.
-fn print_head(answer: Answer, out: Output) -> Output {
+fn print_head(answer: Result<usize, PlainRefusal>, out: Output) -> Output {
     let mut line = [0u8; 64];
     let end = write_head(answer, &mut line, 0);
     output::print(out, &line[..end])

@@ -12,7 +12,6 @@ use Rattle.index.specs.First.{first, any}
 use Rattle.index.proofs.Search.{true_false, first_from, first_inside, first_holds, first_passed, first_is, first_end, first_none, first_same}
 use Rattle.rule.specs.Rule.{judge_one}
 use Rattle.rule.proofs.Judged.{never_broken, broken_at}
-use Rattle.rule.specs.declared.Judgement.TheVariants.{Kept, Broken}
 use Rattle.definition.specs.Members.{is_name}
 use Rattle.definition.specs.declared.Span.{Span}
 use Rattle.sub_type.specs.Number.{end_in, is_outside}
@@ -20,6 +19,7 @@ use Rattle.enumeration.specs.Item.{Spelling, item_number, first_label, first_num
 use Rattle.enumeration.specs.Refusal.{item_rule}
 use Rattle.sub_type.specs.declared.Limits.{Limits}
 use Rattle.enumeration.proofs.Labels.{smaller, smaller_first, smaller_second}
+use Rattle.std.specs.Prelude.{Ok, Err}
 
 -- either of two tests: its first hit is the first of the two
 either_true : (a b : Bool) → (a ≡ true → (a || b) ≡ true) × (b ≡ true → (a || b) ≡ true)
@@ -127,7 +127,7 @@ module _
     pub token_from : s.from ≤ token
     token_from = omega (arith, is, first_from (λ (i : ℕ). ltb 0 (item_clause x cs vs limits s.from i)) s.from (end_in cs s))
 
-    pub items_kept : end_in cs s ≤ token → Kept ≡ judge_one (item_rule x cs vs limits s)
+    pub items_kept : end_in cs s ≤ token → Ok tt ≡ judge_one (item_rule x cs vs limits s)
     unfolding item_rule
     items_kept end =
         never_broken (item_rule x cs vs limits s)
@@ -136,7 +136,7 @@ module _
     pub items_broken : token < end_in cs s → (label number clause other : ℕ) → label ≡ first_label x cs s.from token
         → number ≡ first_number cs vs s.from token → clause ≡ cond (ltb label token) 1 (cond (ltb number token) 2 3)
         → other ≡ cond (ltb label token) label number
-        → Broken (record { number = 18; clause = clause; token = record { 0 = token }; other = record { 0 = other } }) ≡ judge_one (item_rule x cs vs limits s)
+        → Err (record { number = 18; clause = clause; token = record { 0 = token }; other = record { 0 = other } }) ≡ judge_one (item_rule x cs vs limits s)
     unfolding item_rule
     items_broken h label number clause other same_label same_number kind against =
         broken_at (item_rule x cs vs limits s) _

@@ -14,7 +14,7 @@ use crate::label::{has_label, lesser, part_of};
 use bit_tree::{bit, child, hang, name_bit};
 use definition::{Span, is_lower};
 use index::TokenIndex;
-use rule::{Finding, Judgement};
+use rule::Finding;
 use sub_type::{Limits, class_at, end_in, is_outside, is_same_number, less, word_at};
 use token::LONGEST_TEXT;
 
@@ -288,7 +288,7 @@ pub fn judge_items(
     classes: &[u8],
     values: &[u32],
     items: Enumeration,
-) -> Judgement
+) -> Result<(), Finding>
     requires { length classes.now ≤ 65536 }
     ensures { result ≡ judge_one (item_rule (spelling_in text.now starts.now ends.now) classes.now values.now items.limits items.span) }
 {
@@ -303,12 +303,12 @@ pub fn judge_items(
         let before = Span { from, to: token };
         let same_label = first_same_label(text, starts, ends, classes, before);
         let same_number = first_same_number(classes, values, before);
-        return Judgement::Broken(Finding {
+        return Err(Finding {
             number: 18,
             clause: item_clause(same_label, same_number, token),
             token: TokenIndex(token),
             other: TokenIndex(item_other(same_label, same_number, token)),
         });
     }
-    Judgement::Kept
+    Ok(())
 }

@@ -20,7 +20,7 @@ mod word;
 
 use fault::Fault;
 use output::Output;
-use reader::{Examined, FILE_BYTES, NUMBER_WORDS, RECORD_WORDS};
+use reader::{FILE_BYTES, NUMBER_WORDS, RECORD_WORDS, Refusal};
 use source::print_source;
 
 // How many bytes a file's name may have.
@@ -57,11 +57,11 @@ fn explain_text(name: &[u8], text: &[u8], out: Output) -> Output {
     let mut records = [0u32; RECORD_WORDS];
     let mut numbers = [0u32; NUMBER_WORDS];
     match reader::examine(text, &mut records, &mut numbers) {
-        Examined::Accepted(definitions) => {
+        Ok(definitions) => {
             let out = output::show(out, name);
             count::print_accepted(&records, definitions, out)
         }
-        Examined::Refused(refusal) => explain_fault(
+        Err(refusal) => explain_fault(
             Fault {
                 name,
                 text,

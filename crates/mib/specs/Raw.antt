@@ -1,8 +1,7 @@
 -- What the exported functions leave in each slice that they are lent, for any slices and any numbers.
 -- Assumes nothing.
 use Rattle.std.specs.Prelude.{◌≡◌, Bool, not, List, [], ◌∷◌, ℕ, eqb, ℤ, length}
-use Rattle.reader.specs.Buffers.{number_of, place_of, answered_count, Reads}
-use Rattle.reader.specs.declared.Answer.{Answer}
+use Rattle.reader.specs.Buffers.{number_of, place_of, answered_count, Answer, Reads}
 use Rattle.hint.specs.Answer.{Verdict, octets_part, integer_part, octets_verdict, integer_verdict, number, place, size, buffer}
 use Rattle.row_status.specs.RowStatus.{Outcome, row_status}
 

@@ -8,7 +8,7 @@ ghost use Rattle.hint.specs.Answer.{number_of as printed_number, place_of as pri
 ghost use Rattle.row_status.specs.RowStatus.{outcome};
 ghost use Rattle.mib.specs.Raw.{laid, step_words, ReadRaw, OctetsRaw, IntegerRaw, SetRaw};
 
-use reader::Answer as Reading;
+use reader::PlainRefusal;
 use row_status::State;
 
 // Lays words over the first of a slice, as far as it reaches.
@@ -20,13 +20,13 @@ fn lay(words: &[usize], answer: &mut [usize])
 }
 
 // Lays number, place and count of the reader's answer.
-fn lay_reading(reading: Reading, answer: &mut [usize])
+fn lay_reading(reading: Result<usize, PlainRefusal>, answer: &mut [usize])
     ensures { answer.new ≡ laid (number_of reading ∷ place_of reading ∷ answered_count reading ∷ [])
         answer.old }
 {
     match reading {
-        Reading::Accepted(count) => lay(&[0, 0, count], answer),
-        Reading::Refused(number, place) => lay(&[number as usize, place.0, 0], answer),
+        Ok(count) => lay(&[0, 0, count], answer),
+        Err(refusal) => lay(&[refusal.number as usize, refusal.place.0, 0], answer),
     }
 }
 

@@ -14,7 +14,6 @@ use Rattle.terminal.specs.Terminal.{lower, number}
 use Rattle.index.proofs.Search.{true_false, answers, any_at}
 use Rattle.index.proofs.Hits.{hits_rise, hit_inside, hit_holds}
 use Rattle.rule.specs.Rule.{judge_one}
-use Rattle.rule.specs.declared.Judgement.TheVariants.{Kept}
 use Rattle.rule.proofs.Judged.{judge_alone, judged_kept}
 use Rattle.lexicon.specs.Word.{same, is_name}
 use Rattle.lexicon.proofs.Words.{same_equal, same_refl}
@@ -37,6 +36,7 @@ use Rattle.naming.specs.Rules.{is_again, introduced_again, not_offered}
 use Rattle.naming.specs.Values.{is_use, value_at, values_from, values_of}
 use Rattle.naming.specs.Told.{Filled, NumbersFilled}
 use Rattle.naming.proofs.Twice.{or_second, name_again}
+use Rattle.std.specs.Prelude.{Ok}
 
 -- ---- the list of values
 
@@ -63,7 +63,7 @@ values_are ms values long each =
 
 -- ---- the imports
 
-module _ (ms : List Meaning) (kept : Kept ≡ judge_one (introduced_again ms)) where
+module _ (ms : List Meaning) (kept : Ok tt ≡ judge_one (introduced_again ms)) where
   no_again : (i : ℕ) → i < length ms → is_again ms i ≡ false
   unfolding introduced_again
   no_again i h = (judged_kept (introduced_again ms ∷ []) (sym (kept ∙ judge_alone (introduced_again ms)))).0 i (omega arith) h
@@ -110,7 +110,7 @@ module _ (ms : List Meaning) (kept : Kept ≡ judge_one (introduced_again ms)) w
     import_value = rw own (ap word_of (sym own_lead))
 
 -- where rule 10 is kept each import is offered
-pub all_offered : (ms : List Meaning) → Kept ≡ judge_one (not_offered ms) → AllOffered ms
+pub all_offered : (ms : List Meaning) → Ok tt ≡ judge_one (not_offered ms) → AllOffered ms
 unfolding not_offered
 all_offered ms kept i own =
     let none = (judged_kept (not_offered ms ∷ []) (sym (kept ∙ judge_alone (not_offered ms)))).0 i (omega arith) (import_before (classes_of ms) i own) in
@@ -152,7 +152,7 @@ module _ (text starts ends : List ℕ) (t : TokensHeld text (classes_of (meaning
       }
 
   module _ (one two three : List ℕ)
-      (kept : Kept ≡ judge_one (introduced_again (meanings_in text)))
+      (kept : Ok tt ≡ judge_one (introduced_again (meanings_in text)))
       (offers : AllOffered (meanings_in text))
       (imports : (i : ℕ) → i < imports_end (classes_of (meanings_in text)) → get_or one i 0 ≡ import_word (meanings_in text) i)
       (uses : Filled (meanings_in text) one two)

@@ -6,30 +6,31 @@ use Prim.Native.Nat.{ℕ, ◌*◌, ◌≤◌, ◌<◌}
 use native.Mathlib.Omega.{arith}
 use lib.ListN.{length, get_or, take}
 use borrow.Author.Tests.{eq-eqb, ne_eqb}
-use Rattle.rule.specs.Rule.{judge}
+use Rattle.rule.specs.Rule.{judge, Judgement}
 use Rattle.rule.specs.declared.Finding.{Finding}
-use Rattle.rule.specs.declared.Judgement.{Judgement}
-use Rattle.rule.specs.declared.Judgement.TheVariants as judged
 use Rattle.rule.proofs.Judged.{BrokenAt, broken_at, never_broken, kept_next, broken_first}
 use Rattle.token.specs.Token.{Meaning}
 use Rattle.definition.specs.Landmark.{definitions}
 use Rattle.module_table.specs.Definition.{width, definitions_in}
 use Rattle.module_table.specs.Module.{most_definitions}
-use Rattle.outline.specs.Outline.{outline}
+use Rattle.index.specs.declared.TokenIndex.{TokenIndex}
+use Rattle.outline.specs.Outline.{outline, Outlines}
+use Rattle.outline.proofs.Outline.{outline_counted}
 use Rattle.scope.specs.Token.{classes_of}
 use Rattle.naming.specs.Rules.{too_many, after_count, name_rules}
-use Rattle.naming.specs.Told.{plain, ValuesFilled, answer_of, judgement, Holds}
+use Rattle.naming.specs.Told.{plain, ValuesFilled}
+use Rattle.std.specs.Prelude.{Result, Ok, Err}
 
 -- where a rule is broken nothing is said of the values
-pub broken_filled : (ms : List Meaning) (j : Judgement) (f : Finding) (values : List ℕ) → j ≡ judged.Broken f → ValuesFilled ms j values
+pub broken_filled : (ms : List Meaning) (j : Judgement) (f : Finding) (values : List ℕ) → j ≡ Err f → ValuesFilled ms j values
 broken_filled ms j f values e = subst (λ (x : Judgement). ValuesFilled ms x values) (sym e) tt
 
 module _ (ms : List Meaning) where
   -- a definition is too many
   pub many_judged : most_definitions < length (definitions (classes_of ms)) → (i : ℕ) → i ≡ get_or (definitions (classes_of ms)) most_definitions 0
-      → judged.Broken (plain 8 i) ≡ judge (name_rules ms)
+      → Err (plain 8 i) ≡ judge (name_rules ms)
   unfolding too_many
-  many_judged more i is = broken_first (too_many ms) (after_count ms) (judged.Broken (plain 8 i)) (broken_at (too_many ms) (plain 8 i) here) (plain 8 i) refl
+  many_judged more i is = broken_first (too_many ms) (after_count ms) (Err (plain 8 i)) (broken_at (too_many ms) (plain 8 i) here) (plain 8 i) refl
     where
       here : BrokenAt (too_many ms) (plain 8 i)
       here = record {
@@ -44,23 +45,17 @@ module _ (ms : List Meaning) where
   pub few_judged : length (definitions (classes_of ms)) ≤ most_definitions → judge (name_rules ms) ≡ judge (after_count ms)
   unfolding too_many
   few_judged few =
-      kept_next (too_many ms) (after_count ms) judged.Kept
+      kept_next (too_many ms) (after_count ms) (Ok tt)
       (never_broken (too_many ms) (λ k l h. ne_eqb k most_definitions (λ same. omega arith))) refl
 
-  answered : (count : ℕ) (j : Judgement) → judgement (answer_of count j) ≡ j
-  answered count judged.Kept = refl
-  answered count (judged.Broken f) = refl
-
-  holding : (count : ℕ) (j : Judgement) (values words : List ℕ) → ValuesFilled ms j values → count ≡ length (outline (classes_of ms))
-      → definitions_in (take (count * width) words) ≡ outline (classes_of ms) → Holds ms (answer_of count j) values words
-  holding count judged.Kept values words filled is held = (filled, is, held)
-  holding count (judged.Broken f) values words filled is held = tt
-
-  -- the answer, by the judgement of the rules after the first
-  module _ (count : ℕ) (j : Judgement) where
-    pub answer_judged : j ≡ judge (after_count ms) → length (definitions (classes_of ms)) ≤ most_definitions → judgement (answer_of count j) ≡ judge (name_rules ms)
-    answer_judged is few = answered count j ∙ is ∙ sym (few_judged few)
-
-    pub answer_holds : (values words : List ℕ) → ValuesFilled ms j values → count ≡ length (outline (classes_of ms))
-        → definitions_in (take (count * width) words) ≡ outline (classes_of ms) → Holds ms (answer_of count j) values words
-    answer_holds values words filled is held = holding count j values words filled is held
+  -- what collecting the definitions leaves where they are not too many, said of the tokens
+  pub collected : (cs words : List ℕ) {r : Result ℕ TokenIndex} (n : ℕ) → cs ≡ classes_of ms → Outlines cs words r → r ≡ Ok n
+      → (n ≡ length (outline (classes_of ms)))
+      × (length (definitions (classes_of ms)) ≤ most_definitions)
+      × (definitions_in (take (n * width) words) ≡ outline (classes_of ms))
+  collected cs words n same o is =
+      let held = subst (Outlines cs words) is o in (
+        held.0 ∙ ap (λ (l : List ℕ). length (outline l)) same,
+        subst (λ (l : List ℕ). length (definitions l) ≤ most_definitions) same (omega (arith, held.0, held.1, outline_counted cs)),
+        held.2 ∙ ap outline same,
+      )

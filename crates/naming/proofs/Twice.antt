@@ -10,7 +10,6 @@ use lib.ListN.{length, replicate}
 use Rattle.index.specs.First.{any}
 use Rattle.index.proofs.Search.{true_false, answers, first_from, first_passed, first_is, first_end, any_at, none_any}
 use Rattle.rule.specs.Rule.{judge_one}
-use Rattle.rule.specs.declared.Judgement.TheVariants.{Kept, Broken}
 use Rattle.rule.proofs.Judged.{Judging, judging_start, judging_next, judging_broken, judging_kept}
 use Rattle.lexicon.specs.Word.{same}
 use Rattle.lexicon.proofs.Words.{same_equal}
@@ -27,7 +26,7 @@ use Rattle.scope.proofs.Imports.{introduces_named}
 use Rattle.scope.specs.Lead.{introduces}
 use Rattle.naming.specs.Rules.{introduces_name, is_again, first_name, introduced_again}
 use Rattle.naming.specs.Told.{Introduces}
-use Rattle.naming.specs.declared.again.Introduced.TheVariants.{New, Again}
+use Rattle.std.specs.Prelude.{None, Some, Ok, Err}
 
 pub or_second : (a b : Bool) → b ≡ true → (a || b) ≡ true
 or_second true b e = refl
@@ -48,7 +47,7 @@ module _ (ms : List Meaning) where
     pub skip_kept : introduces (classes_of ms) i ≡ false → is_again ms i ≡ false
     skip_kept e = not_first (introduces (classes_of ms) i) _ e
 
-    pub new_kept : Introduces ms i New → is_again ms i ≡ false
+    pub new_kept : Introduces ms i None → is_again ms i ≡ false
     new_kept (other, none) =
         neither (introduces (classes_of ms) i) (same (spelled ms i) iso_name) (any (introduces_name ms (spelled ms i)) 0 i) other none
       where
@@ -57,12 +56,12 @@ module _ (ms : List Meaning) where
         neither false b c p q = refl
 
     module _ (own : introduces (classes_of ms) i ≡ true) (j : ℕ) where
-      pub again_broken : Introduces ms i (Again j) → is_again ms i ≡ true
+      pub again_broken : Introduces ms i (Some j) → is_again ms i ≡ true
       again_broken (inl (iso, is)) = iso_again i own iso
       again_broken (inr (h, there)) = name_again i j own h there
 
       -- where no token before it breaks the rule, only one introduces the name
-      pub again_other : ((k : ℕ) → k < i → is_again ms k ≡ false) → Introduces ms i (Again j) → j ≡ first_name ms i
+      pub again_other : ((k : ℕ) → k < i → is_again ms k ≡ false) → Introduces ms i (Some j) → j ≡ first_name ms i
       again_other kept (inl (iso, is)) =
           is ∙ sym (first_end (introduces_name ms (spelled ms i)) 0 i (omega arith) (λ k l h. answers _ (λ e. absurd (two k h e)) (λ e. e)))
         where
@@ -95,8 +94,8 @@ module _ (ms : List Meaning) where
       unfolding introduced_again
       again_next e = judging_next g h {test = false} (sym e) refl
 
-      pub again_judged : introduces (classes_of ms) i ≡ true → (j : ℕ) → Introduces ms i (Again j)
-          → Broken (record { number = 9; clause = 0; token = record { 0 = i }; other = record { 0 = j } }) ≡ judge_one (introduced_again ms)
+      pub again_judged : introduces (classes_of ms) i ≡ true → (j : ℕ) → Introduces ms i (Some j)
+          → Err (record { number = 9; clause = 0; token = record { 0 = i }; other = record { 0 = j } }) ≡ judge_one (introduced_again ms)
       unfolding introduced_again
       again_judged own j told =
           judging_broken g h {test = true} (sym (again_broken i own j told)) refl _
@@ -159,7 +158,7 @@ module _ (text starts ends : List ℕ) (t : TokensHeld text (classes_of (meaning
 
       module _ (own : introduces cs i ≡ true) where
         -- the name of one that is new is put into the trees
-        pub naming_new : Introduces (meanings_in text) i New → (heads' links' : List ℕ) → length links' ≡ length links
+        pub naming_new : Introduces (meanings_in text) i None → (heads' links' : List ℕ) → length links' ≡ length links
             → NameTree (introduces cs) text starts ends (i + 1) heads' links' → Naming (i + 1) heads' links'
         naming_new told heads' links' long names = record {
           inside = omega arith;
@@ -168,9 +167,9 @@ module _ (text starts ends : List ℕ) (t : TokensHeld text (classes_of (meaning
           names = names;
         }
 
-        pub naming_again : (j : ℕ) → Introduces (meanings_in text) i (Again j)
-            → Broken (record { number = 9; clause = 0; token = record { 0 = i }; other = record { 0 = j } }) ≡ judge_one (introduced_again (meanings_in text))
+        pub naming_again : (j : ℕ) → Introduces (meanings_in text) i (Some j)
+            → Err (record { number = 9; clause = 0; token = record { 0 = i }; other = record { 0 = j } }) ≡ judge_one (introduced_again (meanings_in text))
         naming_again j told = again_judged (meanings_in text) (length cs) i c.judging h own j told
 
-    pub naming_end : length cs ≤ i → Kept ≡ judge_one (introduced_again (meanings_in text))
+    pub naming_end : length cs ≤ i → Ok tt ≡ judge_one (introduced_again (meanings_in text))
     naming_end h = judging_kept c.judging h

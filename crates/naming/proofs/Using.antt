@@ -13,7 +13,6 @@ use lib.Seq.{get_or-set_same, get_or-set_other, get_or-take, length-take-le}
 use borrow.Author.Tests.{le-leb, ltb-true}
 use Rattle.index.proofs.Search.{answers}
 use Rattle.rule.specs.Rule.{finding, judge_one, judge, each}
-use Rattle.rule.specs.declared.Judgement.TheVariants.{Kept, Broken}
 use Rattle.rule.proofs.Judged.{never_broken, broken_at}
 use Rattle.rule.proofs.Each.{Asked, asked_next, asked_broken, asked_end}
 use Rattle.lexicon.specs.Word.{same}
@@ -36,6 +35,7 @@ use Rattle.scope.proofs.Leads.{small}
 use Rattle.naming.specs.Rules.{is_unfit, unfit_use, use_rules}
 use Rattle.naming.specs.Values.{is_name_need, is_use, value_at}
 use Rattle.naming.specs.Told.{Filled}
+use Rattle.std.specs.Prelude.{Ok, Err}
 
 -- a need that is no use of a name
 pub no_need : (need : Need) → is_name_need need ≡ false → need ≡ NoName
@@ -113,11 +113,11 @@ module _ (ms : List Meaning) (old : List ℕ) (i : ℕ) (values : List ℕ) (u :
       }
 
   module _ (h : i < length ms) where
-    use_kept : is_unfit ms i ≡ false → Kept ≡ judge_one (unfit_use ms i)
+    use_kept : is_unfit ms i ≡ false → Ok tt ≡ judge_one (unfit_use ms i)
     unfolding unfit_use
     use_kept e = never_broken (unfit_use ms i) (λ j l m. let same : j ≡ i = omega arith in ap (is_unfit ms) same ∙ e)
 
-    use_broken : is_unfit ms i ≡ true → Broken (finding (unfit_use ms i) i) ≡ judge_one (unfit_use ms i)
+    use_broken : is_unfit ms i ≡ true → Err (finding (unfit_use ms i) i) ≡ judge_one (unfit_use ms i)
     unfolding unfit_use
     use_broken e =
         broken_at (unfit_use ms i) (finding (unfit_use ms i) i)
@@ -134,7 +134,7 @@ module _ (ms : List Meaning) (old : List ℕ) (i : ℕ) (values : List ℕ) (u :
       from = omega (arith, u.from);
       inside = omega arith;
       long = length-set values i w ∙ u.long;
-      asked = asked_next (unfit_use ms) (imports_end (classes_of ms)) (length ms) i u.asked Kept (use_kept e) h refl;
+      asked = asked_next (unfit_use ms) (imports_end (classes_of ms)) (length ms) i u.asked (Ok tt) (use_kept e) h refl;
       before = λ j l. get_or-set_other values i j w 0 (λ q. omega (arith, u.from)) ∙ u.before j l;
       behind = λ j l m. at j l m (ℕ_discrete j i);
     }
@@ -143,11 +143,11 @@ module _ (ms : List Meaning) (old : List ℕ) (i : ℕ) (values : List ℕ) (u :
         at j l m (yes same) = rw same (get_or-set_same values i w 0 room ∙ is)
         at j l m (no other) = get_or-set_other values i j w 0 other ∙ u.behind j l (omega arith)
 
-    pub using_broken : is_unfit ms i ≡ true → Broken (finding (unfit_use ms i) i) ≡ judge (use_rules ms)
+    pub using_broken : is_unfit ms i ≡ true → Err (finding (unfit_use ms i) i) ≡ judge (use_rules ms)
     using_broken e =
         asked_broken (unfit_use ms) (imports_end (classes_of ms)) (length ms) i u.asked _ (use_broken e) h (finding (unfit_use ms i) i) refl
 
-  pub using_kept : length ms ≤ i → Kept ≡ judge (use_rules ms)
+  pub using_kept : length ms ≤ i → Ok tt ≡ judge (use_rules ms)
   using_kept h = asked_end (unfit_use ms) (imports_end (classes_of ms)) (length ms) i u.asked h
 
   pub using_end : length ms ≤ i → length values ≤ length ms → Filled ms old values

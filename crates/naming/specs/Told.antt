@@ -1,9 +1,9 @@
 -- The answers of the code, said of the rules and of the values.
 -- Assumes nothing.
-use Rattle.std.specs.Prelude.{◌≡◌, ◌⊎◌, true, false, cond, not, ◌&&◌, List, ℕ, ◌*◌, ◌≤◌, ◌<◌, length, get_or, take, nat_abs}
+use Rattle.std.specs.Prelude.{◌≡◌, ◌⊎◌, true, false, cond, not, ◌&&◌, List, ℕ, ◌*◌, ◌≤◌, ◌<◌, length, get_or, take, nat_abs, Option, None, Some, Result, Ok, Err}
 use Rattle.index.specs.First.{any}
 use Rattle.rule.specs.declared.Finding.{Finding}
-use Rattle.rule.specs.declared.Judgement.{Judgement}
+use Rattle.rule.specs.Rule.{Judgement}
 use Rattle.lexicon.specs.Word.{same, is_name}
 use Rattle.token.specs.Cut.{said}
 use Rattle.definition.specs.Landmark.{class_at}
@@ -18,23 +18,21 @@ use Rattle.scope.specs.Import.{imports_end, is_import, source, offered}
 use Rattle.scope.specs.Held.{import_word}
 use Rattle.naming.specs.Rules.{introduces_name, offer_clause}
 use Rattle.naming.specs.Values.{value_at, values_of}
-use Rattle.naming.specs.declared.Names.{Names}
-use Rattle.naming.specs.declared.Names.TheVariants.{Named, Broken}
-use Rattle.naming.specs.declared.again.Introduced.{Introduced}
-use Rattle.naming.specs.declared.again.Introduced.TheVariants.{New, Again}
-use Rattle.naming.specs.declared.offer.Offer.{Offer}
-use Rattle.naming.specs.declared.offer.Offer.TheVariants.{Word, Missing}
+
+-- what the rules on names say of a module: all are kept, and there are so many definitions; or one is broken
+abbrev pub Names : Type 0
+Names = Result ℕ Finding
 
 -- how token i, which introduces a name, stands to those before it: the name is new; or it is `iso`, or a token before it that
 -- introduces it is told
-abbrev pub Introduces : List Meaning → ℕ → Introduced → Type 0
-Introduces ms i New = (same (spelled ms i) iso_name ≡ false) × (any (introduces_name ms (spelled ms i)) 0 i ≡ false)
-Introduces ms i (Again j) =
+abbrev pub Introduces : List Meaning → ℕ → Option ℕ → Type 0
+Introduces ms i None = (same (spelled ms i) iso_name ≡ false) × (any (introduces_name ms (spelled ms i)) 0 i ≡ false)
+Introduces ms i (Some j) =
     ((same (spelled ms i) iso_name ≡ true) × (j ≡ i)) ⊎ ((j < i) × (introduces_name ms (spelled ms i) j ≡ true))
 
--- token i of the imports: its value, or that its module doesn't offer it
-abbrev pub offer_at : List Meaning → ℕ → Offer
-offer_at ms i = cond (is_import (classes_of ms) i && not (offered ms i)) Missing (Word (import_word ms i))
+-- token i of the imports: its value, or none where its module doesn't offer it
+abbrev pub offer_at : List Meaning → ℕ → Option ℕ
+offer_at ms i = cond (is_import (classes_of ms) i && not (offered ms i)) None (Some (import_word ms i))
 
 -- what there is to say of token i, an import that its module doesn't offer
 abbrev pub missing : List Meaning → ℕ → Finding
@@ -47,8 +45,8 @@ missing ms i = record {
 
 -- where rule 10 is kept, the values of the imports are those of the symbols
 abbrev pub ImportsFilled : List Meaning → Judgement → List ℕ → Type 0
-ImportsFilled ms Judgement.Kept values = (i : ℕ) → i < imports_end (classes_of ms) → get_or values i 0 ≡ import_word ms i
-ImportsFilled ms (Judgement.Broken f) values = Unit {0}
+ImportsFilled ms (Ok _) values = (i : ℕ) → i < imports_end (classes_of ms) → get_or values i 0 ≡ import_word ms i
+ImportsFilled ms (Err f) values = Unit {0}
 
 -- the number of a use that isn't known in the kind needed, by what its name leads to: 41 where that is nothing
 abbrev pub lead_number : Lead → ℕ
@@ -63,35 +61,30 @@ pub record Filled (ms : List Meaning) (old new : List ℕ) : Type 0 where
   pub behind : (i : ℕ) → imports_end (classes_of ms) ≤ i → i < length new → get_or new i 0 ≡ value_at ms i
 
 abbrev pub UsesFilled : List Meaning → Judgement → List ℕ → List ℕ → Type 0
-UsesFilled ms Judgement.Kept old new = Filled ms old new
-UsesFilled ms (Judgement.Broken f) old new = Unit {0}
+UsesFilled ms (Ok _) old new = Filled ms old new
+UsesFilled ms (Err f) old new = Unit {0}
 
 -- where all rules are kept, the values are those of the tokens
 abbrev pub ValuesFilled : List Meaning → Judgement → List ℕ → Type 0
-ValuesFilled ms Judgement.Kept values = values ≡ values_of ms
-ValuesFilled ms (Judgement.Broken f) values = Unit {0}
+ValuesFilled ms (Ok _) values = values ≡ values_of ms
+ValuesFilled ms (Err f) values = Unit {0}
 
 -- what there is to say of a rule that has one clause and is about one thing
 abbrev pub plain : ℕ → ℕ → Finding
 plain number i = record { number = number; clause = 0; token = record { 0 = i }; other = record { 0 = i } }
 
--- the call's answer, where so many definitions were collected, to what the rules after that say
-abbrev pub answer_of : ℕ → Judgement → Names
-answer_of count Judgement.Kept = Named count
-answer_of count (Judgement.Broken f) = Broken f
-
 -- what the call answers, as a judgement of the rules
 abbrev pub judgement : Names → Judgement
-judgement (Named count) = Judgement.Kept
-judgement (Broken f) = Judgement.Broken f
+judgement (Ok count) = Ok tt
+judgement (Err f) = Err f
 
 -- where all rules are kept, so many definitions are the module's, and the values those of its tokens
 abbrev pub Holds : List Meaning → Names → List ℕ → List ℕ → Type 0
-Holds ms (Named count) values definitions =
+Holds ms (Ok count) values definitions =
     (values ≡ values_of ms)
     × (count ≡ length (outline (classes_of ms)))
     × (definitions_in (take (count * width) definitions) ≡ outline (classes_of ms))
-Holds ms (Broken f) values definitions = Unit {0}
+Holds ms (Err f) values definitions = Unit {0}
 
 -- the tokens of the imports that are no names have their numbers, and all others are as they were
 pub record NumbersFilled (ms : List Meaning) (old new : List ℕ) : Type 0 where

@@ -1,5 +1,5 @@
 // Refusal 9: names that are introduced a second time, or are `iso`.
-ghost use Rattle.std.specs.Prelude.{◌≡◌, true, ◌+◌, ◌<◌, length};
+ghost use Rattle.std.specs.Prelude.{◌≡◌, true, ◌+◌, ◌<◌, length, None};
 ghost use Rattle.rule.specs.Rule.{judge_one};
 ghost use Rattle.token.specs.Cut.{meanings_in};
 ghost use Rattle.name_tree.specs.Tree.{NameTree};
@@ -8,22 +8,13 @@ ghost use Rattle.scope.specs.Import.{imports_end};
 ghost use Rattle.scope.specs.Lead.{introduces};
 ghost use Rattle.naming.specs.Rules.{introduced_again};
 ghost use Rattle.naming.specs.Told.{Introduces};
-ghost use Rattle.naming.specs.declared.again.Introduced.TheVariants.{New};
 
 use definition::begins;
 use index::{TokenIndex, wide};
 use name_tree::{KEYS, admit};
-use rule::{Finding, Judgement};
+use rule::Finding;
 use scope::{imports_end, is_import};
 use symbol::part::names_iso;
-
-// How a token stands to those before it that introduce names: its name is new, or stands against that of a token, which for `iso` is
-// its own.
-#[derive(Clone, Copy)]
-pub enum Introduced {
-    New,
-    Again(usize),
-}
 
 // Whether token i introduces a name, in a module whose imports end at `end`.
 pub fn introduces(classes: &[u8], end: usize, i: usize) -> bool
@@ -37,7 +28,8 @@ pub fn introduces(classes: &[u8], end: usize, i: usize) -> bool
     begins(classes, classes.len(), i)
 }
 
-// How token i, which introduces a name, stands to those before it, whose names are in trees; a name that is new is put into them.
+// The token that token i, which introduces a name, stands against: one before it that introduces the same, or itself where the name is
+// `iso`. The names of those before it are in trees; a name that is new is put into them.
 fn introduction(
     text: &[u8],
     starts: &[u32],
@@ -45,23 +37,23 @@ fn introduction(
     heads: &mut [u32; KEYS],
     links: &mut [u32],
     i: usize,
-) -> Introduced
+) -> Option<usize>
     requires tokens { TokensHeld text.now (classes_of (meanings_in text.now)) starts.now ends.now }
     requires index { (i < length starts.now) × (i < length links.old) × (i < 65536) }
     requires name { introduces (classes_of (meanings_in text.now)) i ≡ true }
     requires names { NameTree (introduces (classes_of (meanings_in text.now))) text.now starts.now ends.now i heads.old links.old }
     ensures long { length links.new ≡ length links.old }
     ensures told { Introduces (meanings_in text.now) i result }
-    ensures grown { result ≡ New → NameTree (introduces (classes_of (meanings_in text.now))) text.now starts.now ends.now (i + 1) heads.new links.new }
+    ensures grown { result ≡ None → NameTree (introduces (classes_of (meanings_in text.now))) text.now starts.now ends.now (i + 1) heads.new links.new }
 {
     if names_iso(text, wide(starts[i]), wide(ends[i])) {
-        return Introduced::Again(i);
+        return Some(i);
     }
     let at = admit(text, starts, ends, heads, links, i);
     if at == 0 {
-        return Introduced::New;
+        return None;
     }
-    Introduced::Again(at - 1)
+    Some(at - 1)
 }
 
 // Refusal 9, at the first token that breaks it. The name of each that keeps it is put into a tree, in lent links.
@@ -71,7 +63,7 @@ pub fn judge_introduced(
     starts: &[u32],
     ends: &[u32],
     links: &mut [u32],
-) -> Judgement
+) -> Result<(), Finding>
     requires tokens { TokensHeld text.now classes.now starts.now ends.now }
     requires links { length links.old ≡ length classes.now }
     ensures long { length links.new ≡ length links.old }
@@ -79,22 +71,18 @@ pub fn judge_introduced(
 {
     let end = imports_end(classes);
     let mut heads = [0u32; KEYS];
-    let mut i = 0;
-    while i < classes.len() {
-        if introduces(classes, end, i) {
-            let told = introduction(text, starts, ends, &mut heads, links, i);
-            if let Introduced::Again(j) = told {
-                return Judgement::Broken(Finding {
-                    number: 9,
-                    clause: 0,
-                    token: TokenIndex(i),
-                    other: TokenIndex(j),
-                });
-            }
-            i += 1;
-        } else {
-            i += 1;
+    for i in 0..classes.len() {
+        if !introduces(classes, end, i) {
+            continue;
+        }
+        if let Some(j) = introduction(text, starts, ends, &mut heads, links, i) {
+            return Err(Finding {
+                number: 9,
+                clause: 0,
+                token: TokenIndex(i),
+                other: TokenIndex(j),
+            });
         }
     }
-    Judgement::Kept
+    Ok(())
 }

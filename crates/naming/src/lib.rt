@@ -9,7 +9,7 @@ ghost use Rattle.module_table.specs.Module.{most_definitions};
 ghost use Rattle.outline.specs.Outline.{outline};
 ghost use Rattle.scope.specs.Token.{classes_of, TokensHeld};
 ghost use Rattle.naming.specs.Rules.{name_rules, after_count};
-ghost use Rattle.naming.specs.Told.{plain, ValuesFilled, judgement, Holds, answer_of};
+ghost use Rattle.naming.specs.Told.{plain, ValuesFilled, judgement, Holds};
 
 mod again;
 mod number;
@@ -22,18 +22,9 @@ use index::TokenIndex;
 use module_table::WIDTH;
 use number::fill_numbers;
 use offer::judge_offers;
-use outline::{Collected, collect_outline};
-use rule::{Finding, Judgement};
+use outline::collect_outline;
+use rule::Finding;
 use usage::judge_uses;
-
-// What the rules on names say of a module.
-#[derive(Clone, Copy)]
-pub enum Names {
-    // All are kept: so many definitions.
-    Named(usize),
-    // One is broken.
-    Broken(Finding),
-}
 
 // The rule of this number, which has one clause and is about one thing, is broken at token i.
 fn plain_finding(number: u8, i: usize) -> Finding
@@ -55,7 +46,7 @@ fn judge_names(
     ends: &[u32],
     values: &mut [u32],
     definitions: &[usize],
-) -> Judgement
+) -> Result<(), Finding>
     requires tokens { TokensHeld text.now classes.now starts.now ends.now }
     requires values { length values.old ≡ length classes.now }
     requires outlined { definitions_in definitions.now ≡ outline (classes_of (meanings_in text.now)) }
@@ -64,30 +55,11 @@ fn judge_names(
     ensures judged { result ≡ judge (after_count (meanings_in text.now)) }
     ensures filled { ValuesFilled (meanings_in text.now) result values.new }
 {
-    let introduced = judge_introduced(text, classes, starts, ends, values);
-    let Judgement::Kept = introduced else {
-        return introduced;
-    };
-    let offers = judge_offers(text, classes, starts, ends, values);
-    let Judgement::Kept = offers else {
-        return offers;
-    };
-    let uses = judge_uses(text, classes, starts, ends, values, definitions);
-    let Judgement::Kept = uses else {
-        return uses;
-    };
+    judge_introduced(text, classes, starts, ends, values)?;
+    judge_offers(text, classes, starts, ends, values)?;
+    judge_uses(text, classes, starts, ends, values, definitions)?;
     fill_numbers(text, classes, starts, ends, values);
-    Judgement::Kept
-}
-
-// The answer to definitions that were collected and rules that were judged.
-fn answer(count: usize, judged: Judgement) -> Names
-    ensures { result ≡ answer_of count judged }
-{
-    match judged {
-        Judgement::Kept => Names::Named(count),
-        Judgement::Broken(f) => Names::Broken(f),
-    }
+    Ok(())
 }
 
 // Reads the names of a module: the rules on names, and where all are kept, the value of each token and the definitions, of which the
@@ -99,7 +71,7 @@ pub fn read_names(
     ends: &[u32],
     values: &mut [u32],
     definitions: &mut [usize],
-) -> Names
+) -> Result<usize, Finding>
     requires tokens { TokensHeld text.now classes.now starts.now ends.now }
     requires values { length values.old ≡ length classes.now }
     requires definitions { length definitions.old ≡ most_definitions * width }
@@ -108,19 +80,14 @@ pub fn read_names(
     ensures judged { judgement result ≡ judge (name_rules (meanings_in text.now)) }
     ensures holds { Holds (meanings_in text.now) result values.new definitions.new }
 {
-    let collected = collect_outline(classes, definitions);
-    match collected {
-        Collected::TooMany(token) => Names::Broken(plain_finding(8, token.0)),
-        Collected::All(count) => answer(
-            count,
-            judge_names(
-                text,
-                classes,
-                starts,
-                ends,
-                values,
-                &definitions[..count * WIDTH],
-            ),
-        ),
-    }
+    let count = collect_outline(classes, definitions).map_err(|token| plain_finding(8, token.0))?;
+    judge_names(
+        text,
+        classes,
+        starts,
+        ends,
+        values,
+        &definitions[..count * WIDTH],
+    )?;
+    Ok(count)
 }

@@ -9,18 +9,12 @@ ghost use Rattle.naming.specs.Told.{offer_at, missing, ImportsFilled};
 
 use index::TokenIndex;
 use module_table::{Lead, word_for};
-use rule::{Finding, Judgement};
+use rule::Finding;
 use scope::{imports_end, is_import, is_offered, name_at, source};
 use symbol::part::{names_module, symbol_named};
 
-// What a token of the imports is worth: its value, or that its module doesn't offer it.
-#[derive(Clone, Copy)]
-pub enum Offer {
-    Word(u32),
-    Missing,
-}
-
-// Token i, of a module whose imports end at `end`. Its symbol is found here and nowhere else.
+// The value of token i, of a module whose imports end at `end`; none where it is a symbol that its module doesn't offer. Its symbol is found
+// here and nowhere else.
 fn offer_at(
     text: &[u8],
     classes: &[u8],
@@ -28,21 +22,21 @@ fn offer_at(
     ends: &[u32],
     end: usize,
     i: usize,
-) -> Offer
+) -> Option<u32>
     requires tokens { TokensHeld text.now classes.now starts.now ends.now }
     requires end { end ≡ imports_end classes.now }
     requires index { i < length classes.now }
     ensures { result ≡ offer_at (meanings_in text.now) i }
 {
     if !is_import(classes, end, i) {
-        return Offer::Word(0);
+        return Some(0);
     }
     let name = name_at(classes, starts, ends, TokenIndex(i));
     let k = symbol_named(text, name.start, name.end);
     if !is_offered(text, classes, starts, ends, TokenIndex(i), k) {
-        return Offer::Missing;
+        return None;
     }
-    Offer::Word(word_for(Lead::Import(k)))
+    Some(word_for(Lead::Import(k)))
 }
 
 // The clause of refusal 10, by the token that names the module: whether that one is built in.
@@ -82,7 +76,7 @@ pub fn judge_offers(
     starts: &[u32],
     ends: &[u32],
     values: &mut [u32],
-) -> Judgement
+) -> Result<(), Finding>
     requires tokens { TokensHeld text.now classes.now starts.now ends.now }
     requires values { length values.old ≡ length classes.now }
     ensures long { length values.new ≡ length values.old }
@@ -90,14 +84,11 @@ pub fn judge_offers(
     ensures filled { ImportsFilled (meanings_in text.now) result values.new }
 {
     let end = imports_end(classes);
-    let mut i = 0;
-    while i < end {
-        let offer = offer_at(text, classes, starts, ends, end, i);
-        let Offer::Word(word) = offer else {
-            return Judgement::Broken(missing_finding(text, classes, starts, ends, i));
+    for i in 0..end {
+        let Some(word) = offer_at(text, classes, starts, ends, end, i) else {
+            return Err(missing_finding(text, classes, starts, ends, i));
         };
         values[i] = word;
-        i += 1;
     }
-    Judgement::Kept
+    Ok(())
 }

@@ -18,7 +18,7 @@ use crate::unfit::unfit_finding;
 use index::{RecordIndex, TokenIndex};
 use module_table::{Lead, MOST_DEFINITIONS, count, word_for};
 use name_kind::{Need, enclosing_at, need_at, next_enclosing, serves};
-use rule::Judgement;
+use rule::Finding;
 use scope::{NAME_WORDS, Sought, collect_names, imports_end, leads_to, name_at, name_tag};
 
 // Whether it is a use of a name.
@@ -80,7 +80,7 @@ pub fn judge_uses(
     ends: &[u32],
     values: &mut [u32],
     definitions: &[usize],
-) -> Judgement
+) -> Result<(), Finding>
     requires tokens { TokensHeld text.now classes.now starts.now ends.now }
     requires values { length values.old ≡ length classes.now }
     requires imports { ImportsHeld (meanings_in text.now) (take (imports_end classes.now) values.old) }
@@ -114,7 +114,7 @@ pub fn judge_uses(
                 Sought { name, tag, near },
             );
             if !serves(definitions, lead, need) {
-                return Judgement::Broken(unfit_finding(text, classes, starts, ends, lead, i));
+                return Err(unfit_finding(text, classes, starts, ends, lead, i));
             }
             recent[slot] = nearest(lead, recent[slot]);
             let found = word_for(lead);
@@ -127,5 +127,5 @@ pub fn judge_uses(
             i += 1;
         }
     }
-    Judgement::Kept
+    Ok(())
 }

@@ -1,5 +1,6 @@
 // Refusal 12: whether the heads of a definition reach a built-in name.
 ghost use Rattle.std.specs.Prelude.{◌≡◌, [], false, ℕ, ◌<◌, length};
+ghost use Rattle.rule.specs.Each.{judge_at};
 ghost use Rattle.rule.specs.Rule.{judge_one};
 ghost use Rattle.module_table.specs.Definition.{definitions_in};
 ghost use Rattle.module_table.specs.declared.Lead.TheVariants.{Definition};
@@ -11,7 +12,7 @@ use crate::head::{has_value, head_of};
 use index::RecordIndex;
 use module_table::{Lead, count, definition_at};
 use oid_number::symbol_length;
-use rule::Judgement;
+use rule::{Finding, judge_each};
 
 // The number of the refusal.
 const UNREACHED: u8 = 12;
@@ -72,17 +73,24 @@ fn is_unreached(values: &[u32], definitions: &[usize], k: RecordIndex) -> bool
     false
 }
 
+// Refusal 12 at definition k, where each definition before it keeps it.
+fn judge_reached_at(values: &[u32], definitions: &[usize], k: RecordIndex) -> Result<(), Finding>
+    requires { (i : ℕ) → i < k.0 → (unreached (named_in [] values.now definitions.now)).breach i ≡ false }
+    ensures { result ≡ judge_at (unreached (named_in [] values.now definitions.now)) k.0 }
+{
+    if is_unreached(values, definitions, k) {
+        return Err(finding_at(definitions, k, UNREACHED));
+    }
+    Ok(())
+}
+
 // The first definition whose heads never reach a built-in name.
-pub fn judge_reached(values: &[u32], definitions: &[usize]) -> Judgement
+pub fn judge_reached(values: &[u32], definitions: &[usize]) -> Result<(), Finding>
     ensures { result ≡ judge_one (unreached (named_in [] values.now definitions.now)) }
 {
-    let c = count(definitions);
-    let mut k = 0;
-    while k < c {
-        if is_unreached(values, definitions, RecordIndex(k)) {
-            return Judgement::Broken(finding_at(definitions, RecordIndex(k), UNREACHED));
-        }
-        k += 1;
-    }
-    Judgement::Kept
+    judge_each(
+        0,
+        count(definitions),
+        |k| judge_reached_at(values, definitions, RecordIndex(k)),
+    )
 }

@@ -16,7 +16,7 @@ use definition::kind;
 use index::RecordIndex;
 use module_table::{Definition, count, definition_at};
 use oid_run::{run_key, run_of};
-use rule::{Finding, Judgement};
+use rule::Finding;
 
 // The number of the refusal.
 const HELD_TWICE: u8 = 15;
@@ -129,21 +129,18 @@ fn twin_at(definitions: &[usize], numbers: &[u32], k: RecordIndex) -> Finding
 }
 
 // What the rule says of the definitions. Each one that keeps it is chained by the key of its OID.
-pub fn judge_twins(definitions: &[usize], numbers: &[u32]) -> Judgement
+pub fn judge_twins(definitions: &[usize], numbers: &[u32]) -> Result<(), Finding>
     requires { length definitions.now ≤ most_definitions * width }
     ensures { result ≡ judge_one (held_twice (definitions_in definitions.now) numbers.now) }
 {
     let mut heads = [0usize; KEYS];
     let mut links = [0usize; ENTRIES];
-    let c = count(definitions);
-    let mut k = 0;
-    while k < c {
+    for k in 0..count(definitions) {
         let key = oid_key(definitions, numbers, RecordIndex(k));
         if is_held_twice(definitions, numbers, RecordIndex(k), &heads, &links, key) {
-            return Judgement::Broken(twin_at(definitions, numbers, RecordIndex(k)));
+            return Err(twin_at(definitions, numbers, RecordIndex(k)));
         }
         insert(&mut heads, &mut links, k, key);
-        k += 1;
     }
-    Judgement::Kept
+    Ok(())
 }

@@ -7,10 +7,8 @@ use Prim.Native.Nat.{ℕ, zero, suc, ◌≤◌, ◌<◌}
 use native.Mathlib.Omega.{arith}
 use lib.ListN.{length}
 use Rattle.index.specs.Walk.{after}
-use Rattle.rule.specs.Rule.{judge_one, judge}
+use Rattle.rule.specs.Rule.{judge_one, judge, Judgement}
 use Rattle.rule.specs.declared.Finding.{Finding}
-use Rattle.rule.specs.declared.Judgement.{Judgement}
-use Rattle.rule.specs.declared.Judgement.TheVariants.{Kept, Broken}
 use Rattle.rule.proofs.Judged.{judged_kept, judge_alone, kept_next, broken_first}
 use Rattle.token.specs.Table.{overlaid}
 use Rattle.module_table.specs.Definition.{definitions_in, entry}
@@ -30,8 +28,9 @@ use Rattle.oid_head.proofs.Unreached.{all_reach}
 use Rattle.oid_tree.proofs.Alike.{Alike, value_alike, reaches_alike, oid_alike, before_alike}
 use Rattle.oid_tree.proofs.Measuring.{stage_alike}
 use Rattle.oid_tree.proofs.Counted.{numbers_fit, lengths_same}
+use Rattle.std.specs.Prelude.{Ok, Err}
 
-broken_kept : (f : Finding) → Broken f ≡ Kept → ⊥
+broken_kept : (f : Finding) → ◌≡◌ {A = Judgement} (Err f) (Ok tt) → ⊥
 broken_kept f e = let z : ◌≡◌ {A = ℕ} 0 1 = cc in omega arith
 
 module _ (classes values words : List ℕ) where
@@ -64,11 +63,11 @@ module _ (classes values words : List ℕ) where
   pub reached_said : {r : Judgement} → r ≡ judge_one (unreached bare) → r ≡ judge_one (unreached m)
   reached_said is = is ∙ ap judge_one rule_same
 
-  pub reached_kept : judge_one (unreached m) ≡ Kept → AllReach m
+  pub reached_kept : judge_one (unreached m) ≡ Ok tt → AllReach m
   reached_kept e = all_reach m (judged_kept (unreached m ∷ []) (sym (judge_alone (unreached m)) ∙ e)).0
 
   -- the numbers have room where refusal 14 is kept
-  pub room_kept : judge (length_rules m) ≡ Kept → first_number m (count_of m) ≤ most_numbers
+  pub room_kept : judge (length_rules m) ≡ Ok tt → first_number m (count_of m) ≤ most_numbers
   room_kept e = numbers_fit m (judged_kept (length_rules m) e).1.0 (count_of m) (omega arith)
 
   -- the definitions say where their numbers are
@@ -105,7 +104,7 @@ module _ (classes values words : List ℕ) where
           ∙ rw value (sym (ap length (measured_before k)));
     }
 
-    pub measured_room : judge (length_rules m) ≡ Kept → first_number o (count_of o) ≤ most_numbers
+    pub measured_room : judge (length_rules m) ≡ Ok tt → first_number o (count_of o) ≤ most_numbers
     measured_room e =
         omega (arith, ap length (measured_before (count_of o)), ap (first_number m) alike.counted, room_kept e)
 
@@ -126,7 +125,7 @@ module _ (classes values words : List ℕ) where
 
   -- ---- the answers
 
-  pub unreached_left : (r : Judgement) → r ≡ judge_one (unreached m) → (f : Finding) → r ≡ Broken f → (before : List ℕ) → Collected m r words words before before
+  pub unreached_left : (r : Judgement) → r ≡ judge_one (unreached m) → (f : Finding) → r ≡ Err f → (before : List ℕ) → Collected m r words words before before
   unreached_left r is f broken before = record {
     judged = broken_first (unreached m) (length_rules m) r is f broken;
     words_long = refl;
@@ -134,11 +133,11 @@ module _ (classes values words : List ℕ) where
     held = λ kept. absurd (broken_kept f (sym broken ∙ kept));
   }
 
-  module _ (reached : Judgement) (is : reached ≡ judge_one (unreached m)) (kept : reached ≡ Kept) (next : List ℕ) (w : Measured m words next) (r : Judgement) (lengths : r ≡ judge (length_rules m)) where
+  module _ (reached : Judgement) (is : reached ≡ judge_one (unreached m)) (kept : reached ≡ Ok tt) (next : List ℕ) (w : Measured m words next) (r : Judgement) (lengths : r ≡ judge (length_rules m)) where
     said : r ≡ judge (collecting_rules m)
     said = lengths ∙ sym (kept_next (unreached m) (length_rules m) reached is kept)
 
-    pub long_left : (f : Finding) → r ≡ Broken f → (before : List ℕ) → Collected m r words next before before
+    pub long_left : (f : Finding) → r ≡ Err f → (before : List ℕ) → Collected m r words next before before
     long_left f broken before = record {
       judged = said;
       words_long = w.as_long;

@@ -10,9 +10,7 @@ use lib.Dec.{ltb}
 use lib.ListN.{length, length-append}
 use Rattle.index.specs.First.{first, any}
 use Rattle.index.proofs.Search.{first_same}
-use Rattle.rule.specs.Rule.{judge_one, judge, and_then}
-use Rattle.rule.specs.declared.Judgement.{Judgement}
-use Rattle.rule.specs.declared.Judgement.TheVariants.{Kept, Broken}
+use Rattle.rule.specs.Rule.{judge_one, judge, and_then, Judgement}
 use Rattle.rule.proofs.Judged.{NeverBroken}
 use Rattle.module_table.specs.Definition.{entry, changed}
 use Rattle.module_table.specs.Module.{Module, count_of}
@@ -22,19 +20,20 @@ use Rattle.oid_head.specs.Oid.{resolved_oid, numbers_before, first_number}
 use Rattle.oid_tree.specs.Stage.{with_oid}
 use Rattle.oid_head.specs.Unreached.{plain_over, finding_at}
 use Rattle.oid_tree.specs.Refusal.{longest_oid, most_numbers, passes, too_long, past_room, length_rules, counts_before, long_by_count, room_by_count}
+use Rattle.std.specs.Prelude.{Ok, Err}
 
 -- two rules of one number over definitions of the same names that are broken at the same ones
 plain_same : (number : ℕ) (ds es : List Definition) (p q : ℕ → Bool) → length es ≡ length ds → ((i : ℕ) → i < length ds → (entry es i).name ≡ (entry ds i).name)
     → ((i : ℕ) → i < length ds → p i ≡ q i) → judge_one (plain_over number es p) ≡ judge_one (plain_over number ds q)
 unfolding judge_one any
 plain_same number ds es p q counted names same =
-    ap (λ (n : ℕ). cond (ltb (first p 0 n) n) (Broken (finding_at number es (first p 0 n))) Kept) counted
-    ∙ ap (λ (k : ℕ). cond (ltb k (length ds)) (Broken (finding_at number es k)) Kept) (first_same p q 0 (length ds) (omega arith) (λ i l h. same i h))
+    ap (λ (n : ℕ). cond (ltb (first p 0 n) n) (Err (finding_at number es (first p 0 n))) (Ok tt)) counted
+    ∙ ap (λ (k : ℕ). cond (ltb k (length ds)) (Err (finding_at number es k)) (Ok tt)) (first_same p q 0 (length ds) (omega arith) (λ i l h. same i h))
     ∙ go (first q 0 (length ds)) (ltb (first q 0 (length ds)) (length ds)) refl
   where
-    go : (k : ℕ) (b : Bool) → ltb k (length ds) ≡ b → cond b (Broken (finding_at number es k)) Kept ≡ cond b (Broken (finding_at number ds k)) Kept
+    go : (k : ℕ) (b : Bool) → ltb k (length ds) ≡ b → ◌≡◌ {A = Judgement} (cond b (Err (finding_at number es k)) (Ok tt)) (cond b (Err (finding_at number ds k)) (Ok tt))
     go k true e = let name = names k (ltb-true k (length ds) e) in
-        λ i. Broken (record { number = number; clause = 0; token = name i; other = name i })
+        λ i. Err (record { number = number; clause = 0; token = name i; other = name i })
     go k false e = refl
 
 module _ (m : Module) where
@@ -69,8 +68,8 @@ module _ (m : Module) where
   pub lengths_same : judge (long_by_count stage ∷ room_by_count stage ∷ []) ≡ judge (length_rules m)
   unfolding judge
   lengths_same =
-      ap (λ (j : Judgement). and_then j (and_then (judge_one (room_by_count stage)) Kept)) long_same
-      ∙ ap (λ (j : Judgement). and_then (judge_one (too_long m)) (and_then j Kept)) room_same
+      ap (λ (j : Judgement). and_then j (and_then (judge_one (room_by_count stage)) (Ok tt))) long_same
+      ∙ ap (λ (j : Judgement). and_then (judge_one (too_long m)) (and_then j (Ok tt))) room_same
 
 -- where refusal 14 is kept the numbers never pass the most
 pub numbers_fit : (m : Module) → NeverBroken (past_room m) → (k : ℕ) → k ≤ count_of m → first_number m k ≤ most_numbers

@@ -1,9 +1,7 @@
 -- What collecting the OIDs of a module comes to.
 -- Assumes nothing.
-use Rattle.std.specs.Prelude.{◌≡◌, List, ℕ, length}
-use Rattle.rule.specs.Rule.{judge}
-use Rattle.rule.specs.declared.Judgement.{Judgement}
-use Rattle.rule.specs.declared.Judgement.TheVariants.{Kept}
+use Rattle.std.specs.Prelude.{◌≡◌, List, ℕ, length, Ok}
+use Rattle.rule.specs.Rule.{judge, Judgement}
 use Rattle.token.specs.Table.{overlaid}
 use Rattle.module_table.specs.Definition.{definitions_in}
 use Rattle.module_table.specs.Module.{Module}
@@ -21,4 +19,4 @@ pub record Collected (m : Module) (r : Judgement) (words-before words before aft
   pub judged : r ≡ judge (collecting_rules m)
   pub words_long : length words ≡ length words-before
   pub numbers_long : length after ≡ length before
-  pub held : r ≡ Kept → OidsHeld m words before after
+  pub held : r ≡ Ok tt → OidsHeld m words before after

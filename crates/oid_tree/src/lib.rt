@@ -19,7 +19,7 @@ pub use crate::room::MOST_NUMBERS;
 use crate::room::judge_lengths;
 use crate::writer::write_oids;
 use oid_head::judge_reached;
-use rule::Judgement;
+use rule::Finding;
 
 // Refusals 12 to 14. Where they are kept, each definition says where the numbers of its OID start and how many they are, and the
 // number buffer holds them.
@@ -28,22 +28,16 @@ pub fn collect_oids(
     values: &[u32],
     definitions: &mut [usize],
     numbers: &mut [u32],
-) -> Judgement
+) -> Result<(), Finding>
     requires tokens { length classes.now ≤ longest_text }
     requires definitions { length definitions.old ≤ most_definitions * width }
     requires numbers { most_numbers ≤ length numbers.old }
     ensures { Collected (named_in classes.now values.now definitions.old) result
         definitions.old definitions.new numbers.old numbers.new }
 {
-    let reached = judge_reached(values, definitions);
-    let Judgement::Kept = reached else {
-        return reached;
-    };
+    judge_reached(values, definitions)?;
     measure(classes, values, definitions);
-    let lengths = judge_lengths(definitions);
-    let Judgement::Kept = lengths else {
-        return lengths;
-    };
+    judge_lengths(definitions)?;
     write_oids(classes, values, definitions, numbers);
-    lengths
+    Ok(())
 }

@@ -1,14 +1,13 @@
 -- The outline of a module: its definitions in text order, as the classes of its tokens, `cs`, show them.
 -- Assumes nothing.
-use Rattle.std.specs.Prelude.{◌≡◌, Bool, true, false, List, map, ℕ, ◌*◌, ◌≤◌, ◌<◌, length, get_or, take}
+use Rattle.std.specs.Prelude.{◌≡◌, Bool, true, false, List, map, ℕ, ◌*◌, ◌≤◌, ◌<◌, length, get_or, take, Result, Ok, Err}
 use Rattle.definition.specs.Landmark.{definitions, definition_end}
 use Rattle.definition.specs.Fields.{fields_of}
 use Rattle.definition.specs.declared.Fields.{Fields}
 use Rattle.module_table.specs.declared.Definition.{Definition}
 use Rattle.module_table.specs.Definition.{width, definitions_in}
 use Rattle.module_table.specs.Module.{most_definitions}
-use Rattle.outline.specs.declared.Collected.{Collected}
-use Rattle.outline.specs.declared.Collected.TheVariants.{All, TooMany}
+use Rattle.index.specs.declared.TokenIndex.{TokenIndex}
 
 -- 1 where something is there, and else 0
 abbrev pub flag : Bool → ℕ
@@ -46,7 +45,7 @@ outline cs = map (outlined_at cs) (definitions cs)
 
 -- what collecting leaves: the words hold the definitions, which are so many; or there are too many, and the answer is the name of the
 -- first past the most
-abbrev pub Outlines : List ℕ → List ℕ → Collected → Type 0
-Outlines cs words (All count) =
+abbrev pub Outlines : List ℕ → List ℕ → Result ℕ TokenIndex → Type 0
+Outlines cs words (Ok count) =
     (count ≡ length (outline cs)) × (count ≤ most_definitions) × (definitions_in (take (count * width) words) ≡ outline cs)
-Outlines cs words (TooMany i) = (most_definitions < length (definitions cs)) × (i.0 ≡ get_or (definitions cs) most_definitions 0)
+Outlines cs words (Err i) = (most_definitions < length (definitions cs)) × (i.0 ≡ get_or (definitions cs) most_definitions 0)

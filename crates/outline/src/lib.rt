@@ -14,13 +14,6 @@ use definition::{Fields, begins, definition_end, fields_of};
 use index::{NumberIndex, RecordIndex, TokenIndex};
 use module_table::{Definition, MOST_DEFINITIONS, store};
 
-// The definitions collected: so many, or the name of the first that is too many.
-#[derive(Clone, Copy)]
-pub enum Collected {
-    All(usize),
-    TooMany(TokenIndex),
-}
-
 // A number that says whether something is there.
 fn flag(there: bool) -> usize
     ensures { result ≡ flag there }
@@ -83,8 +76,8 @@ fn definition_between(classes: &[u8], d: usize, e: usize) -> Definition
     outlined(d, fields_of(classes, classes.len(), d, e))
 }
 
-// Collects the definitions of a module, each when its end is found.
-pub fn collect_outline(classes: &[u8], definitions: &mut [usize]) -> Collected
+// Collects the definitions of a module, each when its end is found: so many there are. An Err is the name of the first that is too many.
+pub fn collect_outline(classes: &[u8], definitions: &mut [usize]) -> Result<usize, TokenIndex>
     requires few { length classes.now ≤ 65536 }
     requires room { length definitions.old ≡ most_definitions * width }
     ensures long { length definitions.new ≡ length definitions.old }
@@ -94,7 +87,7 @@ pub fn collect_outline(classes: &[u8], definitions: &mut [usize]) -> Collected
     let mut d = next_beginning(classes, 0);
     while d + 1 < classes.len() {
         if count == MOST_DEFINITIONS {
-            return Collected::TooMany(TokenIndex(d));
+            return Err(TokenIndex(d));
         }
         let e = definition_end(classes, classes.len(), d);
         store(
@@ -105,5 +98,5 @@ pub fn collect_outline(classes: &[u8], definitions: &mut [usize]) -> Collected
         count += 1;
         d = next_beginning(classes, e);
     }
-    Collected::All(count)
+    Ok(count)
 }

@@ -1,11 +1,9 @@
 -- The ranges of a restriction in rising order, so that a range is compared with few of those before it. `order` holds the tokens that they
 -- start with, and its first `count` entries are in use.
 -- Assumes nothing.
-use Rattle.std.specs.Prelude.{true, false, List, ◌≡◌, ℕ, ◌+◌, ◌-◌, ◌≤◌, ◌<◌, get_or}
+use Rattle.std.specs.Prelude.{true, false, List, ◌≡◌, ℕ, ◌+◌, ◌-◌, ◌≤◌, ◌<◌, get_or, Option, None, Some}
 use Rattle.sub_type.specs.Range.{starts_range}
 use Rattle.range_list.specs.Misplaced.{is_below, is_misplaced}
-use Rattle.range_list.specs.declared.sorted.Admission.{Admission}
-use Rattle.range_list.specs.declared.sorted.Admission.TheVariants.{Misplaced, Among}
 
 -- the range of entry k
 abbrev pub range_at : List ℕ → ℕ → ℕ
@@ -38,6 +36,6 @@ pub record Inserted (count at token : ℕ) (before after : List ℕ) : Type 0 wh
   pub later : (k : ℕ) → at ≤ k → k < count → range_at after (k + 1) ≡ range_at before k
 
 -- the answer to a token: that it is misplaced; or how many ranges there are with it
-abbrev pub Admitted : List ℕ → List ℕ → ℕ → ℕ → List ℕ → Admission → Type 0
-Admitted cs vs from token order Misplaced = is_misplaced cs vs from token ≡ true
-Admitted cs vs from token order (Among count) = (is_misplaced cs vs from token ≡ false) × Gathered cs vs from (token + 1) count order
+abbrev pub Admitted : List ℕ → List ℕ → ℕ → ℕ → List ℕ → Option ℕ → Type 0
+Admitted cs vs from token order None = is_misplaced cs vs from token ≡ true
+Admitted cs vs from token order (Some count) = (is_misplaced cs vs from token ≡ false) × Gathered cs vs from (token + 1) count order

@@ -15,7 +15,7 @@ ghost use Rattle.range_list.specs.Refusal.{misplaced_range};
 use definition::Span;
 use index::TokenIndex;
 use range::{first_sharing, is_backward};
-use rule::{Finding, Judgement};
+use rule::Finding;
 use sorted::search_sorted;
 use spread::first_between;
 use sub_type::end_in;
@@ -55,7 +55,7 @@ fn misplaced_finding(classes: &[u8], values: &[u32], span: Span) -> Finding
 }
 
 // Refusal 16 on the ranges of a restriction.
-pub fn judge_misplaced(classes: &[u8], values: &[u32], span: Span) -> Judgement
+pub fn judge_misplaced(classes: &[u8], values: &[u32], span: Span) -> Result<(), Finding>
     requires { length classes.now ≤ 65536 }
     ensures { result ≡ judge_one (misplaced_range classes.now values.now span) }
 {
@@ -63,7 +63,7 @@ pub fn judge_misplaced(classes: &[u8], values: &[u32], span: Span) -> Judgement
     let to = end_in(classes, span);
     let token = first_misplaced(classes, values, Span { from, to });
     if token < to {
-        return Judgement::Broken(misplaced_finding(classes, values, Span { from, to: token }));
+        return Err(misplaced_finding(classes, values, Span { from, to: token }));
     }
-    Judgement::Kept
+    Ok(())
 }

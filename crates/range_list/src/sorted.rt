@@ -16,15 +16,6 @@ const SHORT_SPAN: usize = 256;
 
 const LONG_SPAN: usize = LONGEST_TEXT;
 
-// What becomes of a token.
-#[derive(Clone, Copy)]
-pub enum Admission {
-    // A range starts there that is misplaced.
-    Misplaced,
-    // So many ranges there are with it.
-    Among(usize),
-}
-
 // Where a range belongs: the first of those in order that does not lie below it, or their end.
 fn place_of(classes: &[u8], values: &[u32], order: &[u16], count: usize, token: usize) -> usize
     requires rising { Rising classes.now values.now count order.now }
@@ -76,8 +67,15 @@ fn insert(order: &mut [u16], count: usize, at: usize, token: usize)
     order[at] = token as u16;
 }
 
-// Whether the range at the end of the span, if one starts there, is misplaced; else it is put among those in the span, which are in order.
-fn admit(classes: &[u8], values: &[u32], order: &mut [u16], count: usize, span: Span) -> Admission
+// Puts the range at the end of the span, if one starts there, among those in the span, which are in order: so many there are with it.
+// None where it is misplaced.
+fn admit(
+    classes: &[u8],
+    values: &[u32],
+    order: &mut [u16],
+    count: usize,
+    span: Span,
+) -> Option<usize>
     requires gathered { Gathered classes.now values.now span.from span.to count order.old }
     requires room { (count < length order.old) × (span.to < 65536) }
     ensures as_long { length order.new ≡ length order.old }
@@ -85,17 +83,17 @@ fn admit(classes: &[u8], values: &[u32], order: &mut [u16], count: usize, span: 
 {
     let token = span.to;
     if !starts_range(classes, token) {
-        return Admission::Among(count);
+        return Some(count);
     }
     if is_backward(classes, values, token) {
-        return Admission::Misplaced;
+        return None;
     }
     let at = place_of(classes, values, order, count, token);
     if !is_free(classes, values, order, count, at, token) {
-        return Admission::Misplaced;
+        return None;
     }
     insert(order, count, at, token);
-    Admission::Among(count + 1)
+    Some(count + 1)
 }
 
 // The first range that is misplaced, in a span that the lent entries have room for.
@@ -109,8 +107,7 @@ fn search_in(classes: &[u8], values: &[u32], span: Span, order: &mut [u16]) -> u
     let mut count = 0;
     let mut token = from;
     while token < to {
-        let admission = admit(classes, values, order, count, Span { from, to: token });
-        let Admission::Among(with) = admission else {
+        let Some(with) = admit(classes, values, order, count, Span { from, to: token }) else {
             return token;
         };
         count = with;

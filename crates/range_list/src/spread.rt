@@ -15,43 +15,35 @@ pub struct Extremes {
     pub highest: usize,
 }
 
-// What a token does to the extremes of the ranges before it.
-#[derive(Clone, Copy)]
-pub enum Widening {
-    // Nothing can be said: its pair is wrong, or it lies neither above all of them nor below all.
-    Unclear,
-    // It shares no number with them, and these are the extremes with it.
-    To(Extremes),
-}
-
-// The extremes of the ranges in the span, which are given, with the range at its end, if one starts there.
-fn widen(classes: &[u8], values: &[u32], span: Span, extremes: Extremes) -> Widening
+// The extremes of the ranges in the span, which are given, with the range at its end, if one starts there and shares no number with them.
+// None where nothing can be said: its pair is wrong, or it lies neither above all of them nor below all.
+fn widen(classes: &[u8], values: &[u32], span: Span, extremes: Extremes) -> Option<Extremes>
     requires spread { Spread classes.now values.now span.from span.to extremes.lowest extremes.highest }
     requires few { span.to < 65536 }
     ensures { Widened classes.now values.now span.from span.to result }
 {
     let token = span.to;
     if !starts_range(classes, token) {
-        return Widening::To(extremes);
+        return Some(extremes);
     }
     if is_backward(classes, values, token) {
-        return Widening::Unclear;
+        return None;
     }
     let lowest = extremes.lowest;
     let highest = extremes.highest;
     if is_below(classes, values, token, lowest) {
-        return Widening::To(Extremes {
+        return Some(Extremes {
             lowest: token,
             highest,
         });
     }
     if is_below(classes, values, highest, token) {
-        return Widening::To(Extremes {
+        return Some(Extremes {
             lowest,
             highest: token,
         });
     }
-    Widening::Unclear
+    None
 }
 
 // A token before which no range is misplaced: the first of which nothing can be said, or the end of the span.
@@ -71,13 +63,8 @@ pub fn first_between(classes: &[u8], values: &[u32], span: Span) -> usize
     let mut highest = from;
     let mut token = from + 1;
     while token < to {
-        let widening = widen(
-            classes,
-            values,
-            Span { from, to: token },
-            Extremes { lowest, highest },
-        );
-        let Widening::To(extremes) = widening else {
+        let before = Extremes { lowest, highest };
+        let Some(extremes) = widen(classes, values, Span { from, to: token }, before) else {
             return token;
         };
         lowest = extremes.lowest;

@@ -12,10 +12,8 @@ use lib.ListN.{length, take, get_or-eq_default}
 use lib.Seq.{take_at}
 use Rattle.index.proofs.Search.{true_false, answers}
 use Rattle.terminal.specs.Terminal.{lower, current}
-use Rattle.rule.specs.Rule.{judge_one, judge}
+use Rattle.rule.specs.Rule.{judge_one, judge, Judgement}
 use Rattle.rule.specs.declared.Finding.{Finding}
-use Rattle.rule.specs.declared.Judgement.{Judgement}
-use Rattle.rule.specs.declared.Judgement.TheVariants.{Kept, Broken}
 use Rattle.token.specs.Token.{Tok, Meaning, meanings, class_of_token}
 use Rattle.token.specs.Cut.{cut, meanings_in}
 use Rattle.token.specs.Table.{overlaid}
@@ -44,14 +42,14 @@ use Rattle.syntax_check.specs.Refusal.{rules_over}
 use Rattle.object_tree.specs.Tree.{parents_added}
 use Rattle.access_check.specs.Notification.{TwoNumbers}
 use Rattle.reader.specs.Reading.{numbered, classed, module_of, object_rules, starts_of, judged, records_of}
-use Rattle.reader.specs.Buffers.{examined_to, refusal_of, Laid}
+use Rattle.reader.specs.Buffers.{Examined, counted, examined_to, refusal_by, Laid}
+use Rattle.naming.specs.Told.{Names}
 use Rattle.reader.specs.Stage.{Classed, Related}
-use Rattle.reader.specs.declared.Examined.{Examined}
-use Rattle.reader.specs.declared.Examined.TheVariants.{Accepted}
 use Rattle.reader.proofs.Counting.{numbers_counted}
 use Rattle.reader.proofs.Row.{first_kept}
 use Rattle.reader.proofs.Spelled.{rules_judged}
 use Rattle.reader.proofs.TwoNumbers.{notifications_two}
+use Rattle.std.specs.Prelude.{Ok, Err}
 
 -- ---- how names are spelled
 
@@ -92,7 +90,7 @@ module _ (text classes starts ends : List ℕ) (t : TokensHeld text classes star
       pub oids_judged : r ≡ judge (collecting_rules (named ms))
       oids_judged = c.judged ∙ ap (λ (m : Module). judge (collecting_rules m)) named_held
 
-      module _ (kept : r ≡ Kept) where
+      module _ (kept : r ≡ Ok tt) where
         oids_held : definitions_in w1 ≡ (numbered ms).definitions
         oids_held = (c.held kept).definitions ∙ ap (λ (m : Module). (with_oids m).definitions) named_held
 
@@ -153,22 +151,25 @@ module _ (text classes starts ends : List ℕ) (t : TokensHeld text classes star
 
 -- ---- the answer
 
-module _ (ts : List Tok) (starts : List ℕ) (held : starts ≡ starts_of ts) (r j : Judgement) (is : r ≡ j) where
-  pub answer_broken : (f : Finding) → r ≡ Broken f → (a : Examined) → a ≡ refusal_of starts r → a ≡ examined_to (judged ts j)
-  answer_broken f e a answered =
-      answered ∙ ap (refusal_of starts) e ∙ ap (λ (s : List ℕ). refusal_of s (Broken f)) held
-      ∙ sym (ap (λ (x : Judgement). examined_to (judged ts x)) (sym is ∙ e))
+-- to a module that is judged, by where its tokens start
+abbrev answered : List ℕ → Names → Examined
+answered starts (Ok count) = Ok count
+answered starts (Err f) = Err (refusal_by starts f)
 
-  pub laid_broken : (f : Finding) → r ≡ Broken f → (records numbers numbers' : List ℕ) → length numbers' ≡ length numbers
+pub answer_told : (ts : List Tok) (starts : List ℕ) → starts ≡ starts_of ts → (j : Judgement) (r : Names) → r ≡ counted (meanings ts) j → answered starts r ≡ examined_to (judged ts j)
+answer_told ts starts held j r is = ap (answered starts) is ∙ go j
+  where
+    go : (i : Judgement) → answered starts (counted (meanings ts) i) ≡ examined_to (judged ts i)
+    go (Ok _) = refl
+    go (Err f) = ap (λ (s : List ℕ). answered s (Err f)) held
+
+module _ (ts : List Tok) (j : Judgement) where
+  pub laid_broken : (f : Finding) → j ≡ Err f → (records numbers numbers' : List ℕ) → length numbers' ≡ length numbers
       → Laid (judged ts j) records records numbers numbers'
-  laid_broken f e records numbers numbers' same =
-      subst (λ (x : Judgement). Laid (judged ts x) records records numbers numbers') (sym (sym is ∙ e)) (refl, same)
+  laid_broken f broken records numbers numbers' same =
+      subst (λ (x : Judgement). Laid (judged ts x) records records numbers numbers') (sym broken) (refl, same)
 
-module _ (ts : List Tok) (j : Judgement) (kept : j ≡ Kept) where
-  pub answer_kept : (count : ℕ) → count ≡ count_of (module_of (meanings ts)) → Accepted count ≡ examined_to (judged ts j)
-  answer_kept count counted = ap Accepted counted ∙ sym (ap (λ (x : Judgement). examined_to (judged ts x)) kept)
-
-  pub laid_kept : (records records' numbers numbers' : List ℕ) → records' ≡ overlaid (records_of ts (module_of (meanings ts))) records
+  pub laid_kept : j ≡ Ok tt → (records records' numbers numbers' : List ℕ) → records' ≡ overlaid (records_of ts (module_of (meanings ts))) records
       → numbers' ≡ overlaid (module_of (meanings ts)).numbers numbers → Laid (judged ts j) records records' numbers numbers'
-  laid_kept records records' numbers numbers' rs ns =
+  laid_kept kept records records' numbers numbers' rs ns =
       subst (λ (x : Judgement). Laid (judged ts x) records records' numbers numbers') (sym kept) (rs, ns)

@@ -8,8 +8,7 @@ use native.Mathlib.Omega.{arith}
 use lib.ListN.{length, drop}
 use Rattle.token.specs.Table.{longest_text}
 use Rattle.reader.specs.Reading.{Outcome, accepted, refused, outcome}
-use Rattle.reader.specs.Buffers.{record_words, number_words, alone, answer_to, examined_to, answer_of, ReadParts, Left, Reads, Examines}
-use Rattle.reader.specs.declared.Examined.{Examined}
+use Rattle.reader.specs.Buffers.{record_words, number_words, alone, answer_to, examined_to, answer_of, ReadParts, Left, Reads, Examines, Examined}
 
 module _ (text records numbers : List ℕ) where
   -- buffers that are long enough are not too short

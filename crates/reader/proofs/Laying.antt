@@ -24,8 +24,7 @@ use Rattle.syntax.specs.declared.Unparsed.{Unparsed}
 use Rattle.syntax.specs.declared.Unparsed.TheVariants as unparsed-case
 use Rattle.syntax.specs.Parsing.{Derived}
 use Rattle.reader.specs.Reading.{judged, rules, outcome}
-use Rattle.reader.specs.Buffers.{examined_to, unparsed, Laid}
-use Rattle.reader.specs.declared.Examined.{Examined}
+use Rattle.reader.specs.Buffers.{examined_to, unparsed, Laid, Examined}
 
 -- ---- the slices that hold the tokens alone
 

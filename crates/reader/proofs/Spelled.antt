@@ -9,9 +9,7 @@ use lib.Dec.{ltb}
 use lib.ListN.{length}
 use Rattle.index.specs.First.{first, any}
 use Rattle.index.proofs.Search.{answers, true_false, any_first, any_some, first_holds}
-use Rattle.rule.specs.Rule.{Rule, and_then, judge_one, judge, each_of, each}
-use Rattle.rule.specs.declared.Judgement.{Judgement}
-use Rattle.rule.specs.declared.Judgement.TheVariants.{Kept, Broken}
+use Rattle.rule.specs.Rule.{Rule, and_then, judge_one, judge, each_of, each, Judgement}
 use Rattle.rule.proofs.Judged.{judge_row}
 use Rattle.definition.specs.Members.{is_name}
 use Rattle.definition.specs.declared.Span.{Span}
@@ -23,8 +21,8 @@ use Rattle.enumeration.specs.Refusal.{item_rule}
 use Rattle.syntax_check.specs.Refusal.{item_test_rule, items_of, item_rule_of, rules_over, range_rule_of, indirect_convention}
 use Rattle.syntax_check.specs.declared.Demand.TheVariants.{Places}
 use Rattle.syntax_check.specs.declared.Demand.TheVariants.{Limits as Limited}
-use Rattle.syntax_check.specs.declared.ItemTest.{ItemTest}
-use Rattle.syntax_check.specs.declared.ItemTest.TheVariants.{Itemless, Items}
+use Rattle.enumeration.specs.declared.Enumeration.{Enumeration}
+use Rattle.std.specs.Prelude.{Ok, Err, Option, None, Some}
 
 module _ (cs vs : List ℕ) (x y : ℕ → List ℕ) (agree : (i : ℕ) → is_name cs i ≡ true → x i ≡ y i) where
   module _ (i : ℕ) (name : is_name cs i ≡ true) where
@@ -60,11 +58,11 @@ module _ (cs vs : List ℕ) (x y : ℕ → List ℕ) (agree : (i : ℕ) → is_n
     breach_same = λ t. λ i. ltb 0 (clause_same limits s.from i t)
 
     abbrev says : (ℕ → List ℕ) → ℕ → Judgement
-    says z k = Broken (record { number = 18; clause = item_clause z cs vs limits s.from k; token = record { 0 = k }; other = record { 0 = item_other z cs vs s.from k } })
+    says z k = Err (record { number = 18; clause = item_clause z cs vs limits s.from k; token = record { 0 = k }; other = record { 0 = item_other z cs vs s.from k } })
 
     -- what is said of a label is the same
     says_same : (k : ℕ) → is_name cs k ≡ true → says x k ≡ says y k
-    says_same k name = λ t. Broken (record {
+    says_same k name = λ t. Err (record {
       number = 18;
       clause = clause_same limits s.from k t;
       token = record { 0 = k };
@@ -76,16 +74,16 @@ module _ (cs vs : List ℕ) (x y : ℕ → List ℕ) (agree : (i : ℕ) → is_n
     item_judged =
         let from = s.from in
         let to = (item_rule y cs vs limits s).to in
-        ap (λ (b : ℕ → Bool). cond (any b from to) (says x (first b from to)) Kept) breach_same
+        ap (λ (b : ℕ → Bool). cond (any b from to) (says x (first b from to)) (Ok tt)) breach_same
         ∙ answers (any (breach y) from to)
         (λ e. let k = first (breach y) from to in
         let name = breaks_name limits from k (first_holds (breach y) from to (any_first (breach y) from to e) (any_some (breach y) from to e)) in
-        ap (λ (j : Judgement). cond (any (breach y) from to) j Kept) (says_same k name))
+        ap (λ (j : Judgement). cond (any (breach y) from to) j (Ok tt)) (says_same k name))
         (λ e. rw e)
 
-  test_judged : (test : ItemTest) → judge_one (item_test_rule x cs vs test) ≡ judge_one (item_test_rule y cs vs test)
-  test_judged Itemless = refl
-  test_judged (Items e) = item_judged e.limits e.span
+  test_judged : (test : Option Enumeration) → judge_one (item_test_rule x cs vs test) ≡ judge_one (item_test_rule y cs vs test)
+  test_judged None = refl
+  test_judged (Some e) = item_judged e.limits e.span
 
   module _ (ds : List Definition) where
     each_judged : (a n : ℕ) → judge (each_of (item_rule_of x cs vs ds) a n) ≡ judge (each_of (item_rule_of y cs vs ds) a n)

@@ -10,7 +10,6 @@ use borrow.Author.Tests.{eqb-true}
 use lib.Dec.{ltb}
 use lib.ListN.{length}
 use Rattle.rule.specs.Rule.{judge}
-use Rattle.rule.specs.declared.Judgement.TheVariants.{Kept}
 use Rattle.rule.proofs.Judged.{judged_kept}
 use Rattle.token.specs.Token.{Meaning}
 use Rattle.definition.specs.Landmark.{has_oid, notification}
@@ -30,6 +29,7 @@ use Rattle.oid_tree.specs.Refusal.{collecting_rules}
 use Rattle.access_check.specs.Notification.{TwoNumbers}
 use Rattle.reader.specs.Reading.{module_of}
 use Rattle.reader.proofs.Leaving.{recorded_oid, module_kind}
+use Rattle.std.specs.Prelude.{Ok}
 
 -- a notification is of a kind with an OID
 pub notification_value : (ms : List Meaning) (k : ℕ) → is_notification (at (module_of ms) k) ≡ true → has_value (at (named ms) k) ≡ true
@@ -60,7 +60,7 @@ module _ (ms : List Meaning) (each : EachNumbered (classes_of ms)) where
       )
 
   -- where 12 is kept, the heads of notifications reach a built-in name
-  pub notifications_two : judge (collecting_rules (named ms)) ≡ Kept → TwoNumbers (module_of ms).definitions (module_of ms).numbers
+  pub notifications_two : judge (collecting_rules (named ms)) ≡ Ok tt → TwoNumbers (module_of ms).definitions (module_of ms).numbers
   unfolding reaches
   notifications_two kept k is =
       let value = notification_value ms k is in

@@ -1,33 +1,44 @@
 -- What the calls answer and what they leave in the two buffers, for any text and any buffers.
 -- Assumes nothing.
-use Rattle.std.specs.Prelude.{◌≡◌, ◌⊎◌, List, [], ◌++◌, ℕ, ◌-◌, ◌*◌, ◌≤◌, ◌<◌, length, get_or, drop, replicate}
-use Rattle.rule.specs.declared.Judgement.{Judgement}
-use Rattle.rule.specs.declared.Judgement.TheVariants as judgement
+use Rattle.std.specs.Prelude.{◌≡◌, ◌⊎◌, List, [], ◌++◌, ℕ, ◌-◌, ◌*◌, ◌≤◌, ◌<◌, length, get_or, drop, replicate, Result, Ok, Err}
+use Rattle.rule.specs.Rule.{Judgement}
+use Rattle.rule.specs.declared.Finding.{Finding}
+use Rattle.token.specs.Token.{Meaning}
+use Rattle.naming.specs.Told.{Names}
 use Rattle.token.specs.Table.{longest_text, overlaid}
-use Rattle.module_table.specs.Module.{most_definitions}
+use Rattle.module_table.specs.Module.{most_definitions, count_of}
 use Rattle.oid_tree.specs.Refusal.{most_numbers}
 use Rattle.records.specs.Record.{record_width}
 use Rattle.syntax.specs.Parsing.{Parses}
 use Rattle.syntax.specs.Parsing.{Parsing}
 use Rattle.syntax.specs.Parsing.{Derived, Underived, Uncut}
 use Rattle.reader.specs.Reading.{Outcome, accepted, refused, outcome}
-use Rattle.reader.specs.declared.Answer.{Answer}
-use Rattle.reader.specs.declared.Answer.TheVariants.{Accepted, Refused}
-use Rattle.reader.specs.declared.Examined.{Examined}
-use Rattle.reader.specs.declared.Examined.TheVariants as examined
+use Rattle.reader.specs.declared.PlainRefusal.{PlainRefusal}
+use Rattle.reader.specs.declared.Refusal.{Refusal}
+
+-- the answer to a text with all that there is to say: so many definitions, or a refusal; and the answer by number and place alone
+abbrev pub Examined : Type 0
+Examined = Result ℕ Refusal
+
+abbrev pub Answer : Type 0
+Answer = Result ℕ PlainRefusal
+
+-- refused by this number, at this place
+abbrev pub refused_by : ℕ → ℕ → Answer
+refused_by number place = Err (record { number = number; place = record { 0 = place } })
 
 -- the number, the place and the definition count of each case of the answer
 abbrev pub number_of : Answer → ℕ
-number_of (Accepted count) = 0
-number_of (Refused number place) = number
+number_of (Ok count) = 0
+number_of (Err r) = r.number
 
 abbrev pub place_of : Answer → ℕ
-place_of (Accepted count) = 0
-place_of (Refused number place) = place.0
+place_of (Ok count) = 0
+place_of (Err r) = r.place.0
 
 abbrev pub answered_count : Answer → ℕ
-answered_count (Accepted count) = count
-answered_count (Refused number place) = 0
+answered_count (Ok count) = count
+answered_count (Err r) = 0
 
 -- the working parts, in words: of the record buffer, a record for each of the most definitions, 5,120; of the number buffer, the most
 -- numbers that all OIDs may have, 8,192
@@ -48,13 +59,13 @@ filled size words before = (words ++ zeros (size - length words)) ++ drop size b
 -- the answer to an outcome; the same with the rule's clause and the other place; and the words that each buffer's working part holds:
 -- after a refusal all are zero
 abbrev pub answer_to : Outcome → Answer
-answer_to (accepted count records numbers) = Accepted count
-answer_to (refused number clause place other) = Refused number (record { 0 = place })
+answer_to (accepted count records numbers) = Ok count
+answer_to (refused number clause place other) = refused_by number place
 
 abbrev pub examined_to : Outcome → Examined
-examined_to (accepted count records numbers) = examined.Accepted count
+examined_to (accepted count records numbers) = Ok count
 examined_to (refused number clause place other) =
-    examined.Refused (record { number = number; clause = clause; place = record { 0 = place }; other = record { 0 = other } })
+    Err (record { number = number; clause = clause; place = record { 0 = place }; other = record { 0 = other } })
 
 abbrev pub records_in : Outcome → List ℕ
 records_in (accepted count records numbers) = records
@@ -65,9 +76,12 @@ numbers_in (accepted count records numbers) = numbers
 numbers_in (refused number clause place other) = []
 
 -- what is answered of an examined text to one who asks for number, place and count alone
+abbrev pub plain : Refusal → PlainRefusal
+plain r = record { number = r.number; place = r.place }
+
 abbrev pub answer_of : Examined → Answer
-answer_of (examined.Accepted count) = Accepted count
-answer_of (examined.Refused r) = Refused r.number r.place
+answer_of (Ok count) = Ok count
+answer_of (Err r) = Err (plain r)
 
 -- What the steps within leave: where the text is accepted, its words lie at the start of each buffer, and the rest is as it was; after
 -- a refusal the record buffer is as it was, and the number buffer as long.
@@ -79,22 +93,25 @@ Laid (refused number clause place other) records records' numbers numbers' = (re
 -- a refusal that is about one place alone
 abbrev pub alone : ℕ → ℕ → Examined
 alone number place =
-    examined.Refused (record { number = number; clause = 0; place = record { 0 = place }; other = record { 0 = place } })
+    Err (record { number = number; clause = 0; place = record { 0 = place }; other = record { 0 = place } })
 
--- the answer where a rule is broken; `starts` are where the tokens start
-abbrev pub refusal_of : List ℕ → Judgement → Examined
-refusal_of starts judgement.Kept = examined.Accepted 0
-refusal_of starts (judgement.Broken f) =
-    examined.Refused (record {
-      number = f.number;
-      clause = f.clause;
-      place = record { 0 = get_or starts f.token.0 0 };
-      other = record { 0 = get_or starts f.other.0 0 };
-    })
+-- what there is to say of a broken rule; `starts` are where the tokens start
+abbrev pub refusal_by : List ℕ → Finding → Refusal
+refusal_by starts f = record {
+  number = f.number;
+  clause = f.clause;
+  place = record { 0 = get_or starts f.token.0 0 };
+  other = record { 0 = get_or starts f.other.0 0 };
+}
+
+-- what the rules say of a module that is read: all are kept, and it has so many definitions; or one is broken
+abbrev pub counted : List Meaning → Judgement → Names
+counted ms (Ok _) = Ok (count_of (module_of ms))
+counted ms (Err f) = Err f
 
 -- the answer to a text that is not derived
 abbrev pub unparsed : Parsing → Examined
-unparsed (Derived n) = examined.Accepted 0
+unparsed (Derived n) = Ok 0
 unparsed (Underived n at) = alone 7 at.0
 unparsed (Uncut number at) = alone number at.0
 

@@ -1,10 +1,8 @@
 -- What is read of a text: document 01 whole. The rules from 8 on are one list; a text is accepted where its tokens are derived and
 -- all of them are kept, and refused at the first that is broken.
 -- Assumes nothing.
-use Rattle.std.specs.Prelude.{List, [], ◌∷◌, ◌++◌, map, ℕ, get_or}
-use Rattle.rule.specs.Rule.{Rule, judge}
-use Rattle.rule.specs.declared.Judgement.{Judgement}
-use Rattle.rule.specs.declared.Judgement.TheVariants as judgement
+use Rattle.std.specs.Prelude.{List, [], ◌∷◌, ◌++◌, map, ℕ, get_or, Ok, Err}
+use Rattle.rule.specs.Rule.{Rule, judge, Judgement}
 use Rattle.token.specs.Token.{Tok, Meaning, meanings}
 use Rattle.token.specs.Cut.{cut, meanings_in}
 use Rattle.syntax.specs.Parsing.{Parsing}
@@ -79,9 +77,9 @@ records_of ts m = records_before (starts_of ts) (ends_of ts) m.definitions (coun
 
 -- of tokens that the grammar derives, by what the rules say: a refusal is placed at the start of its token
 abbrev pub judged : List Tok → Judgement → Outcome
-judged ts judgement.Kept =
+judged ts (Ok _) =
     accepted (count_of (module_of (meanings ts))) (records_of ts (module_of (meanings ts))) (module_of (meanings ts)).numbers
-judged ts (judgement.Broken f) = refused f.number f.clause (start_of ts f.token.0) (start_of ts f.other.0)
+judged ts (Err f) = refused f.number f.clause (start_of ts f.token.0) (start_of ts f.other.0)
 
 -- of a text, by how it is parsed; a refusal by 3 to 7 is about one place alone
 abbrev pub outcome : List ℕ → Parsing → Outcome

@@ -1,8 +1,7 @@
 -- What the steps of reading a derived module leave in the slices that are lent: each step judges its rules, and fills its columns.
 -- Assumes nothing.
 use Rattle.std.specs.Prelude.{◌≡◌, List, ℕ}
-use Rattle.rule.specs.Rule.{judge}
-use Rattle.rule.specs.declared.Judgement.{Judgement}
+use Rattle.rule.specs.Rule.{judge, Judgement}
 use Rattle.module_table.specs.Definition.{definitions_in}
 use Rattle.object_tree.specs.Tree.{parents_added}
 use Rattle.type_class.specs.Stage.{definitions_classed}

@@ -4,7 +4,7 @@
 ghost use Rattle.std.specs.Prelude.{◌≡◌, ◌≤◌, length, Err};
 ghost use Rattle.syntax.specs.Parsed.{parsing};
 ghost use Rattle.token.specs.Table.{longest_text};
-ghost use Rattle.reader.specs.Buffers.{record_words, number_words, zeros, answer_of, alone, unparsed, ReadInto, ReadParts, Reads, Examines};
+ghost use Rattle.reader.specs.Buffers.{record_words, number_words, zeros, plain, alone, unparsed, ReadInto, ReadParts, Reads, Examines};
 
 mod module;
 mod objects;
@@ -26,15 +26,6 @@ pub const NUMBER_WORDS: usize = MOST_NUMBERS;
 // How many bytes a buffer for a file has: one more than a text may have, to tell a longer one.
 pub const FILE_BYTES: usize = LONGEST_TEXT + 1;
 
-// The answer to a text. specs/Buffers.antt gives each case its number, place and count.
-#[derive(Clone, Copy)]
-pub enum Answer {
-    // Accepted: so many definitions.
-    Accepted(usize),
-    // Refused by this number, at this place.
-    Refused(u8, Place),
-}
-
 // A refusal with all that there is to say of it: its number, which of the rule's clauses, from 1 on, and 0 where it has only one; the
 // place; and the place that this one stands against, which is the same where the rule is about one thing.
 #[derive(Clone, Copy)]
@@ -45,11 +36,11 @@ pub struct Refusal {
     pub other: Place,
 }
 
-// The answer to a text with all that there is to say.
+// A refusal by its number and its place alone.
 #[derive(Clone, Copy)]
-pub enum Examined {
-    Accepted(usize),
-    Refused(Refusal),
+pub struct PlainRefusal {
+    pub number: u8,
+    pub place: Place,
 }
 
 // Sets all words to 0.
@@ -64,10 +55,10 @@ fn clear(words: &mut [u32])
 }
 
 // A refusal that is about one place alone.
-fn refuse(number: u8, place: Place) -> Examined
+fn refuse(number: u8, place: Place) -> Result<usize, Refusal>
     ensures { result ≡ alone number place.0 }
 {
-    Examined::Refused(Refusal {
+    Err(Refusal {
         number,
         clause: 0,
         place,
@@ -76,7 +67,7 @@ fn refuse(number: u8, place: Place) -> Examined
 }
 
 // The answer to a text that is not derived.
-fn unparsed(fault: Unparsed) -> Examined
+fn unparsed(fault: Unparsed) -> Result<usize, Refusal>
     ensures { result ≡ unparsed (parsing (Err fault)) }
 {
     match fault {
@@ -86,7 +77,7 @@ fn unparsed(fault: Unparsed) -> Examined
 }
 
 // Reads a text within the limit. After a refusal the number buffer holds what was written before it.
-fn read_into(text: &[u8], records: &mut [u32], numbers: &mut [u32]) -> Examined
+fn read_into(text: &[u8], records: &mut [u32], numbers: &mut [u32]) -> Result<usize, Refusal>
     requires text { length text.now ≤ longest_text }
     requires records { record_words ≤ length records.old }
     requires numbers { number_words ≤ length numbers.old }
@@ -110,7 +101,7 @@ fn read_into(text: &[u8], records: &mut [u32], numbers: &mut [u32]) -> Examined
 }
 
 // Reads a text within the limit into the working parts: words that are not used are 0, and after a refusal all are.
-fn read_parts(text: &[u8], records: &mut [u32], numbers: &mut [u32]) -> Examined
+fn read_parts(text: &[u8], records: &mut [u32], numbers: &mut [u32]) -> Result<usize, Refusal>
     requires text { length text.now ≤ longest_text }
     requires records { length records.old ≡ record_words }
     requires numbers { length numbers.old ≡ number_words }
@@ -119,16 +110,16 @@ fn read_parts(text: &[u8], records: &mut [u32], numbers: &mut [u32]) -> Examined
     clear(records);
     clear(numbers);
     let examined = read_into(text, records, numbers);
-    let Examined::Accepted(_) = examined else {
+    let Ok(_) = examined else {
         clear(numbers);
         return examined;
     };
     examined
 }
 
-// Reads a module, with all that there is to say of a refusal. The record buffer has at least 5,120 words and the number buffer 8,192, or
+// Reads a module: so many definitions it has, or why it is refused, with all that there is to say. The record buffer has at least 5,120 words and the number buffer 8,192, or
 // the text is refused by 1; a text of more than 65,536 bytes is refused by 2; neither changes a word. Words beyond those never change.
-pub fn examine(text: &[u8], records: &mut [u32], numbers: &mut [u32]) -> Examined
+pub fn examine(text: &[u8], records: &mut [u32], numbers: &mut [u32]) -> Result<usize, Refusal>
     ensures { Examines text.now result records.old records.new numbers.old numbers.new }
 {
     if records.len() < RECORD_WORDS {
@@ -147,22 +138,20 @@ pub fn examine(text: &[u8], records: &mut [u32], numbers: &mut [u32]) -> Examine
     )
 }
 
-// Number, place and count alone.
-fn answer_of(examined: Examined) -> Answer
-    ensures { result ≡ answer_of examined }
+// Number and place alone.
+fn plain(refusal: Refusal) -> PlainRefusal
+    ensures { result ≡ plain refusal }
 {
-    match examined {
-        Examined::Accepted(count) => Answer::Accepted(count),
-        Examined::Refused(refusal) => {
-            let place = refusal.place;
-            Answer::Refused(refusal.number, place)
-        }
+    let place = refusal.place;
+    PlainRefusal {
+        number: refusal.number,
+        place,
     }
 }
 
 // Reads a module: what is examined, by number, place and count alone.
-pub fn read(text: &[u8], records: &mut [u32], numbers: &mut [u32]) -> Answer
+pub fn read(text: &[u8], records: &mut [u32], numbers: &mut [u32]) -> Result<usize, PlainRefusal>
     ensures { Reads text.now result records.old records.new numbers.old numbers.new }
 {
-    answer_of(examine(text, records, numbers))
+    examine(text, records, numbers).map_err(plain)
 }

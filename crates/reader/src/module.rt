@@ -6,24 +6,23 @@ ghost use Rattle.token.specs.Cut.{cut, meanings_in};
 ghost use Rattle.grammar.specs.Grammar.{smi_module};
 ghost use Rattle.grammar.specs.Derivation.{DerivesTokens};
 ghost use Rattle.scope.specs.Token.{TokensHeld};
-ghost use Rattle.naming.specs.Told.{judgement};
 ghost use Rattle.token.specs.Table.{longest_text};
 ghost use Rattle.module_table.specs.Definition.{definitions_in, width};
 ghost use Rattle.module_table.specs.Module.{most_definitions};
 ghost use Rattle.oid_tree.specs.Refusal.{most_numbers, counts_before};
 ghost use Rattle.reader.specs.Reading.{judged, rules};
-ghost use Rattle.reader.specs.Buffers.{record_words, number_words, examined_to, refusal_of, Laid};
+ghost use Rattle.reader.specs.Buffers.{record_words, number_words, examined_to, refusal_by, counted, Laid};
 
+use crate::Refusal;
 use crate::objects::judge_objects;
 use crate::syntaxes::judge_syntaxes;
-use crate::{Examined, Refusal};
 use index::{Place, RecordIndex, TokenIndex};
 use module_table::{MOST_DEFINITIONS, WIDTH, definition_at};
-use naming::{Names, read_names};
+use naming::read_names;
 use oid_holder::judge_twins;
 use oid_tree::collect_oids;
 use records::write_records;
-use rule::Judgement;
+use rule::Finding;
 use token::LONGEST_TEXT;
 
 // How many words the most definitions have.
@@ -47,32 +46,17 @@ fn start_of(starts: &[u32], i: TokenIndex) -> Place
     Place(0)
 }
 
-// The answer to a judgement that refuses. To one that keeps all, which is none, it answers no definitions.
-fn refused(starts: &[u32], verdict: Judgement) -> Examined
-    ensures { result ≡ refusal_of starts.now verdict }
+// What there is to say of a broken rule, by the places of its tokens.
+fn refusal_by(starts: &[u32], finding: Finding) -> Refusal
+    ensures { result ≡ refusal_by starts.now finding }
 {
-    match verdict {
-        Judgement::Kept => Examined::Accepted(0),
-        Judgement::Broken(finding) => {
-            let token = finding.token;
-            let other = finding.other;
-            Examined::Refused(Refusal {
-                number: finding.number,
-                clause: finding.clause,
-                place: start_of(starts, token),
-                other: start_of(starts, other),
-            })
-        }
-    }
-}
-
-// What the rules on names say.
-fn verdict_of(names: Names) -> Judgement
-    ensures { result ≡ judgement names }
-{
-    match names {
-        Names::Named(_) => Judgement::Kept,
-        Names::Broken(finding) => Judgement::Broken(finding),
+    let token = finding.token;
+    let other = finding.other;
+    Refusal {
+        number: finding.number,
+        clause: finding.clause,
+        place: start_of(starts, token),
+        other: start_of(starts, other),
     }
 }
 
@@ -105,6 +89,40 @@ fn blank_table() -> [usize; TABLE_WORDS]
     [0usize; TABLE_WORDS]
 }
 
+// Judges a module, each stage where those before it keep their rules, and lays its records where all are kept: so many definitions it has.
+// The slices hold the text's tokens, which the grammar derives; where a rule is broken the record buffer is as it was.
+fn judge_module(
+    text: &[u8],
+    classes: &[u8],
+    starts: &[u32],
+    ends: &[u32],
+    records: &mut [u32],
+    numbers: &mut [u32],
+) -> Result<usize, Finding>
+    requires tokens { TokensHeld text.now classes.now starts.now ends.now }
+    requires records { record_words ≤ length records.old }
+    requires numbers { number_words ≤ length numbers.old }
+    requires grammar { DerivesTokens class_of_token smi_module (cut text.now).tokens }
+    ensures told { result ≡ counted (meanings_in text.now) (judge (rules (meanings_in text.now))) }
+    ensures laid { Laid (judged (cut text.now).tokens (judge (rules (meanings_in text.now)))) records.old records.new numbers.old numbers.new }
+{
+    let n = classes.len();
+    let mut values = blank_values();
+    let mut table = blank_table();
+    let count = read_names(text, classes, starts, ends, &mut values[..n], &mut table)?;
+    let words = count * WIDTH;
+    let values = &values[..n];
+    let definitions = &mut table[..words];
+    collect_oids(classes, values, definitions, numbers)?;
+    let used = numbers_used(definitions);
+    let numbers = &numbers[..used];
+    judge_twins(definitions, numbers)?;
+    judge_syntaxes(text, starts, ends, classes, values, definitions)?;
+    judge_objects(values, definitions, numbers)?;
+    write_records(starts, ends, definitions, records);
+    Ok(count)
+}
+
 // Reads a module. The slices hold the text's tokens, which the grammar derives; after a refusal the record buffer is as it was.
 pub fn read_derived(
     text: &[u8],
@@ -113,7 +131,7 @@ pub fn read_derived(
     ends: &[u32],
     records: &mut [u32],
     numbers: &mut [u32],
-) -> Examined
+) -> Result<usize, Refusal>
     requires tokens { TokensHeld text.now classes.now starts.now ends.now }
     requires records { record_words ≤ length records.old }
     requires numbers { number_words ≤ length numbers.old }
@@ -121,34 +139,7 @@ pub fn read_derived(
     ensures answered { result ≡ examined_to (judged (cut text.now).tokens (judge (rules (meanings_in text.now)))) }
     ensures laid { Laid (judged (cut text.now).tokens (judge (rules (meanings_in text.now)))) records.old records.new numbers.old numbers.new }
 {
-    let n = classes.len();
-    let mut values = blank_values();
-    let mut table = blank_table();
-    let names = read_names(text, classes, starts, ends, &mut values[..n], &mut table);
-    let Names::Named(count) = names else {
-        return refused(starts, verdict_of(names));
-    };
-    let words = count * WIDTH;
-    let values = &values[..n];
-    let definitions = &mut table[..words];
-    let oids = collect_oids(classes, values, definitions, numbers);
-    let Judgement::Kept = oids else {
-        return refused(starts, oids);
-    };
-    let used = numbers_used(definitions);
-    let numbers = &numbers[..used];
-    let twins = judge_twins(definitions, numbers);
-    let Judgement::Kept = twins else {
-        return refused(starts, twins);
-    };
-    let syntaxes = judge_syntaxes(text, starts, ends, classes, values, definitions);
-    let Judgement::Kept = syntaxes else {
-        return refused(starts, syntaxes);
-    };
-    let objects = judge_objects(values, definitions, numbers);
-    let Judgement::Kept = objects else {
-        return refused(starts, objects);
-    };
-    write_records(starts, ends, definitions, records);
-    Examined::Accepted(count)
+    judge_module(text, classes, starts, ends, records, numbers).map_err(|finding| refusal_by(
+        starts, finding,
+    ))
 }

@@ -8,23 +8,21 @@ ghost use Rattle.reader.specs.Stage.{Related};
 
 use access_check::{judge_access, judge_notifications};
 use object_tree::collect_parents;
-use rule::Judgement;
+use rule::Finding;
 use table_check::judge_tables;
 
 // Finds each object's parent, and judges by it.
-pub fn judge_objects(values: &[u32], definitions: &mut [usize], numbers: &[u32]) -> Judgement
+pub fn judge_objects(
+    values: &[u32],
+    definitions: &mut [usize],
+    numbers: &[u32],
+) -> Result<(), Finding>
     requires few { length (definitions_in definitions.old) ≤ most_definitions }
     requires two { TwoNumbers (parents_added numbers.now (definitions_in definitions.old)) numbers.now }
     ensures { Related values.now numbers.now result definitions.old definitions.new }
 {
     collect_parents(definitions, numbers);
-    let tables = judge_tables(values, definitions, numbers);
-    let Judgement::Kept = tables else {
-        return tables;
-    };
-    let access = judge_access(values, definitions, numbers);
-    let Judgement::Kept = access else {
-        return access;
-    };
+    judge_tables(values, definitions, numbers)?;
+    judge_access(values, definitions, numbers)?;
     judge_notifications(values, definitions, numbers)
 }

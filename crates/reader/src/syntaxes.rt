@@ -2,7 +2,7 @@
 ghost use Rattle.std.specs.Prelude.{◌≤◌, length};
 ghost use Rattle.reader.specs.Stage.{Classed};
 
-use rule::Judgement;
+use rule::Finding;
 use syntax_check::judge_syntax;
 use type_class::collect_classes;
 
@@ -14,7 +14,7 @@ pub fn judge_syntaxes(
     classes: &[u8],
     values: &[u32],
     definitions: &mut [usize],
-) -> Judgement
+) -> Result<(), Finding>
     requires { length classes.now ≤ 65536 }
     ensures { Classed text.now starts.now ends.now classes.now values.now result definitions.old definitions.new }
 {

@@ -1,11 +1,13 @@
 -- Rules, and the first that is broken: what "Refusals of the reader" asks of every refusal from 8 on. A rule that is about two things
 -- says both.
 -- Assumes nothing.
-use Rattle.std.specs.Prelude.{Bool, cond, List, [], ◌∷◌, ℕ, zero, suc, ◌-◌}
+use Rattle.std.specs.Prelude.{Bool, cond, List, [], ◌∷◌, ℕ, zero, suc, ◌-◌, Result, Ok, Err, ⊤}
 use Rattle.index.specs.First.{first, any}
 use Rattle.rule.specs.declared.Finding.{Finding}
-use Rattle.rule.specs.declared.Judgement.{Judgement}
-use Rattle.rule.specs.declared.Judgement.TheVariants.{Kept, Broken}
+
+-- what rules say: all are kept, or this is broken
+abbrev pub Judgement : Type 0
+Judgement = Result ⊤ Finding
 
 -- A rule: its number, the indices from `from` on, below `to`, that it is tested at, whether it is broken at one of them, and for each
 -- its place, which of the rule's clauses is broken, and the place that it stands against. Places are indices of tokens, and the indices
@@ -37,16 +39,16 @@ finding r k = record { number = r.number; clause = r.clause k; token = record { 
 
 -- what one judgement says; and where that is that all is kept, what the next one says
 abbrev pub and_then : Judgement → Judgement → Judgement
-and_then Kept next = next
-and_then (Broken f) next = Broken f
+and_then (Ok _) next = next
+and_then (Err f) next = Err f
 
 -- what a rule says: it is kept, or it is broken at its earliest breach
 unfoldable pub judge_one : Rule → Judgement
-judge_one r = cond (any r.breach r.from r.to) (Broken (finding r (first r.breach r.from r.to))) Kept
+judge_one r = cond (any r.breach r.from r.to) (Err (finding r (first r.breach r.from r.to))) (Ok tt)
 
 -- the first rule that is broken anywhere, at its earliest breach
 unfoldable pub judge : List Rule → Judgement
-judge [] = Kept
+judge [] = Ok tt
 judge (r ∷ rs) = and_then (judge_one r) (judge rs)
 
 -- a rule for each of n indices from a on, in rising order

@@ -1,6 +1,9 @@
-// What rules say: that all are kept, or which is broken first, where, and against what. In specs/ and proofs/ rules in the paper's
+// What rules say is a `Result<(), Finding>`: all are kept, or this is what is broken first, where, and against what. In specs/ and proofs/ rules in the paper's
 // sense, and the laws by which every layer judges.
 #![tactic(auto)]
+
+ghost use Rattle.std.specs.Prelude.{ℕ, ◌≤◌, ◌<◌};
+ghost use Rattle.rule.specs.Each.{KeptBefore, JudgedEach};
 
 use index::TokenIndex;
 
@@ -14,9 +17,18 @@ pub struct Finding {
     pub other: TokenIndex,
 }
 
-// What rules say: all are kept, or one is broken.
-#[derive(Clone, Copy)]
-pub enum Judgement {
-    Kept,
-    Broken(Finding),
+// Judges each index from `from` on, below `to`, in turn: the first that is not kept says what is broken. An index is judged only where
+// all before it were kept.
+pub fn judge_each<F: Fn(usize) -> Result<(), Finding>>(
+    from: usize,
+    to: usize,
+    judge_at: F,
+) -> Result<(), Finding>
+    requires { (k : ℕ) → from ≤ k → k < to → KeptBefore (F.post judge_at) from k → F.pre judge_at k }
+    ensures { JudgedEach (F.post judge_at) from to result }
+{
+    for k in from..to {
+        judge_at(k)?;
+    }
+    Ok(())
 }

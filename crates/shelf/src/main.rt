@@ -11,7 +11,7 @@ use card_line::write_head;
 use command::TooLong;
 use counts::Counts;
 use output::{Misfit, Output, Program};
-use reader::{Answer, Examined, FILE_BYTES, NUMBER_WORDS, RECORD_WORDS};
+use reader::{FILE_BYTES, NUMBER_WORDS, PlainRefusal, RECORD_WORDS, Refusal};
 use std::io;
 use std::rt::Env;
 
@@ -118,26 +118,33 @@ fn answer_file(name: &[u8], content: io::Result<&[u8]>, counts: &mut Counts, out
 
 fn answer_text(name: &[u8], text: &[u8], counts: &mut Counts, out: &mut Output) {
     match read_text(text) {
-        Examined::Accepted(definitions) => {
+        Ok(definitions) => {
             counts.add_accepted();
-            print_line(name, Answer::Accepted(definitions), out);
+            print_line(name, Ok(definitions), out);
         }
-        Examined::Refused(refusal) => {
+        Err(refusal) => {
             counts.add_refused(text, refusal);
             out.refuse();
-            print_line(name, Answer::Refused(refusal.number, refusal.place), out);
+            print_line(
+                name,
+                Err(PlainRefusal {
+                    number: refusal.number,
+                    place: refusal.place,
+                }),
+                out,
+            );
         }
     }
 }
 
-fn read_text(text: &[u8]) -> Examined {
+fn read_text(text: &[u8]) -> Result<usize, Refusal> {
     let mut records = [0u32; RECORD_WORDS];
     let mut numbers = [0u32; NUMBER_WORDS];
     reader::examine(text, &mut records, &mut numbers)
 }
 
 // The name, a tab, and the first line of the card.
-fn print_line(name: &[u8], answer: Answer, out: &mut Output) {
+fn print_line(name: &[u8], answer: Result<usize, PlainRefusal>, out: &mut Output) {
     let mut line = [0u8; 64];
     line[0] = b'\t';
     let end = write_head(answer, &mut line, 1);

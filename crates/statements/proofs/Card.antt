@@ -3,7 +3,6 @@
 use mathlib.Core.Path.{◌≡◌, refl}
 use mathlib.Core.List.{◌++◌, map}
 use Rattle.token.specs.Token.{tok, meaning, spelling_of, value_of, meanings, class_of_token}
-use Rattle.rule.specs.declared.Judgement.TheVariants.{Kept}
 use Rattle.grammar.specs.Answer.{derived}
 use Rattle.grammar.specs.Automaton.{run, run_from}
 use Rattle.grammar.specs.Table.{module_automaton}
@@ -56,12 +55,13 @@ use Rattle.chain.specs.Chain as chain-Chain
 use Rattle.chain.specs.Key as chain-Key
 use Rattle.piece.specs.Decimal as piece-Decimal
 use Rattle.piece.specs.Piece as piece-Piece
+use Rattle.std.specs.Prelude.{Ok}
 
 pub card_verdict : run module_automaton (map class_of_token card_tokens) ≡ derived
 unfolding card_tokens tok meaning spelling_of value_of run_from module_automaton
 card_verdict = refl
 
-pub card_kept : rule-Rule.judge (reader-Reading.rules (meanings card_tokens)) ≡ Kept
+pub card_kept : rule-Rule.judge (reader-Reading.rules (meanings card_tokens)) ≡ Ok tt
 unfolding card_tokens tok meaning spelling_of value_of
     rule-Rule.judge_one rule-Rule.judge rule-Rule.each_of rule-Rule.each index-First.first_of index-First.first index-First.any index-First.all
     index-First.hits_of index-First.hits index-Walk.after symbol-Symbol.modules symbol-Symbol.iso_name symbol-Symbol.iso_oid symbol-Symbol.of_smi symbol-Symbol.of_tc
@@ -88,7 +88,7 @@ unfolding card_tokens tok meaning spelling_of value_of
     piece-Piece.comment piece-Piece.after_hyphen piece-Piece.quoted piece-Piece.hex_string piece-Piece.after_colon piece-Piece.after_dot piece-Piece.punctuation piece-Piece.piece
 card_kept = refl
 
-pub card_read : judged card_tokens Kept ≡ accepted 2 (record_of_t ++ record_of_a) card_numbers
+pub card_read : judged card_tokens (Ok tt) ≡ accepted 2 (record_of_t ++ record_of_a) card_numbers
 unfolding card_tokens tok meaning spelling_of value_of
     rule-Rule.judge_one rule-Rule.judge rule-Rule.each_of rule-Rule.each index-First.first_of index-First.first index-First.any index-First.all
     index-First.hits_of index-First.hits index-Walk.after symbol-Symbol.modules symbol-Symbol.iso_name symbol-Symbol.iso_oid symbol-Symbol.of_smi symbol-Symbol.of_tc

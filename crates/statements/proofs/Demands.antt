@@ -8,7 +8,6 @@ use Prim.Native.Nat.{ℕ, ◌*◌, ◌≤◌, ◌<◌}
 use native.Mathlib.Omega.{arith}
 use lib.ListN.{length, take, drop}
 use Rattle.rule.specs.Rule.{judge}
-use Rattle.rule.specs.declared.Judgement.TheVariants.{Kept}
 use Rattle.rule.proofs.Judged.{AllKept, judged_kept}
 use Rattle.token.specs.Token.{Meaning}
 use Rattle.token.specs.Cut.{cut, meanings_in}
@@ -24,9 +23,7 @@ use Rattle.reader.proofs.Counting.{module_counted}
 use Rattle.records.specs.Record.{record_width}
 use Rattle.records.proofs.Words.{before_long}
 use Rattle.reader.specs.Reading.{Outcome, accepted, refused, rules, later_rules, oid_rules, module_of, records_of, starts_of, ends_of, judged, outcome}
-use Rattle.reader.specs.Buffers.{number_of, place_of, answered_count, record_words, number_words, filled, answer_to, records_in, numbers_in, Left, Reads}
-use Rattle.reader.specs.declared.Answer.{Answer}
-use Rattle.reader.specs.declared.Answer.TheVariants.{Accepted, Refused}
+use Rattle.reader.specs.Buffers.{number_of, place_of, answered_count, record_words, number_words, filled, answer_to, records_in, numbers_in, Left, Reads, Answer}
 use Rattle.reader.proofs.Kept.{accepted_kept}
 use Rattle.statements.proofs.Ordered.{Placed}
 use Rattle.statements.specs.Breach.{WithinLimits}
@@ -38,6 +35,7 @@ use Rattle.statements.proofs.CutOut.{words_cut}
 use Rattle.statements.proofs.Room.{kept_rest, words_fit}
 use Rattle.statements.proofs.Breaches.{Ordered}
 use Rattle.statements.proofs.Right.{refused_exactly, accepted_exactly, accepted_is, later_refusal}
+use Rattle.std.specs.Prelude.{Ok, Err}
 
 -- where all rules are kept, each definition of a kind with an OID has the numbers that are resolved, and no others
 resolved_of : (ms : List Meaning) → AllKept (rules ms) → (k : ℕ) → k < definitions_in (module_of ms) → has_value (at (named ms) k) ≡ true
@@ -84,12 +82,12 @@ module _ (text : List ℕ) (order : Ordered (meanings_in text)) (placed : Placed
 
     -- where it is accepted
     module _ (zero : number_of answer ≡ 0) where
-      all_kept : (judge (rules (meanings_in text)) ≡ Kept) × (found ≡ judged (cut text).tokens Kept)
+      all_kept : (judge (rules (meanings_in text)) ≡ Ok tt) × (found ≡ judged (cut text).tokens (Ok tt))
       all_kept =
           let c = accepted_is text order placed answer records records' numbers numbers' reads zero in
           accepted_kept text parsing c.0 (sym left.answered ∙ c.1)
 
-      found_all : found ≡ judged (cut text).tokens Kept
+      found_all : found ≡ judged (cut text).tokens (Ok tt)
       found_all = all_kept.1
 
       all_counted : answered_count answer ≡ definitions_in (module_of (meanings_in text))
@@ -145,8 +143,8 @@ module _ (text : List ℕ) (order : Ordered (meanings_in text)) (placed : Placed
 
   -- a refusal has no count
   refusal_count : (x : Answer) → 0 < number_of x → answered_count x ≡ 0
-  refusal_count (Accepted count) some = absurd (omega arith)
-  refusal_count (Refused number place) some = refl
+  refusal_count (Ok count) some = absurd (omega arith)
+  refusal_count (Err r) some = refl
 
   -- what is left of an accepted text
   module _ (zero : number_of answer ≡ 0) where

@@ -15,13 +15,12 @@ use Rattle.syntax.proofs.Parsed.{empty_text}
 use Rattle.hint.proofs.Examples.{examples as of-hints}
 use Rattle.hint.proofs.Examples.{bytes as hint-bytes}
 use Rattle.reader.specs.Reading.{outcome}
-use Rattle.reader.specs.Buffers.{answer_to}
-use Rattle.reader.specs.declared.Answer.TheVariants.{Refused}
+use Rattle.reader.specs.Buffers.{answer_to, refused_by}
 use Rattle.statements.specs.Statements.{RefusedBy, Examples}
 
 -- by how the text is parsed, if it is short enough
 parsed_so : (text : List ℕ) (number place : ℕ) → length text ≤ longest_text
-    → ((p : Parsing) → Parses text p → answer_to (outcome text p) ≡ Refused number (record { 0 = place })) → RefusedBy text number place
+    → ((p : Parsing) → Parses text p → answer_to (outcome text p) ≡ refused_by number place) → RefusedBy text number place
 parsed_so text number place few so answer records records' numbers numbers' reads room space =
     let i = reads.read room space few in
     i.2.answered ∙ so i.0 i.1

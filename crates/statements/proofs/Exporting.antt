@@ -4,8 +4,7 @@ use mathlib.Core.Path.{◌≡◌, sym, ap, ◌∙◌}
 use mathlib.Core.List.{List, [], ◌∷◌}
 use Prim.Native.Nat.{ℕ}
 use Rattle.hint.specs.Answer.{Verdict}
-use Rattle.reader.specs.Buffers.{number_of, place_of, answered_count, answer_to}
-use Rattle.reader.specs.declared.Answer.{Answer}
+use Rattle.reader.specs.Buffers.{number_of, place_of, answered_count, answer_to, Answer}
 use Rattle.mib.specs.Raw.{laid, ReadRaw, PrintedRaw}
 use Rattle.statements.specs.Statements.{Exported}
 use Rattle.statements.proofs.Alike.{read_once}

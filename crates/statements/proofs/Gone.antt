@@ -6,9 +6,7 @@ use Prim.Native.Nat.{ℕ, ◌<◌}
 use native.Mathlib.Omega.{arith}
 use lib.ListN.{length, get_or}
 use Rattle.token.specs.Cut.{meanings_in}
-use Rattle.reader.specs.Buffers.{number_of, Reads}
-use Rattle.reader.specs.declared.Answer.{Answer}
-use Rattle.reader.specs.declared.Answer.TheVariants.{Accepted, Refused}
+use Rattle.reader.specs.Buffers.{number_of, Reads, Answer}
 use Rattle.reader.proofs.Ends.{read_as}
 use Rattle.hint.specs.Answer as hint
 use Rattle.std.proofs.Common.{Ok, Err}
@@ -26,6 +24,7 @@ use Rattle.statements.proofs.CutNumbers.{cut_numbered}
 use Rattle.statements.proofs.Demands.{second_demand}
 use Rattle.statements.proofs.ModuleBreaches.{rule_of_row}
 use Rattle.statements.proofs.Rising.{rules_in_order, rules_placed}
+use Rattle.std.specs.Prelude.{Ok, Err}
 
 -- 11 has no rank
 unranked : rank 11 ≡ length ranks
@@ -47,10 +46,10 @@ module _ (text : List ℕ) (answer : Answer) (records records' numbers numbers' 
   not_read is = go answer refl
     where
       go : (x : Answer) → answer ≡ x → ⊥
-      go (Accepted count) e = omega (arith, is, ap number_of e)
-      go (Refused m q) e =
+      go (Ok count) e = omega (arith, is, ap number_of e)
+      go (Err r) e =
           let demand = second_demand text (rules_in_order (meanings_in text)) (rules_placed (meanings_in text)) answer records records' numbers numbers' reads in
-          never_broken text (length records) (length numbers) m q.0 ((demand.refused_exactly m q.0).0 e).broken (sym (ap number_of e) ∙ is)
+          never_broken text (length records) (length numbers) r.number r.place.0 ((demand.refused_exactly r.number r.place.0).0 e).broken (sym (ap number_of e) ∙ is)
 
 -- nor is it the first word that is laid over an answer
 not_laid : (text records records' numbers numbers' answer answer' : List ℕ) → ReadRaw text records records' numbers numbers' answer answer'

@@ -12,7 +12,6 @@ use lib.Signed.{lt_z}
 use Rattle.index.specs.First.{first_of, first, any}
 use Rattle.index.proofs.Search.{true_false, answers}
 use Rattle.rule.specs.Rule.{judge_one}
-use Rattle.rule.specs.declared.Judgement.TheVariants.{Kept}
 use Rattle.rule.proofs.Judged.{judged_kept, judge_alone, never_broken}
 use Rattle.definition.specs.declared.Span.{Span}
 use Rattle.module_table.specs.Module.{Module}
@@ -23,18 +22,19 @@ use Rattle.statements.specs.Breach.{Within, LiesIn, Misplaced, wrong_pair, share
 use Rattle.statements.specs.Ranges.{Apart, RangesInAnyOrder}
 use Rattle.statements.proofs.Tests.{fails}
 use Rattle.statements.proofs.SyntaxBreaches.{place_told, place_breach}
+use Rattle.std.specs.Prelude.{Ok}
 
 module _ (m : Module) (s : Span) where
   -- no range is misplaced
   abbrev NonePlaced : Type 0
   NonePlaced = (i : ℕ) → Within m s i → is_misplaced m.classes m.values s.from i ≡ false
 
-  none_of : judge_one (misplaced_range m.classes m.values s) ≡ Kept → NonePlaced
+  none_of : judge_one (misplaced_range m.classes m.values s) ≡ Ok tt → NonePlaced
   unfolding misplaced_range
   none_of e i w =
       (judged_kept (misplaced_range m.classes m.values s ∷ []) (sym (judge_alone (misplaced_range m.classes m.values s)) ∙ e)).0 i w.0 w.1
 
-  of_none : NonePlaced → judge_one (misplaced_range m.classes m.values s) ≡ Kept
+  of_none : NonePlaced → judge_one (misplaced_range m.classes m.values s) ≡ Ok tt
   unfolding misplaced_range
   of_none none = sym (never_broken (misplaced_range m.classes m.values s) (λ i l h. none i (l, h)))
 

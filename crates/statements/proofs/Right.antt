@@ -6,9 +6,7 @@ use mathlib.Core.List.{List}
 use Prim.Native.Nat.{ℕ, ◌<◌}
 use native.Mathlib.Omega.{arith}
 use lib.ListN.{length}
-use Rattle.rule.specs.Rule.{judge}
-use Rattle.rule.specs.declared.Judgement.{Judgement}
-use Rattle.rule.specs.declared.Judgement.TheVariants.{Kept, Broken}
+use Rattle.rule.specs.Rule.{judge, Judgement}
 use Rattle.rule.proofs.Judged.{judged_kept, judged_broken}
 use Rattle.token.specs.Cut.{Ending, whole, refused, cut, meanings_in}
 use Rattle.grammar.specs.Answer.{Verdict, derived}
@@ -17,18 +15,17 @@ use Rattle.syntax.specs.Parsing.{Parses, ThirdDemand as ParsingDemand, answer_to
 use Rattle.syntax.specs.Parsing.{Parsing}
 use Rattle.syntax.proofs.Parsed.{third_demand}
 use Rattle.reader.specs.Reading.{rules, judged, outcome}
-use Rattle.reader.specs.Buffers.{number_of, answer_to, Reads}
-use Rattle.reader.specs.declared.Answer.{Answer}
-use Rattle.reader.specs.declared.Answer.TheVariants.{Accepted, Refused}
+use Rattle.reader.specs.Buffers.{number_of, answer_to, Reads, Answer, refused_by}
 use Rattle.statements.proofs.Ordered.{Placed}
 use Rattle.statements.specs.Breach.{WithinLimits, Cuts, InBreach, FirstBreach}
 use Rattle.statements.proofs.Limits.{Lent, short, long, within, lent}
 use Rattle.statements.proofs.Breaches.{Ordered, Least, least_first, one_first, numbered, first_short, first_long, past_limits, first_uncut, first_underived, none_broken, first_broken}
+use Rattle.std.specs.Prelude.{Ok, Err}
 
 -- what an answer says of breaches, where the buffers lent have so many words
 abbrev pub Right : List ℕ → ℕ → ℕ → Answer → Type 0
-Right text a b (Accepted count) = (m q : ℕ) → InBreach text a b m q → ⊥
-Right text a b (Refused number place) = Least text a b number place.0
+Right text a b (Ok count) = (m q : ℕ) → InBreach text a b m q → ⊥
+Right text a b (Err r) = Least text a b r.number r.place.0
 
 -- of a text whose rules are in order, with places among the tokens
 module _ (text : List ℕ) (order : Ordered (meanings_in text)) (placed : Placed (length (meanings_in text)) (rules (meanings_in text))) where
@@ -42,8 +39,8 @@ module _ (text : List ℕ) (order : Ordered (meanings_in text)) (placed : Placed
     by_verdict cuts derived d = go (judge (rules (meanings_in text))) refl
       where
         go : (j : Judgement) → judge (rules (meanings_in text)) ≡ j → Right text a b (answer_to (judged (cut text).tokens j))
-        go Kept is = none_broken text a b order limits cuts (d.otherwise.0 refl) (judged_kept (rules (meanings_in text)) is)
-        go (Broken f) is =
+        go (Ok _) is = none_broken text a b order limits cuts (d.otherwise.0 refl) (judged_kept (rules (meanings_in text)) is)
+        go (Err f) is =
             first_broken text a b order limits cuts (d.otherwise.0 refl) placed f (judged_broken (rules (meanings_in text)) f is)
     by_verdict cuts (refused-at i) d = first_underived text a b order limits cuts _ (d.exactly.0 refl) (d.at_fault refl)
 
@@ -75,33 +72,33 @@ module _ (text : List ℕ) (order : Ordered (meanings_in text)) (placed : Placed
             subst (Right text a b) (sym i.2.answered) (right_outcome a b limits i.0 i.1)
 
     -- number 0 is that of accepted texts alone
-    pub accepted_is : number_of answer ≡ 0 → (count : ℕ) × (answer ≡ Accepted count)
+    pub accepted_is : number_of answer ≡ 0 → (count : ℕ) × (answer ≡ Ok count)
     accepted_is zero = go answer refl
       where
-        go : (x : Answer) → answer ≡ x → (count : ℕ) × (answer ≡ Accepted count)
-        go (Accepted count) e = (count, e)
-        go (Refused m q) e =
-            let first : Least text a b m q.0 = subst (Right text a b) e right_answer in
-            absurd (omega (arith, zero, ap number_of e, numbered text a b order m q.0 first.broken))
+        go : (x : Answer) → answer ≡ x → (count : ℕ) × (answer ≡ Ok count)
+        go (Ok count) e = (count, e)
+        go (Err r) e =
+            let first : Least text a b r.number r.place.0 = subst (Right text a b) e right_answer in
+            absurd (omega (arith, zero, ap number_of e, numbered text a b order r.number r.place.0 first.broken))
 
     -- within the limits, 1 and 2 are not answered
     pub later_refusal : WithinLimits text a b → 0 < number_of answer → 2 < number_of answer
     later_refusal limits some = go answer refl
       where
         go : (x : Answer) → answer ≡ x → 2 < number_of answer
-        go (Accepted count) e = absurd (omega (arith, ap number_of e))
-        go (Refused m q) e =
-            let first : Least text a b m q.0 = subst (Right text a b) e right_answer in
-            omega (arith, ap number_of e, past_limits text a b order limits m q.0 first.broken)
+        go (Ok count) e = absurd (omega (arith, ap number_of e))
+        go (Err r) e =
+            let first : Least text a b r.number r.place.0 = subst (Right text a b) e right_answer in
+            omega (arith, ap number_of e, past_limits text a b order limits r.number r.place.0 first.broken)
 
-    pub refused_exactly : (number place : ℕ) → (answer ≡ Refused number (record { 0 = place })) ↔ FirstBreach text a b number place
+    pub refused_exactly : (number place : ℕ) → (answer ≡ refused_by number place) ↔ FirstBreach text a b number place
     refused_exactly number place = (λ e. least_first text a b number place (subst (Right text a b) e right_answer), λ first. go first answer refl)
       where
-        go : FirstBreach text a b number place → (x : Answer) → answer ≡ x → answer ≡ Refused number (record { 0 = place })
-        go first (Accepted count) e = absurd (subst (Right text a b) e right_answer number place first.broken)
-        go first (Refused m q) e =
-            let one = one_first text a b m q.0 number place (subst (Right text a b) e right_answer) first in
-            e ∙ ap (λ (k : ℕ). Refused k q) one.0 ∙ ap (λ (k : ℕ). Refused number (record { 0 = k })) one.1
+        go : FirstBreach text a b number place → (x : Answer) → answer ≡ x → answer ≡ refused_by number place
+        go first (Ok count) e = absurd (subst (Right text a b) e right_answer number place first.broken)
+        go first (Err r) e =
+            let one = one_first text a b r.number r.place.0 number place (subst (Right text a b) e right_answer) first in
+            e ∙ (λ i. Err (record { number = one.0 i; place = record { 0 = one.1 i } }))
 
     pub accepted_exactly : (number_of answer ≡ 0) ↔ ((number place : ℕ) → InBreach text a b number place → ⊥)
     accepted_exactly = (
@@ -110,7 +107,7 @@ module _ (text : List ℕ) (order : Ordered (meanings_in text)) (placed : Placed
     )
       where
         unbroken : ((number place : ℕ) → InBreach text a b number place → ⊥) → (x : Answer) → answer ≡ x → number_of answer ≡ 0
-        unbroken none (Accepted count) e = ap number_of e
-        unbroken none (Refused m q) e =
-            let first : Least text a b m q.0 = subst (Right text a b) e right_answer in
-            absurd (none m q.0 first.broken)
+        unbroken none (Ok count) e = ap number_of e
+        unbroken none (Err r) e =
+            let first : Least text a b r.number r.place.0 = subst (Right text a b) e right_answer in
+            absurd (none r.number r.place.0 first.broken)

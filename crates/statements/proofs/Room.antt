@@ -5,9 +5,7 @@ use mathlib.Core.List.{List, [], ◌∷◌, ◌++◌}
 use Prim.Native.Nat.{ℕ, ◌≤◌}
 use native.Mathlib.Omega.{arith}
 use lib.ListN.{length}
-use Rattle.rule.specs.Rule.{Rule, judge}
-use Rattle.rule.specs.declared.Judgement.{Judgement}
-use Rattle.rule.specs.declared.Judgement.TheVariants.{Kept, Broken}
+use Rattle.rule.specs.Rule.{Rule, judge, Judgement}
 use Rattle.rule.proofs.Judged.{AllKept, judged_kept}
 use Rattle.token.specs.Token.{Meaning}
 use Rattle.token.specs.Cut.{cut, meanings_in}
@@ -23,6 +21,7 @@ use Rattle.records.proofs.Words.{before_long}
 use Rattle.reader.proofs.Kept.{few_definitions}
 use Rattle.reader.specs.Reading.{rules, later_rules, oid_rules, module_of, starts_of, ends_of, judged, outcome}
 use Rattle.reader.specs.Buffers.{record_words, number_words, records_in, numbers_in}
+use Rattle.std.specs.Prelude.{Ok, Err}
 
 -- of rules that are kept, the later ones are
 pub kept_rest : (rs ss : List Rule) → AllKept (rs ++ ss) → AllKept ss
@@ -44,11 +43,11 @@ words_fit text (Derived n) = go (judge (rules ms)) refl
 
     go : (j : Judgement) → judge (rules ms) ≡ j
         → (length (records_in (judged (cut text).tokens j)) ≤ record_words) × (length (numbers_in (judged (cut text).tokens j)) ≤ number_words)
-    go Kept is =
+    go (Ok tt) is =
         let kept = judged_kept (rules ms) is in (
           omega (arith, before_long (starts_of (cut text).tokens) (ends_of (cut text).tokens) (module_of ms).definitions (count_of (module_of ms)), few_definitions ms kept),
           omega (arith, numbers_kept ms kept),
         )
-    go (Broken f) is = omega arith
+    go (Err f) is = omega arith
 words_fit text (Underived n at) = omega arith
 words_fit text (Uncut number at) = omega arith

@@ -38,8 +38,7 @@ use Rattle.syntax_check.specs.Refusal.{restriction_of, place_test, limit_test, e
 use Rattle.syntax_check.specs.declared.Demand.TheVariants as demand
 use Rattle.syntax_check.specs.declared.RangeTest.{RangeTest}
 use Rattle.syntax_check.specs.declared.RangeTest.TheVariants.{Untested}
-use Rattle.syntax_check.specs.declared.ItemTest.{ItemTest}
-use Rattle.syntax_check.specs.declared.ItemTest.TheVariants.{Itemless}
+use Rattle.enumeration.specs.declared.Enumeration as enumeration
 use Rattle.reader.specs.Reading.{classed}
 use Rattle.statements.specs.Breach.{definition_count, syntax_of, Within, HasRanges, HasSizes, Misplaced, wrong_pair, shared, Outside, Misfit, range, size, HasItems, of_integer, of_bits, Misnumbered, label_twice, number_twice, outside, ModuleBreach, misplaced, misfit, misnumbered, indirect}
 use Rattle.statements.proofs.Tests.{both, joined, either, left, right, deny, found, clause_told, clause_none, clause_here, clause_later, clause_passed, clause_passing}
@@ -47,6 +46,7 @@ use Rattle.statements.proofs.Ordered.{Broken, BrokenBy}
 use Rattle.statements.proofs.Rising.{classed_keeps}
 use Rattle.statements.proofs.NameBreaches.{spelled_same}
 use Rattle.statements.proofs.OidBreaches.{all_there}
+use Rattle.std.specs.Prelude.{Option, None}
 
 module _ (m : Module) where
   abbrev cs : List ℕ
@@ -265,8 +265,8 @@ module _ (ms : List Meaning) where
     abbrev limit_test_by : Bool → RangeTest
     limit_test_by b = cond b (limit_test d.class r) Untested
 
-    abbrev item_test_by : Bool → ItemTest
-    item_test_by b = cond b (item_test (syntax_of stage k)) Itemless
+    abbrev item_test_by : Bool → Option enumeration.Enumeration
+    item_test_by b = cond b (item_test (syntax_of stage k)) None
 
     -- 16
     pub misplaced_told : (i : ℕ) → Broken (range_rule_of stage.classes stage.values stage.definitions demand.Places k) i

@@ -6,9 +6,7 @@ use mathlib.Core.List.{List}
 use Prim.Native.Nat.{ℕ}
 use native.Mathlib.Omega.{arith}
 use lib.ListN.{length}
-use Rattle.rule.specs.Rule.{judge}
-use Rattle.rule.specs.declared.Judgement.{Judgement}
-use Rattle.rule.specs.declared.Judgement.TheVariants.{Kept, Broken}
+use Rattle.rule.specs.Rule.{judge, Judgement}
 use Rattle.rule.proofs.Judged.{judged_broken}
 use Rattle.token.specs.Cut.{cut, meanings_in}
 use Rattle.grammar.specs.Answer.{Verdict, derived}
@@ -17,19 +15,19 @@ use Rattle.syntax.specs.Parsing.{ThirdDemand as ParsingDemand, answer_to as pars
 use Rattle.syntax.specs.Parsing.{Parsing}
 use Rattle.syntax.proofs.Parsed.{third_demand as parsing-demand}
 use Rattle.reader.specs.Reading.{rules, judged, outcome}
-use Rattle.reader.specs.Buffers.{number_of, answer_to, Reads}
-use Rattle.reader.specs.declared.Answer.{Answer}
+use Rattle.reader.specs.Buffers.{number_of, answer_to, Reads, Answer}
 use Rattle.statements.specs.Order.{rank}
 use Rattle.statements.specs.Breach.{WithinLimits, Cuts}
 use Rattle.statements.specs.Statements.{ThirdDemand}
 use Rattle.statements.proofs.First.{first_found}
 use Rattle.statements.proofs.Breaches.{Ordered, after_grammar}
+use Rattle.std.specs.Prelude.{Ok, Err}
 
 module _ (text : List ℕ) (order : Ordered (meanings_in text)) where
   -- an answer to the rules is not refusal 7
   not_seven : (j : Judgement) → judge (rules (meanings_in text)) ≡ j → number_of (answer_to (judged (cut text).tokens j)) ≡ 7 → ⊥
-  not_seven Kept is seven = omega (arith, seven)
-  not_seven (Broken f) is seven =
+  not_seven (Ok tt) is seven = omega (arith, seven)
+  not_seven (Err f) is seven =
       let x = first_found (judged_broken (rules (meanings_in text)) f is) in
       omega (arith, ap rank seven, (after_grammar (meanings_in text) order x).0)
 

@@ -1,11 +1,9 @@
 -- What request 2 of document 02 asks of ranges, in plain words, and the lists that it names. Sizes are ranges too.
 -- Assumes nothing.
-use Rattle.std.specs.Prelude.{◌≡◌, ◌↔◌, true, [], ◌∷◌, ℕ, ℤ}
+use Rattle.std.specs.Prelude.{◌≡◌, ◌↔◌, true, [], ◌∷◌, ℕ, ℤ, Ok, Err}
 use Rattle.std.specs.Int.Signed.{lt_z}
 use Rattle.terminal.specs.Terminal.{number, dots, bar}
-use Rattle.rule.specs.Rule.{judge_one}
-use Rattle.rule.specs.declared.Judgement.{Judgement}
-use Rattle.rule.specs.declared.Judgement.TheVariants.{Kept, Broken}
+use Rattle.rule.specs.Rule.{judge_one, Judgement}
 use Rattle.definition.specs.declared.Span.{Span}
 use Rattle.module_table.specs.Module.{Module}
 use Rattle.sub_type.specs.Range.{starts_range, is_pair, low, high}
@@ -28,9 +26,9 @@ two_pairs a b c d =
 
 pub record RangesInAnyOrder : Type 0 where
   -- "any order, no number in two ranges": rule 16 is kept between some brackets exactly where the ranges are apart
-  pub apart : (m : Module) (s : Span) → (judge_one (misplaced_range m.classes m.values s) ≡ Kept) ↔ Apart m s
+  pub apart : (m : Module) (s : Span) → (judge_one (misplaced_range m.classes m.values s) ≡ Ok tt) ↔ Apart m s
   -- "(1..4 | 4..9) stays refused at 4..9", which is token 4; it stands against 1..4
-  pub touching : two_pairs 1 4 4 9 ≡ Broken (record { number = 16; clause = 2; token = record { 0 = 4 }; other = record { 0 = 0 } })
+  pub touching : two_pairs 1 4 4 9 ≡ Err (record { number = 16; clause = 2; token = record { 0 = 4 }; other = record { 0 = 0 } })
   -- "(5..9 | 1..4) is now accepted", and what "a switch maker writes" is too
-  pub falling : two_pairs 5 9 1 4 ≡ Kept
-  pub requested : two_pairs 10 20 1 5 ≡ Kept
+  pub falling : two_pairs 5 9 1 4 ≡ Ok tt
+  pub requested : two_pairs 10 20 1 5 ≡ Ok tt

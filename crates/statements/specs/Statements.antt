@@ -27,10 +27,7 @@ use Rattle.naming.specs.Values.{named}
 use Rattle.oid_head.specs.Oid.{HasOid, has_value, name_of, Reaches}
 use Rattle.records.specs.Record.{record_width}
 use Rattle.reader.specs.Reading.{Outcome, module_of, records_of}
-use Rattle.reader.specs.Buffers.{number_of, place_of, answered_count, record_words, number_words, zeros, filled, answer_to, examined_to, answer_of, ReadsAs, Reads, Examines}
-use Rattle.reader.specs.declared.Examined.{Examined}
-use Rattle.reader.specs.declared.Answer.{Answer}
-use Rattle.reader.specs.declared.Answer.TheVariants.{Accepted, Refused}
+use Rattle.reader.specs.Buffers.{number_of, place_of, answered_count, record_words, number_words, zeros, filled, answer_to, examined_to, answer_of, ReadsAs, Reads, Examines, Answer, Examined, refused_by}
 use Rattle.hint.specs.Answer as hint
 use Rattle.hint.specs.Answer.{Answer as HintAnswer}
 use Rattle.hint.specs.declared.Refusal.TheVariants.{ShortBuffer}
@@ -82,7 +79,7 @@ pub record SecondDemand (text : List ℕ) (answer : Answer) (records records' nu
   -- "Given when the condition holds and no smaller number applies (3 to 6 together: the leftmost token), with the earliest place in
   -- breach"; 41 and 42 for 11: "both hold 11's place in the order together, the earlier use first"
   pub refused_exactly : (number place : ℕ)
-      → (answer ≡ Refused number (record { 0 = place })) ↔ FirstBreach text (length records) (length numbers) number place
+      → (answer ≡ refused_by number place) ↔ FirstBreach text (length records) (length numbers) number place
   -- accepted, number 0, exactly when no rule is broken anywhere
   pub accepted_exactly : (number_of answer ≡ 0) ↔ ((number place : ℕ) → InBreach text (length records) (length numbers) number place → ⊥)
   -- "Accepted answers number 0, place 0 and the definition count; a refusal's count is 0"
@@ -172,7 +169,7 @@ pub record NeverGiven (n : ℕ) : Type 0 where
 abbrev pub RefusedBy : List ℕ → ℕ → ℕ → Type 0
 RefusedBy text number place =
     (answer : Answer) (records records' numbers numbers' : List ℕ) → Reads text answer records records' numbers numbers'
-    → record_words ≤ length records → number_words ≤ length numbers → answer ≡ Refused number (record { 0 = place })
+    → record_words ≤ length records → number_words ≤ length numbers → answer ≡ refused_by number place
 
 -- P1 to P8, from the definitions.
 pub record Examples : Type 0 where
@@ -200,7 +197,7 @@ abbrev pub WholeCase : Type 0
 WholeCase =
     (answer : Answer) (records records' numbers numbers' : List ℕ) → Reads card_text answer records records' numbers numbers'
     → record_words ≤ length records → number_words ≤ length numbers
-    → (answer ≡ Accepted 2) × (records' ≡ filled record_words (record_of_t ++ record_of_a) records)
+    → (answer ≡ Ok 2) × (records' ≡ filled record_words (record_of_t ++ record_of_a) records)
     × (numbers' ≡ filled number_words card_numbers numbers)
 
 -- ---- All of them

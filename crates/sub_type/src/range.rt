@@ -2,13 +2,13 @@
 ghost use Rattle.std.specs.Prelude.{◌≡◌, ◌≤◌, length};
 ghost use Rattle.rule.specs.Rule.{judge_one};
 ghost use Rattle.sub_type.specs.Range.{is_number, starts_range, high_token, exceeds, limit_kind, limit_clause};
-ghost use Rattle.sub_type.specs.Refusal.{limit_rule};
+ghost use Rattle.sub_type.specs.Refusal.{limit_rule, judge_limit_at};
 
 use crate::Limits;
 use crate::number::{class_at, end_in, is_outside, less};
 use definition::Span;
 use index::TokenIndex;
-use rule::{Finding, Judgement};
+use rule::{Finding, judge_each};
 
 // Whether a token of this class is a number.
 fn is_number(class: u8) -> bool
@@ -67,24 +67,37 @@ fn limit_clause(classes: &[u8], values: &[u32], limits: Limits, i: usize) -> u8
     0
 }
 
+// Refusal 17 at token i.
+fn judge_limit_at(classes: &[u8], values: &[u32], limits: Limits, i: usize) -> Result<(), Finding>
+    requires { i ≤ 65536 }
+    ensures { result ≡ judge_limit_at classes.now values.now limits i }
+{
+    let clause = limit_clause(classes, values, limits, i);
+    if 0 < clause {
+        return Err(Finding {
+            number: 17,
+            clause,
+            token: TokenIndex(i),
+            other: TokenIndex(i),
+        });
+    }
+    Ok(())
+}
+
 // Refusal 17 on the ranges of a restriction.
-pub fn judge_limits(classes: &[u8], values: &[u32], limits: Limits, span: Span) -> Judgement
+pub fn judge_limits(
+    classes: &[u8],
+    values: &[u32],
+    limits: Limits,
+    span: Span,
+) -> Result<(), Finding>
     requires { length classes.now ≤ 65536 }
     ensures { result ≡ judge_one (limit_rule classes.now values.now limits span) }
 {
     let to = end_in(classes, span);
-    let mut i = span.from;
-    while i < to {
-        let clause = limit_clause(classes, values, limits, i);
-        if 0 < clause {
-            return Judgement::Broken(Finding {
-                number: 17,
-                clause,
-                token: TokenIndex(i),
-                other: TokenIndex(i),
-            });
-        }
-        i += 1;
-    }
-    Judgement::Kept
+    judge_each(
+        span.from,
+        to,
+        |i| judge_limit_at(classes, values, limits, i),
+    )
 }

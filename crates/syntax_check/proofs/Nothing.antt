@@ -5,8 +5,8 @@ use Prim.Native.Nat.{ℕ}
 use native.Mathlib.Omega.{arith}
 use Rattle.rule.specs.Rule.{judge_one}
 use Rattle.rule.proofs.Judged.{never_broken}
-use Rattle.rule.specs.declared.Judgement.TheVariants.{Kept}
 use Rattle.syntax_check.specs.Refusal.{nothing_tested}
+use Rattle.std.specs.Prelude.{Ok}
 
-pub nothing_kept : (number : ℕ) → Kept ≡ judge_one (nothing_tested number)
+pub nothing_kept : (number : ℕ) → Ok tt ≡ judge_one (nothing_tested number)
 nothing_kept number = never_broken (nothing_tested number) (λ i l h. absurd (omega arith))

@@ -32,8 +32,8 @@ use Rattle.sub_type.specs.declared.Limits as limits
 use Rattle.syntax_check.specs.Refusal.{restriction_of, place_test, limit_test, enumeration_test, item_test, is_untested, range_test, items_of, nothing_tested, demand_number, range_test_rule, item_test_rule, range_rule_of, item_rule_of}
 use Rattle.syntax_check.specs.declared.Demand.{Demand}
 use Rattle.syntax_check.specs.declared.Demand.TheVariants.{Places, Limits}
+use Rattle.std.specs.Prelude.{None}
 use Rattle.syntax_check.specs.declared.RangeTest.TheVariants.{Untested}
-use Rattle.syntax_check.specs.declared.ItemTest.TheVariants.{Itemless}
 
 -- a rule of this number is tested at tokens behind a and before b, each of which is its place
 pub record Inside (number a b : ℕ) (r : Rule) : Type 0 where
@@ -195,6 +195,6 @@ module _ (cs vs : List ℕ) (ds : List Definition) (k : ℕ) where
     where
       go : (b : Bool)
           → Inside 18 (entry ds k).syntax.from (entry ds k).syntax.to
-          (item_test_rule x cs vs (cond b (item_test (syntax_in cs (entry ds k).syntax)) Itemless))
+          (item_test_rule x cs vs (cond b (item_test (syntax_in cs (entry ds k).syntax)) None))
       go true = items_inside cs vs _ _ x (syntax_in cs (entry ds k).syntax) (syntax_fits cs (entry ds k).syntax)
       go false = nothing_inside 18 _ _

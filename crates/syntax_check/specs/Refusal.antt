@@ -2,7 +2,7 @@
 -- at its ranges or items, in text order, so that the first that is broken has the earliest place.
 -- `cs` are the classes of a module's tokens, `vs` their values, `ds` its definitions, `x` the text that the tokens stand in.
 -- Assumes nothing.
-use Rattle.std.specs.Prelude.{Bool, false, not, ◌&&◌, ◌||◌, List, [], ◌∷◌, ◌++◌, ℕ, eqb, length}
+use Rattle.std.specs.Prelude.{Bool, false, not, ◌&&◌, ◌||◌, List, [], ◌∷◌, ◌++◌, ℕ, eqb, length, Option, None, Some}
 use Rattle.rule.specs.Rule.{Rule, plain_rule, each}
 use Rattle.definition.specs.Landmark.{object}
 use Rattle.definition.specs.declared.Restriction.{Restriction}
@@ -26,8 +26,7 @@ use Rattle.syntax_check.specs.declared.Demand.{Demand}
 use Rattle.syntax_check.specs.declared.Demand.TheVariants.{Places, Limits}
 use Rattle.syntax_check.specs.declared.RangeTest.{RangeTest}
 use Rattle.syntax_check.specs.declared.RangeTest.TheVariants.{Untested, Placed, Within}
-use Rattle.syntax_check.specs.declared.ItemTest.{ItemTest}
-use Rattle.syntax_check.specs.declared.ItemTest.TheVariants.{Itemless, Items}
+use Rattle.enumeration.specs.declared.Enumeration as enumeration
 
 -- the restriction of a syntax
 abbrev pub restriction_of : Syntax → Restriction
@@ -53,20 +52,20 @@ limit_test class (Sizes s) = Within (size_limits class) s
 limit_test class (Enumeration s) = Untested
 
 -- 18, on a restriction, with the limits of its numbers
-abbrev pub enumeration_test : limits.Limits → Restriction → ItemTest
-enumeration_test l Free = Itemless
-enumeration_test l (Ranges s) = Itemless
-enumeration_test l (Sizes s) = Itemless
-enumeration_test l (Enumeration s) = Items (record { span = s; limits = l })
+abbrev pub enumeration_test : limits.Limits → Restriction → Option enumeration.Enumeration
+enumeration_test l Free = None
+enumeration_test l (Ranges s) = None
+enumeration_test l (Sizes s) = None
+enumeration_test l (Enumeration s) = Some (record { span = s; limits = l })
 
 -- 18, on a syntax: an INTEGER's numbers are those of class 1, and none of BITS is negative
-abbrev pub item_test : Syntax → ItemTest
+abbrev pub item_test : Syntax → Option enumeration.Enumeration
 item_test (Integer r) = enumeration_test limits.TheVariants.Integer r
-item_test (Named t r) = Itemless
-item_test (Octets r) = Itemless
-item_test ObjectIdentifier = Itemless
+item_test (Named t r) = None
+item_test (Octets r) = None
+item_test ObjectIdentifier = None
 item_test (Bits r) = enumeration_test limits.TheVariants.Unsigned r
-item_test (SequenceOf t) = Itemless
+item_test (SequenceOf t) = None
 
 -- a name leads to a convention that breaches 19
 abbrev pub leads_to_indirect : List ℕ → List ℕ → List Definition → Lead → Bool
@@ -86,9 +85,9 @@ range_test cs vs ds Places d = when has_syntax d then place_test (restriction_of
 range_test cs vs ds Limits d =
     when has_syntax d && not (is_untested cs vs ds d) then limit_test d.class (restriction_of (syntax_in cs d.syntax)) else Untested
 
--- how its items are
-unfoldable pub items_of : List ℕ → Definition → ItemTest
-items_of cs d = when has_syntax d then item_test (syntax_in cs d.syntax) else Itemless
+-- its items that are tested, if it has them
+unfoldable pub items_of : List ℕ → Definition → Option enumeration.Enumeration
+items_of cs d = when has_syntax d then item_test (syntax_in cs d.syntax) else None
 
 -- a rule that is tested nowhere
 abbrev pub nothing_tested : ℕ → Rule
@@ -105,9 +104,9 @@ range_test_rule cs vs number Untested = nothing_tested number
 range_test_rule cs vs number (Placed s) = misplaced_range cs vs s
 range_test_rule cs vs number (Within limits s) = limit_rule cs vs limits s
 
-abbrev pub item_test_rule : Spelling → List ℕ → List ℕ → ItemTest → Rule
-item_test_rule x cs vs Itemless = nothing_tested 18
-item_test_rule x cs vs (Items e) = item_rule x cs vs e.limits e.span
+abbrev pub item_test_rule : Spelling → List ℕ → List ℕ → Option enumeration.Enumeration → Rule
+item_test_rule x cs vs None = nothing_tested 18
+item_test_rule x cs vs (Some e) = item_rule x cs vs e.limits e.span
 
 -- 16 and 17, of definition k
 abbrev pub range_rule_of : List ℕ → List ℕ → List Definition → Demand → ℕ → Rule

@@ -13,9 +13,8 @@ ghost use Rattle.syntax_check.specs.Refusal.{rules_over};
 
 use convention::judge_conventions;
 use definition::Span;
-use enumeration::Enumeration;
 use restriction::{judge_all_items, judge_all_ranges};
-use rule::Judgement;
+use rule::Finding;
 use sub_type::Limits;
 
 // What is asked of the ranges of all definitions: refusal 16 or 17.
@@ -33,13 +32,6 @@ pub enum RangeTest {
     Within(Limits, Span),
 }
 
-// The items of a definition that are tested, if it has them.
-#[derive(Clone, Copy)]
-pub enum ItemTest {
-    Itemless,
-    Items(Enumeration),
-}
-
 // Refusals 16 to 19: 16 of all definitions before 17 of any, and so on.
 pub fn judge_syntax(
     text: &[u8],
@@ -48,21 +40,12 @@ pub fn judge_syntax(
     classes: &[u8],
     values: &[u32],
     definitions: &[usize],
-) -> Judgement
+) -> Result<(), Finding>
     requires { length classes.now ≤ 65536 }
     ensures { result ≡ judge (rules_over (spelling_in text.now starts.now ends.now) classes.now values.now (definitions_in definitions.now)) }
 {
-    let places = judge_all_ranges(classes, values, definitions, Demand::Places);
-    let Judgement::Kept = places else {
-        return places;
-    };
-    let limits = judge_all_ranges(classes, values, definitions, Demand::Limits);
-    let Judgement::Kept = limits else {
-        return limits;
-    };
-    let items = judge_all_items(text, starts, ends, classes, values, definitions);
-    let Judgement::Kept = items else {
-        return items;
-    };
+    judge_all_ranges(classes, values, definitions, Demand::Places)?;
+    judge_all_ranges(classes, values, definitions, Demand::Limits)?;
+    judge_all_items(text, starts, ends, classes, values, definitions)?;
     judge_conventions(classes, values, definitions)
 }

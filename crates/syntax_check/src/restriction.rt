@@ -3,27 +3,43 @@ ghost use Rattle.std.specs.Prelude.{◌≡◌, ℕ, ◌≤◌, length};
 ghost use Rattle.rule.specs.Rule.{judge_one, judge, each};
 ghost use Rattle.module_table.specs.Definition.{definitions_in};
 ghost use Rattle.enumeration.specs.Item.{spelling_in};
-ghost use Rattle.syntax_check.specs.Refusal.{range_test_rule, item_test_rule, range_rule_of, item_rule_of};
+ghost use Rattle.syntax_check.specs.Refusal.{range_test_rule, item_test_rule, range_rule_of, items_of, item_rule_of};
 
 use crate::test::{items_of, range_test};
-use crate::{Demand, ItemTest, RangeTest};
+use crate::{Demand, RangeTest};
 use enumeration::judge_items;
 use index::RecordIndex;
-use module_table::{count, definition_at};
+use module_table::{Definition, count, definition_at};
 use range_list::judge_misplaced;
-use rule::Judgement;
+use rule::{Finding, judge_each};
 use sub_type::judge_limits;
 
 // What a test of ranges says, whichever refusal it is of.
-fn judge_range_test(classes: &[u8], values: &[u32], test: RangeTest) -> Judgement
+fn judge_range_test(classes: &[u8], values: &[u32], test: RangeTest) -> Result<(), Finding>
     requires { length classes.now ≤ 65536 }
     ensures { (number : ℕ) → result ≡ judge_one (range_test_rule classes.now values.now number test) }
 {
     match test {
-        RangeTest::Untested => Judgement::Kept,
+        RangeTest::Untested => Ok(()),
         RangeTest::Placed(span) => judge_misplaced(classes, values, span),
         RangeTest::Within(limits, span) => judge_limits(classes, values, limits, span),
     }
+}
+
+// Refusal 16 or 17 of definition k.
+fn judge_ranges_of(
+    classes: &[u8],
+    values: &[u32],
+    definitions: &[usize],
+    demand: Demand,
+    k: RecordIndex,
+) -> Result<(), Finding>
+    requires { length classes.now ≤ 65536 }
+    ensures { result ≡ judge_one (range_rule_of classes.now values.now (definitions_in definitions.now) demand k.0) }
+{
+    let d = definition_at(definitions, k);
+    let test = range_test(classes, values, definitions, demand, d);
+    judge_range_test(classes, values, test)
 }
 
 // Refusal 16 or 17 of all definitions.
@@ -32,39 +48,32 @@ pub fn judge_all_ranges(
     values: &[u32],
     definitions: &[usize],
     demand: Demand,
-) -> Judgement
+) -> Result<(), Finding>
     requires { length classes.now ≤ 65536 }
     ensures { result ≡ judge (each (range_rule_of classes.now values.now (definitions_in definitions.now) demand) 0 (length (definitions_in definitions.now))) }
 {
-    let n = count(definitions);
-    let mut k = 0;
-    while k < n {
-        let d = definition_at(definitions, RecordIndex(k));
-        let test = range_test(classes, values, definitions, demand, d);
-        let judged = judge_range_test(classes, values, test);
-        let Judgement::Kept = judged else {
-            return judged;
-        };
-        k += 1;
-    }
-    Judgement::Kept
+    judge_each(
+        0,
+        count(definitions),
+        |k| judge_ranges_of(classes, values, definitions, demand, RecordIndex(k)),
+    )
 }
 
-// What a test of items says.
-fn judge_item_test(
+// Refusal 18 of a definition.
+fn judge_items_of(
     text: &[u8],
     starts: &[u32],
     ends: &[u32],
     classes: &[u8],
     values: &[u32],
-    test: ItemTest,
-) -> Judgement
+    d: Definition,
+) -> Result<(), Finding>
     requires { length classes.now ≤ 65536 }
-    ensures { result ≡ judge_one (item_test_rule (spelling_in text.now starts.now ends.now) classes.now values.now test) }
+    ensures { result ≡ judge_one (item_test_rule (spelling_in text.now starts.now ends.now) classes.now values.now (items_of classes.now d)) }
 {
-    match test {
-        ItemTest::Itemless => Judgement::Kept,
-        ItemTest::Items(items) => judge_items(text, starts, ends, classes, values, items),
+    match items_of(classes, d) {
+        Some(items) => judge_items(text, starts, ends, classes, values, items),
+        None => Ok(()),
     }
 }
 
@@ -76,20 +85,12 @@ pub fn judge_all_items(
     classes: &[u8],
     values: &[u32],
     definitions: &[usize],
-) -> Judgement
+) -> Result<(), Finding>
     requires { length classes.now ≤ 65536 }
     ensures { result ≡ judge (each (item_rule_of (spelling_in text.now starts.now ends.now) classes.now values.now (definitions_in definitions.now)) 0 (length (definitions_in definitions.now))) }
 {
-    let n = count(definitions);
-    let mut k = 0;
-    while k < n {
+    judge_each(0, count(definitions), |k| {
         let d = definition_at(definitions, RecordIndex(k));
-        let test = items_of(classes, d);
-        let judged = judge_item_test(text, starts, ends, classes, values, test);
-        let Judgement::Kept = judged else {
-            return judged;
-        };
-        k += 1;
-    }
-    Judgement::Kept
+        judge_items_of(text, starts, ends, classes, values, d)
+    })
 }

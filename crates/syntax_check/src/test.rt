@@ -4,7 +4,7 @@ ghost use Rattle.module_table.specs.Definition.{definitions_in};
 ghost use Rattle.syntax_check.specs.Refusal.{restriction_of, place_test, limit_test, enumeration_test, item_test, leads_to_indirect};
 ghost use Rattle.syntax_check.specs.Refusal.{is_untested, range_test, items_of};
 
-use crate::{Demand, ItemTest, RangeTest};
+use crate::{Demand, RangeTest};
 use definition::{Restriction, Syntax, kind};
 use enumeration::Enumeration;
 use module_table::{Definition, Lead, definition_at};
@@ -50,28 +50,28 @@ fn limit_test(class: usize, restriction: Restriction) -> RangeTest
 }
 
 // Refusal 18 on a restriction, with the limits of its numbers.
-fn enumeration_test(limits: Limits, restriction: Restriction) -> ItemTest
+fn enumeration_test(limits: Limits, restriction: Restriction) -> Option<Enumeration>
     ensures { result ≡ enumeration_test limits restriction }
 {
     match restriction {
-        Restriction::Free => ItemTest::Itemless,
-        Restriction::Ranges(_) => ItemTest::Itemless,
-        Restriction::Sizes(_) => ItemTest::Itemless,
-        Restriction::Enumeration(span) => ItemTest::Items(Enumeration { span, limits }),
+        Restriction::Free => None,
+        Restriction::Ranges(_) => None,
+        Restriction::Sizes(_) => None,
+        Restriction::Enumeration(span) => Some(Enumeration { span, limits }),
     }
 }
 
 // Refusal 18 on a syntax.
-fn item_test(syntax: Syntax) -> ItemTest
+fn item_test(syntax: Syntax) -> Option<Enumeration>
     ensures { result ≡ item_test syntax }
 {
     match syntax {
         Syntax::Integer(restriction) => enumeration_test(Limits::Integer, restriction),
-        Syntax::Named(_, _) => ItemTest::Itemless,
-        Syntax::Octets(_) => ItemTest::Itemless,
-        Syntax::ObjectIdentifier => ItemTest::Itemless,
+        Syntax::Named(_, _) => None,
+        Syntax::Octets(_) => None,
+        Syntax::ObjectIdentifier => None,
         Syntax::Bits(restriction) => enumeration_test(Limits::Unsigned, restriction),
-        Syntax::SequenceOf(_) => ItemTest::Itemless,
+        Syntax::SequenceOf(_) => None,
     }
 }
 
@@ -124,13 +124,13 @@ pub fn range_test(
     RangeTest::Untested
 }
 
-// How its items are.
-pub fn items_of(classes: &[u8], d: Definition) -> ItemTest
+// The items of a definition that are tested, if it has them.
+pub fn items_of(classes: &[u8], d: Definition) -> Option<Enumeration>
     requires { length classes.now ≤ 65536 }
     ensures { result ≡ items_of classes.now d }
 {
     if has_syntax(d) {
         return item_test(syntax_in(classes, d.syntax));
     }
-    ItemTest::Itemless
+    None
 }

@@ -11,7 +11,7 @@ use clause_table::{collect_name_clauses, collect_row_clauses};
 use index::RecordIndex;
 use module_table::{Definition, MOST_DEFINITIONS, count, definition_at};
 use object_tree::is_object;
-use rule::{Finding, Judgement};
+use rule::Finding;
 
 // The number of the refusal.
 const TABLE_BROKEN: u8 = 20;
@@ -45,7 +45,7 @@ fn found(values: &[u32], definitions: &[usize], k: RecordIndex, clause: u8) -> F
 }
 
 // What the rule says.
-pub fn judge_tables(values: &[u32], definitions: &[usize], numbers: &[u32]) -> Judgement
+pub fn judge_tables(values: &[u32], definitions: &[usize], numbers: &[u32]) -> Result<(), Finding>
     requires { length (definitions_in definitions.now) ≤ most_definitions }
     ensures { result ≡ judge_one (table_broken (definitions_in definitions.now) values.now numbers.now) }
 {
@@ -53,18 +53,15 @@ pub fn judge_tables(values: &[u32], definitions: &[usize], numbers: &[u32]) -> J
     collect_row_clauses(definitions, numbers, &mut row_clauses);
     let mut name_clauses = [0u8; MOST_DEFINITIONS];
     collect_name_clauses(values, definitions, &mut name_clauses);
-    let n = count(definitions);
-    let mut k = 0;
-    while k < n {
+    for k in 0..count(definitions) {
         let clause = picked(
             definition_at(definitions, RecordIndex(k)),
             row_clauses[k],
             name_clauses[k],
         );
         if clause != 0 {
-            return Judgement::Broken(found(values, definitions, RecordIndex(k), clause));
+            return Err(found(values, definitions, RecordIndex(k), clause));
         }
-        k += 1;
     }
-    Judgement::Kept
+    Ok(())
 }

@@ -60,7 +60,7 @@ returns-2 c =
     let s = start r.before.before.before.before.before in
     parts_accepted _ r.read_into-examined.result _ _ _ _ r.read_into-examined.ensures
     ((cleared r.before.before.before.before.before).clear.ensures ∙ ap zeros s.requires.1.0) ((cleared_numbers r.before.before.before.before.before).clear-2.ensures ∙ ap zeros s.requires.1.1) ((cleared r.before.before.before.before.before).clear.auto.words ∙ s.requires.1.0) ((cleared_numbers r.before.before.before.before.before).clear-2.auto.words ∙ s.requires.1.1)
-    r.read_into-examined.auto.records r.read_into-examined.auto.numbers _ c.in-Accepted.is
+    r.read_into-examined.auto.records r.read_into-examined.auto.numbers _ c.in-Ok.is
 
 pub read_parts_spec : {M : Type 1} → statement M
 read_parts_spec =

@@ -12,8 +12,7 @@ use Rattle.name_tree.specs.Tree.{Placed}
 use Rattle.scope.specs.Token.{classes_of, spelled}
 use Rattle.scope.specs.Lead.{introduces}
 use Rattle.scope.proofs.Tokens.{starts_long, ends_long, placed}
-use Rattle.naming.specs.declared.again.Introduced.{Introduced}
-use Rattle.naming.specs.declared.again.Introduced.TheVariants.{New, Again}
+use Rattle.std.specs.Prelude.{Option, None, Some}
 use Rattle.naming.proofs.Twice.{iso_told, told_new, told_again}
 use borrow.Author.Rules.{rules}
 use Rattle.naming.proofs.again.introduction.Statement.{statement}
@@ -35,7 +34,7 @@ iso_is c =
     (rw (← c.wide.ensures, ← c.wide-2.ensures) c.names_iso.ensures)
 
 -- a token that stands against another is not new
-again_new : (j : ℕ) → ◌≡◌ {A = Introduced} (Again j) New → ⊥
+again_new : (j : ℕ) → ◌≡◌ {A = Option ℕ} (Some j) None → ⊥
 again_new j e = let z : ◌≡◌ {A = ℕ} 0 1 = cc in omega arith
 
 mul_wide : tie.Need-offset_bounds-starts-i

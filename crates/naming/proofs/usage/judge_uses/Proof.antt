@@ -7,7 +7,6 @@ use Prim.Native.Nat.{ℕ, ◌-◌, ◌*◌, ◌≤◌, ◌<◌}
 use native.Mathlib.Omega.{arith}
 use lib.ListN.{length, take, length-append, length-set}
 use lib.Seq.{take-length, length-take-le, take_at}
-use Rattle.rule.specs.declared.Judgement.TheVariants.{Broken}
 use Rattle.token.specs.Token.{Meaning}
 use Rattle.token.specs.Cut.{meanings_in}
 use Rattle.definition.specs.Landmark.{definitions}
@@ -32,6 +31,7 @@ use Rattle.naming.proofs.Served.{no_use_known, use_known}
 use Rattle.naming.proofs.Using.{no_need, use_value, other_value, lead_small, Using, using_start, imports_still, using_next, using_broken, using_kept, using_end}
 use Rattle.naming.proofs.usage.judge_uses.Statement.{statement}
 use Rattle.naming.proofs.usage.judge_uses.Tie as tie
+use Rattle.std.specs.Prelude.{Err}
 
 abbrev invariant-loop : tie.invariant-loop-i
 invariant-loop text classes starts ends values₀ definitions end size names word₀ recent₀ i₀ values word recent i =
@@ -227,7 +227,7 @@ returns c =
     let a = c in
     let l = loop_of a.before.before.before in
     let un = use_known _ _ _ (need_is a.before.before.before) _ (lead_is a.before.before.before) _ (served (start_of l) _ _ c.serves.ensures) in
-    (l.loop-i.invariant.0.long, (ap Broken c.unfit_finding.ensures ∙ using_broken _ _ _ _ l.loop-i.invariant.0 (inside a.before.before.before) (sym un ∙ (ap not c.if-not-serves.true)), tt))
+    (l.loop-i.invariant.0.long, (ap Err c.unfit_finding.ensures ∙ using_broken _ _ _ _ l.loop-i.invariant.0 (inside a.before.before.before) (sym un ∙ (ap not c.if-not-serves.true)), tt))
 
 mul-nearest-2 : tie.Need-offset_bounds-recent-slot-then-is_name_need invariant-loop decreases-loop
 mul-nearest-2 c = omega (arith, slot_few c.before.before)

@@ -26,21 +26,21 @@ decreases-loop classes values order₀ from to count₀ token₀ order count tok
 abbrev start : tie.At-loop-token invariant-loop decreases-loop → tie.Start invariant-loop decreases-loop
 start l = l.before.before.before.before
 
-abbrev inside : tie.In-Among invariant-loop decreases-loop → tie.In-loop-token invariant-loop decreases-loop
+abbrev inside : tie.In-Some invariant-loop decreases-loop → tie.In-loop-token invariant-loop decreases-loop
 inside c = c.before.before.before.before.before
 
 loop-holds : tie.Need-loop-token-init invariant-loop decreases-loop
 loop-holds c = (gathered_start _ _ _ _, refl, refl)
 
-admit-requires : tie.Need-admit-admission-requires invariant-loop decreases-loop
+admit-requires : tie.Need-admit-requires invariant-loop decreases-loop
 admit-requires c κs =
     let t = c in
     let i = t.loop-token.invariant in
     let s = start t.before.before in
     (i.0, (omega (arith, t.loop-token-test.true, i.0.few, i.0.after, i.1, s.requires.1), omega (arith, t.loop-token-test.true, s.requires.0)))
 
-enum-known-admission : tie.Need-enum_known-admission invariant-loop decreases-loop
-enum-known-admission c = search rules
+enum-known-with : tie.Need-enum_known-with invariant-loop decreases-loop
+enum-known-with c = search rules
 
 enum_told : tie.Need-enum_told-1 invariant-loop decreases-loop
 enum_told c = search rules
@@ -48,13 +48,13 @@ enum_told c = search rules
 same_length : tie.Need-shape_of-order-in_default invariant-loop decreases-loop
 same_length c =
     let a = c in
-    a.admit-admission.ensures.0 ∙ a.loop-token.invariant.1
+    a.admit.ensures.0 ∙ a.loop-token.invariant.1
 
 returns : tie.Need-returns-in_default invariant-loop decreases-loop
 returns c =
     let a = c in
     let t = a in
-    sym (first_hit _ _ _ t.loop-token-test.true (rw c.in_default.is at a.admit-admission.ensures.1)) ∙ t.loop-token.invariant.2
+    sym (first_hit _ _ _ t.loop-token-test.true (rw c.in_default.is at a.admit.ensures.1)) ∙ t.loop-token.invariant.2
 
 add-token : tie.Need-overflow_add-token invariant-loop decreases-loop
 add-token c = omega (arith, (inside c).loop-token-test.true, (start (inside c).before).requires.0)
@@ -66,9 +66,9 @@ loop-again : tie.Need-loop-token-preserved invariant-loop decreases-loop
 loop-again c =
     let a = c in
     let t = inside c in
-    let told = rw c.in-Among.is at a.admit-admission.ensures.1 in (
+    let told = rw c.in-Some.is at a.admit.ensures.1 in (
       told.1,
-      a.admit-admission.ensures.0 ∙ t.loop-token.invariant.1,
+      a.admit.ensures.0 ∙ t.loop-token.invariant.1,
       rw (add-one t.loop-token.token) (sym (first_miss _ _ _ t.loop-token-test.true told.0) ∙ t.loop-token.invariant.2),
     )
 
@@ -86,7 +86,7 @@ search_in_spec =
     decreases-loop
     loop-holds
     admit-requires
-    enum-known-admission
+    enum-known-with
     enum_told
     same_length
     returns

@@ -49,11 +49,11 @@ loop-holds c =
       omega (arith, b.if-to-from.false),
     )
 
-widen-requires : tie.Need-widen-widening-requires invariant-loop decreases-loop
+widen-requires : tie.Need-widen-requires invariant-loop decreases-loop
 widen-requires c κs = (c.loop-token.invariant.0, omega (arith, c.loop-token-test.true, (start c.before).requires))
 
-enum-known-widening : tie.Need-enum_known-widening invariant-loop decreases-loop
-enum-known-widening c = search rules
+enum-known-extremes : tie.Need-enum_known-extremes invariant-loop decreases-loop
+enum-known-extremes c = search rules
 
 enum_told : tie.Need-enum_told-1 invariant-loop decreases-loop
 enum_told c = search rules
@@ -73,7 +73,7 @@ loop-less c = omega (arith, c.loop-token-test.true)
 loop-again : tie.Need-loop-token-preserved invariant-loop decreases-loop
 loop-again c =
     let w = c in
-    (rw c.in-To.is at w.widen-widening.ensures, omega (arith, w.loop-token-test.true))
+    (rw c.in-Some.is at w.widen.ensures, omega (arith, w.loop-token-test.true))
 
 returns-4 : tie.Need-returns invariant-loop decreases-loop
 returns-4 c =
@@ -93,7 +93,7 @@ first_between_spec =
     add-token
     loop-holds
     widen-requires
-    enum-known-widening
+    enum-known-extremes
     enum_told
     returns-3
     add-token-2
