@@ -1,4 +1,5 @@
-// Bytes read by place and written to the output buffer.
+// Bytes read by place and written to the output buffer. `out` and `at` stay two parameters: C lends the buffer as a slice, and the
+// clauses of each call speak of it before and after.
 #![tactic(auto)]
 
 ghost use Rattle.std.specs.Prelude.{◌+◌, ◌≤◌, ◌<◌, ◌≡◌, ◌∷◌, [], ◌++◌, length, drop, replicate};

@@ -66,6 +66,7 @@ pub fn octets(hint: &[u8], value: &[u8], out: &mut [u8]) -> Result<usize, Refusa
     if !is_hint(hint) {
         return Err(Refusal::BadHint);
     }
+    // No `?`: the part is zeroed before the fault is told.
     match print_pieces(hint, value, &mut out[..4096]) {
         Ok(n) => Ok(n),
         Err(BadOctet(place)) => {

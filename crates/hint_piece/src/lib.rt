@@ -1,4 +1,4 @@
-// Prints octets by one piece of a hint.
+// Prints octets by one piece of a hint. `value` and `at` stay two parameters: the place of a fault counts from the value's start.
 #![tactic(auto)]
 
 ghost use Rattle.std.specs.Prelude.{◌+◌, ◌-◌, ◌*◌, ◌≤◌, ◌<◌, ◌≡◌, length, take, drop};
