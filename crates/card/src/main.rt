@@ -118,11 +118,7 @@ impl Page {
         let answer = reader::read(text, &mut records, &mut numbers);
         self.lay_head(answer);
         match answer {
-            Ok(count) => self.lay_records(
-                text,
-                &records[..records::WIDTH * count],
-                &numbers,
-            ),
+            Ok(count) => self.lay_records(text, &records[..records::WIDTH * count], &numbers),
             Err(_) => self.out = output::refuse(self.out),
         }
     }

@@ -123,8 +123,17 @@ judge_objects-requires-clause-few c =
     let long = c.read_names.ensures.values_long ∙ length-take-le _ _ (omega (arith, few_classes _ _ _ _ c.requires.tokens, c.blank_values-values.ensures)) in
     let vs = take_at c.read_names.new.values _ _ long ∙ c.in_ok-count.ensures.holds.0 in
     let h = c.in_ok-count.ensures.holds in
-    omega (arith, ap length (derived.classes_held _ _ _ _ c.requires.tokens _ _ vs c.in_ok-count.ensures.holds.2 _ _ _ _ c.collect_oids.ensures c.in_ok-collect_oids.was _ c.numbers_used-used.ensures _ _ c.judge_syntaxes.ensures), counting.classed_counted (meanings_in c.args.text.now), h.1,
-    table_counted (take (c.in_ok-count.count * 22) c.read_names.new.definitions), length-take (c.in_ok-count.count * 22) c.read_names.new.definitions, ap length h.2, c.read_names.ensures.definitions_long, c.blank_table-table.ensures)
+    omega (
+      arith,
+      ap length (derived.classes_held _ _ _ _ c.requires.tokens _ _ vs c.in_ok-count.ensures.holds.2 _ _ _ _ c.collect_oids.ensures c.in_ok-collect_oids.was _ c.numbers_used-used.ensures _ _ c.judge_syntaxes.ensures),
+      counting.classed_counted (meanings_in c.args.text.now),
+      h.1,
+      table_counted (take (c.in_ok-count.count * 22) c.read_names.new.definitions),
+      length-take (c.in_ok-count.count * 22) c.read_names.new.definitions,
+      ap length h.2,
+      c.read_names.ensures.definitions_long,
+      c.blank_table-table.ensures,
+    )
 
 pub judge_objects-requires-clause-two : goal.judge_objects-requires-clause-two
 judge_objects-requires-clause-two c =
@@ -147,8 +156,18 @@ write_records-requires-clause-room c =
     let long = c.read_names.ensures.values_long ∙ length-take-le _ _ (omega (arith, few_classes _ _ _ _ c.requires.tokens, c.blank_values-values.ensures)) in
     let vs = take_at c.read_names.new.values _ _ long ∙ c.in_ok-count.ensures.holds.0 in
     let h = c.in_ok-count.ensures.holds in
-    omega (arith, ap length (derived.module_held _ _ _ _ c.requires.tokens _ _ vs c.in_ok-count.ensures.holds.2 _ _ _ _ c.collect_oids.ensures c.in_ok-collect_oids.was _ c.numbers_used-used.ensures _ _ c.judge_syntaxes.ensures _ _ c.judge_objects.ensures), counting.module_counted (meanings_in c.args.text.now), h.1, c.requires.records,
-    table_counted (take (c.in_ok-count.count * 22) c.read_names.new.definitions), length-take (c.in_ok-count.count * 22) c.read_names.new.definitions, ap length h.2, c.read_names.ensures.definitions_long, c.blank_table-table.ensures)
+    omega (
+      arith,
+      ap length (derived.module_held _ _ _ _ c.requires.tokens _ _ vs c.in_ok-count.ensures.holds.2 _ _ _ _ c.collect_oids.ensures c.in_ok-collect_oids.was _ c.numbers_used-used.ensures _ _ c.judge_syntaxes.ensures _ _ c.judge_objects.ensures),
+      counting.module_counted (meanings_in c.args.text.now),
+      h.1,
+      c.requires.records,
+      table_counted (take (c.in_ok-count.count * 22) c.read_names.new.definitions),
+      length-take (c.in_ok-count.count * 22) c.read_names.new.definitions,
+      ap length h.2,
+      c.read_names.ensures.definitions_long,
+      c.blank_table-table.ensures,
+    )
 
 pub write_records-requires-clause-fits : goal.write_records-requires-clause-fits
 write_records-requires-clause-fits c =
