@@ -12,7 +12,7 @@ use Rattle.records.specs.Record.{record_width}
 use Rattle.syntax.specs.Parsing.{Parses}
 use Rattle.syntax.specs.Parsing.{Parsing}
 use Rattle.syntax.specs.Parsing.{Derived, Underived, Uncut}
-use Rattle.reader.specs.Reading.{Outcome, accepted, refused, outcome}
+use Rattle.reader.specs.Reading.{Outcome, accepted, refused, module_of, outcome}
 use Rattle.reader.specs.declared.PlainRefusal.{PlainRefusal}
 use Rattle.reader.specs.declared.Refusal.{Refusal}
 
