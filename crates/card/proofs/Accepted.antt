@@ -41,7 +41,7 @@ module _ (text : List ℕ) (count : ℕ) where
 
 -- of an accepted text all records lie in the program's buffer
 pub accepted_records : (text : List ℕ) (count : ℕ) (answer : Answer) (r n : List ℕ)
-    → Reads text answer (replicate record_words 0) r (replicate number_words 0) n → answer ≡ Accepted count → 10 * count ≤ record_words
+    → Reads text answer (replicate record_words 0) r (replicate number_words 0) n → answer ≡ Ok count → 10 * count ≤ record_words
 accepted_records text count answer r n reads accepted =
     let size = length-replicate {A = ℕ} record_words 0 in
     let room = length-replicate {A = ℕ} number_words 0 in
