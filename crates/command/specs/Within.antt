@@ -19,3 +19,7 @@ abbrev pub LineWithin : Result (Option Part) LineError → ℕ → Type 0
 LineWithin (Ok (Some part)) size = PartWithin part.from part.to size
 LineWithin (Ok None) size = Unit {0}
 LineWithin (Err error) size = Unit {0}
+
+-- the number that stands for no line
+abbrev pub no_line : ℕ
+no_line = 18446744073709551615

@@ -7,7 +7,7 @@ mod line;
 
 pub use argument::{Named, arguments, count_arguments, each_file, read_argument};
 pub use file::read_file;
-pub use line::each_line;
+pub use line::{LineError, Lines, NO_LINE, Part, each_line};
 
 // More bytes than a buffer has room for.
 #[derive(Clone, Copy)]

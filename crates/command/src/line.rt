@@ -1,7 +1,7 @@
 // The lines of a list that is read through a buffer.
-ghost use Rattle.std.specs.Prelude.{◌≡◌, ◌+◌, ◌≤◌, length, eqb};
+ghost use Rattle.std.specs.Prelude.{◌≡◌, ◌+◌, ◌≤◌, ◌<◌, length, eqb};
 ghost use Rattle.std.specs.List.{position};
-ghost use Rattle.command.specs.Within.{LineWithin, LinesWithin, PartWithin};
+ghost use Rattle.command.specs.Within.{LineWithin, LinesWithin, PartWithin, no_line};
 
 use crate::TooLong;
 use std::io;
@@ -32,7 +32,8 @@ impl From<io::Error> for LineError {
 // The line that runs up to `last`: without a carriage return that stands before a line feed.
 fn without_return(buf: &[u8], from: usize, last: usize, end: u8) -> Part
     requires { PartWithin from last (length buf.now) }
-    ensures { PartWithin result.from result.to last }
+    ensures start { result.from ≡ from }
+    ensures end { PartWithin from result.to last }
 {
     if end == b'\n' && from < last && buf[last - 1] == b'\r' {
         Part { from, to: last - 1 }
@@ -41,9 +42,14 @@ fn without_return(buf: &[u8], from: usize, last: usize, end: u8) -> Part
     }
 }
 
+// The number that stands for no line. The lines are counted in 64 bits, which no run uses up.
+pub const NO_LINE: u64 = u64::MAX;
+
 // The bytes of the buffer that are read and not used yet: from `from` up to, not including, `to`; and the byte that ends a line.
 #[derive(Clone, Copy)]
 pub struct Lines {
+    // The number of the line that was asked for last, from 1 on; 0 before the first.
+    pub number: u64,
     from: usize,
     to: usize,
     end: u8,
@@ -52,9 +58,11 @@ pub struct Lines {
 impl Lines {
     // Nothing is read yet.
     pub fn ended_by(end: u8) -> Lines
-        ensures { LinesWithin result 0 }
+        ensures within { LinesWithin result 0 }
+        ensures number { result.number ≡ 0 }
     {
         Lines {
+            number: 0,
             from: 0,
             to: 0,
             end,
@@ -67,7 +75,9 @@ impl Lines {
         requires { LinesWithin self.old (length buf.old) }
         ensures lines { LinesWithin self.new (length buf.old) }
         ensures line { LineWithin result (length buf.old) }
+        ensures later { self.old.number < no_line → self.new.number ≡ self.old.number + 1 }
     {
+        self.number = self.number.saturating_add(1);
         let from = self.from;
         let to = self.to;
         if let Some(n) = find(&buf[from..to], self.end) {
@@ -83,6 +93,9 @@ impl Lines {
         requires end { found + 1 ≤ to }
         requires inside { to ≤ length buf.now }
         ensures lines { LinesWithin self.new to }
+        ensures number { self.new.number ≡ self.old.number }
+        ensures rest { self.new.to ≡ to }
+        ensures start { result.from ≡ from }
         ensures part { PartWithin result.from result.to to }
     {
         self.from = found + 1;
@@ -101,6 +114,7 @@ impl Lines {
         requires lines { LinesWithin self.old (length buf.old) }
         requires held { held ≤ length buf.old }
         ensures lines { LinesWithin self.new (length buf.old) }
+        ensures number { self.new.number ≡ self.old.number }
         ensures line { LineWithin result (length buf.old) }
     {
         let mut to = held;
@@ -125,6 +139,7 @@ impl Lines {
     fn last_line(&mut self, buf: &[u8], to: usize) -> Option<Part>
         requires { to ≤ length buf.now }
         ensures lines { LinesWithin self.new to }
+        ensures number { self.new.number ≡ self.old.number }
         ensures line { LineWithin (Ok result) to }
     {
         self.from = to;
@@ -138,7 +153,8 @@ impl Lines {
 
     // Reads on to the end of a line. Where the input cannot be read, the next line says so.
     fn skip_line(&mut self, rt: &impl Input, buf: &mut [u8])
-        ensures { LinesWithin self.new (length buf.old) }
+        ensures lines { LinesWithin self.new (length buf.old) }
+        ensures number { self.new.number ≡ self.old.number }
     {
         for _ in 0..u64::MAX {
             let to = rt.reader().read(buf).unwrap_or(0);
@@ -164,7 +180,7 @@ fn find(bytes: &[u8], byte: u8) -> Option<usize>
 }
 
 // Hands each line of standard input to `f`, with its number, from 1 on; a line that the buffer cannot hold as an error. The lines end with
-// this byte. They are counted in 64 bits, which no run uses up.
+// this byte.
 pub fn each_line<F: FnMut(u64, Result<&[u8], TooLong>)>(
     rt: &impl Input,
     buf: &mut [u8],
@@ -174,11 +190,11 @@ pub fn each_line<F: FnMut(u64, Result<&[u8], TooLong>)>(
     requires { F.IsAlwaysCallable f }
 {
     let mut lines = Lines::ended_by(end);
-    for number in 1..u64::MAX {
+    for _ in 1..NO_LINE {
         match lines.next(rt, buf) {
-            Ok(Some(part)) => f(number, Ok(&buf[part.from..part.to])),
+            Ok(Some(part)) => f(lines.number, Ok(&buf[part.from..part.to])),
             Ok(None) => return Ok(()),
-            Err(LineError::TooLong) => f(number, Err(TooLong)),
+            Err(LineError::TooLong) => f(lines.number, Err(TooLong)),
             Err(LineError::Unread(error)) => return Err(error),
         }
     }

@@ -5,4 +5,4 @@ use Rattle.command.proofs.line.Lines.read_line.Given as goal
 
 abbrev pub invariant-loop : goal.invariant-loop
 invariant-loop g l =
-    record { size : length l.buf ≡ length l.fn.buf; read : l.to ≤ length l.buf; lines : LinesWithin l.self (length l.buf) }
+    record { size : length l.buf ≡ length l.fn.buf; read : l.to ≤ length l.buf; lines : LinesWithin l.self (length l.buf); number : l.self.number ≡ l.fn.self.number }
