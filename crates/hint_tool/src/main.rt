@@ -30,7 +30,7 @@ const BETWEEN_WORDS: u8 = b'\t';
 // What stands for an integer of more than 18 digits. A number, since `hint::integer` answers it as any that is out of range.
 const OUT_OF_RANGE: i64 = 4_294_967_296;
 
-const HINT: Program = Program {
+const HINT: Program<'static> = Program {
     name: b"mib hint",
     usage: b"mib hint octets HINT HEX, or mib hint integer HINT NUMBER",
 };
@@ -43,7 +43,7 @@ const LONG: Misfit = Misfit {
 
 fn main(rt: HostRuntime) {
     let mut space = [0u8; SPACE];
-    let mut out = Output::start(&rt, HINT);
+    let mut out = Output::start(&rt);
     answer(&rt, &mut space, &mut out);
     out.finish(&rt);
 }
@@ -55,7 +55,7 @@ fn answer(rt: &HostRuntime, space: &mut [u8], out: &mut Output) {
     }
     match command::arguments(rt, space) {
         Ok(n) => answer_case(&space[..n], BETWEEN_ARGUMENTS, None, out),
-        Err(TooLong) => out.misfit(None, LONG),
+        Err(TooLong) => out.misfit(HINT, None, LONG),
     }
 }
 
@@ -70,22 +70,20 @@ fn answer_list(rt: &HostRuntime, space: &mut [u8], out: &mut Output) {
         b'\n',
         |number, line| answer_line(number, line, out),
     );
-    if let Err(error) = read {
-        out.fail(error, b"mib hint: standard input");
-    }
+    out.fail_if(read.err(), b"mib hint: standard input");
 }
 
 fn answer_line(number: u64, line: Result<&[u8], TooLong>, out: &mut Output) {
     match line {
         Ok(case) => answer_case(case, BETWEEN_WORDS, Some(number), out),
-        Err(TooLong) => out.misfit(Some(number), LONG),
+        Err(TooLong) => out.misfit(HINT, Some(number), LONG),
     }
 }
 
 // Answers one case, or says which of its words does not fit.
 fn answer_case(case: &[u8], separator: u8, line: Option<u64>, out: &mut Output) {
     if let Err(misfit) = print_case(case, separator, line, out) {
-        out.misfit(line, misfit);
+        out.misfit(HINT, line, misfit);
     }
 }
 

@@ -7,12 +7,7 @@ use std::io;
 use std::rt::Files;
 use visible::Manner;
 
-pub fn start_on_files(
-    rt: &HostRuntime,
-    count: usize,
-    name: &'static [u8],
-    usage: &'static [u8],
-) -> Output
+pub fn start_on_files(rt: &HostRuntime, count: usize, name: &[u8], usage: &[u8]) -> Output
     ensures some { 1 < count → rank result.status ≡ accepted }
     ensures none { count ≤ 1 → rank result.status ≡ complaint }
 {

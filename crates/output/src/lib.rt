@@ -21,17 +21,16 @@ use std::io;
 use std::io::{IsTerminal, Stderr, Stdout, Write};
 use std::rt::Files;
 
-// A program as its users call it, and how it is used.
+// A program as its users call it, and how it is used. A complaint is lent it: stored, it would have to live as long as the output.
 #[derive(Clone, Copy)]
-pub struct Program {
-    pub name: &'static [u8],
-    pub usage: &'static [u8],
+pub struct Program<'a> {
+    pub name: &'a [u8],
+    pub usage: &'a [u8],
 }
 
 // How the output went so far.
 #[derive(Clone, Copy)]
 pub struct Output {
-    pub program: Program,
     pub status: Status,
     // A write failed. It was said once, and nothing is written after it.
     pub lost: bool,
@@ -43,14 +42,13 @@ pub struct Output {
 }
 
 impl Output {
-    pub fn start(rt: &HostRuntime, program: Program) -> Output
+    pub fn start(rt: &HostRuntime) -> Output
         ensures status { rank result.status ≡ accepted }
         ensures lost { result.lost ≡ false }
     {
         let stdout = rt.stdout();
         let stderr = rt.stderr();
         Output {
-            program,
             status: Status::Accepted,
             lost: false,
             terminal: stdout.is_terminal(),

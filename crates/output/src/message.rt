@@ -1,5 +1,5 @@
 // Messages on standard error.
-ghost use Rattle.std.specs.Prelude.{◌≡◌, ◌<◌, ◌≤◌};
+ghost use Rattle.std.specs.Prelude.{cond, is_some, ◌≡◌, ◌<◌, ◌≤◌};
 ghost use Rattle.output.specs.Status.{accepted, complaint, rank, Rated};
 
 use crate::cause::write_cause;
@@ -12,7 +12,7 @@ use std::io::{IsTerminal, Write};
 #[derive(Clone, Copy)]
 pub struct Misfit<'a> {
     pub word: &'a [u8],
-    pub why: &'static [u8],
+    pub why: &'a [u8],
 }
 
 impl Output {
@@ -21,9 +21,10 @@ impl Output {
         ensures some { 1 < count → rank result.status ≡ accepted }
         ensures none { count ≤ 1 → rank result.status ≡ complaint }
     {
-        let mut out = Output::start(rt, program);
+        let mut out = Output::start(rt);
         if count <= 1 {
             out.complain(
+                program,
                 None,
                 Misfit {
                     word: b"",
@@ -60,28 +61,37 @@ impl Output {
         self.blame();
     }
 
+    // The same, unless it did not fail.
+    pub fn fail_if(&mut self, failure: Option<io::Error>, what: &[u8])
+        ensures { Rated self.old (cond (is_some failure) complaint (rank self.old.status)) self.new }
+    {
+        if let Some(error) = failure {
+            self.fail(error, what);
+        }
+    }
+
     // Says that a word does not fit, in one line: the program, the line of the list if there is one, the word in quotes, why it does not
     // fit, and how the program is used.
-    pub fn complain(&mut self, line: Option<u64>, misfit: Misfit)
+    pub fn complain(&mut self, program: Program, line: Option<u64>, misfit: Misfit)
         ensures { Rated self.old complaint self.new }
     {
-        self.say(self.program.name);
+        self.say(program.name);
         self.say_line(line);
         self.say(b": '");
         self.say_shown(misfit.word);
         self.say(b"' ");
         self.say(misfit.why);
         self.say(b"; usage: ");
-        self.say(self.program.usage);
+        self.say(program.usage);
         self.say(b"\n");
         self.blame();
     }
 
     // The same of a case. In a list the case gives a line all the same, so that what is printed can be paired with what was asked.
-    pub fn misfit(&mut self, line: Option<u64>, misfit: Misfit)
+    pub fn misfit(&mut self, program: Program, line: Option<u64>, misfit: Misfit)
         ensures { rank self.new.status ≡ complaint }
     {
-        self.complain(line, misfit);
+        self.complain(program, line, misfit);
         if line.is_some() {
             self.print(b"misfit\n");
         }

@@ -1,4 +1,7 @@
 // The status that a program ends with.
+ghost use Rattle.std.specs.Prelude.{◌≡◌};
+ghost use Rattle.output.specs.Status.{rank};
+
 use std::fs::OpenOptions;
 use std::io::Write;
 use std::rt::Files;
@@ -15,6 +18,15 @@ pub enum Status {
     Complaint,
 }
 
+impl Status {
+    // The number that a program says.
+    pub fn number(self) -> u8
+        ensures { result ≡ rank self }
+    {
+        self as u8
+    }
+}
+
 // Where the descriptor is not open for writing, nobody reads the status. Else it is opened once more by its name, and written behind what
 // is there.
 pub fn write_status(rt: &impl Files, status: Status) -> io::Result<()> {
@@ -25,6 +37,6 @@ pub fn write_status(rt: &impl Files, status: Status) -> io::Result<()> {
         return Ok(());
     }
     let mut file = OpenOptions::new().append(true).open(rt, STATUS_FILE)?;
-    let digit = status as u8;
+    let digit = status.number();
     write!(file, "{digit}")
 }

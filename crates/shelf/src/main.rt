@@ -21,7 +21,7 @@ const STRIDE: u64 = 64;
 // How many bytes a line of the list may have.
 const SPACE: usize = 65536;
 
-const SHELF: Program = Program {
+const SHELF: Program<'static> = Program {
     name: b"mib shelf",
     usage: b"mib shelf FILE..., or names of files on standard input, a line each",
 };
@@ -34,7 +34,7 @@ const LONG: Misfit = Misfit {
 
 fn main(rt: HostRuntime) {
     let mut counts = Counts::none();
-    let mut out = Output::start(&rt, SHELF);
+    let mut out = Output::start(&rt);
     read_files(&rt, &mut counts, &mut out);
     print_summary(&counts, &out);
     out.finish(&rt);
@@ -74,9 +74,7 @@ fn read_list(rt: &HostRuntime, end: u8, counts: &mut Counts, out: &mut Output) {
     let read = command::each_line(rt, &mut space, end, |number, line| {
         read_line(rt, number, line, counts, out)
     });
-    if let Err(error) = read {
-        out.fail(error, b"mib shelf: standard input");
-    }
+    out.fail_if(read.err(), b"mib shelf: standard input");
 }
 
 // Reads the file that a line of the list names.
@@ -91,7 +89,7 @@ fn read_line(
         Ok(name) => read_named(rt, name, counts, out),
         Err(TooLong) => {
             counts.add_unread();
-            out.complain(Some(number), LONG);
+            out.complain(SHELF, Some(number), LONG);
         }
     }
 }

@@ -15,7 +15,7 @@ use std::io;
 use syntax::Unparsed;
 use token::LONGEST_TEXT;
 
-const TOKENS: Program = Program {
+const TOKENS: Program<'static> = Program {
     name: b"mib tokens",
     usage: b"mib tokens FILE...",
 };
