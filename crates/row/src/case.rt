@@ -24,6 +24,17 @@ static NAMES: [&str; 7] = [
     "destroy",
 ];
 
+// The columns that a set value's name makes, between tabs, so that each is one write; a hyphen for what is no set value with a name.
+static COLUMNS: [&[u8]; 7] = [
+    b"\t-\t",
+    b"\tactive\t",
+    b"\tnotInService\t",
+    b"\tnotReady\t",
+    b"\tcreateAndGo\t",
+    b"\tcreateAndWait\t",
+    b"\tdestroy\t",
+];
+
 pub const LAST_VALUE: usize = 6;
 
 // The last that is a state.
@@ -74,12 +85,12 @@ impl SetValue<'_> {
         }
     }
 
-    // The name that RFC 2579 gives it, or a hyphen.
-    pub fn name(&self) -> &'static [u8] {
+    // The name that RFC 2579 gives it, or a hyphen, between tabs.
+    pub fn column(&self) -> &'static [u8] {
         if (1..=6).contains(&self.number) {
-            NAMES[self.number as usize].as_bytes()
+            COLUMNS[self.number as usize]
         } else {
-            b"-"
+            COLUMNS[0]
         }
     }
 }

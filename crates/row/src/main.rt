@@ -17,7 +17,7 @@ const SPACE: usize = 65536;
 // What separates the words of a case: the arguments are joined by a byte that none of them can hold, and a line has tabs.
 const BETWEEN_ARGUMENTS: u8 = 0;
 
-const ROW: Program = Program {
+const ROW: Program<'static> = Program {
     name: b"mib row",
     usage: b"mib row [--words] STATE yes|no yes|no [VALUE]",
 };
@@ -30,7 +30,7 @@ const LONG: Misfit = Misfit {
 
 fn main(rt: HostRuntime) {
     let mut space = [0u8; SPACE];
-    let mut out = Output::start(&rt, ROW);
+    let mut out = Output::start(&rt);
     answer(&rt, &mut space, &mut out);
     out.finish(&rt);
 }
@@ -41,7 +41,7 @@ fn answer(rt: &HostRuntime, space: &mut [u8], out: &mut Output) {
         return answer_list(rt, space, Spelling::Numbers, out);
     }
     let Ok(n) = command::arguments(rt, space) else {
-        return out.misfit(None, LONG);
+        return out.misfit(ROW, None, LONG);
     };
     match space[..n].strip_prefix(b"--words") {
         Some([]) => answer_list(rt, space, Spelling::Words, out),
@@ -60,15 +60,13 @@ fn answer_list(rt: &HostRuntime, space: &mut [u8], spelling: Spelling, out: &mut
     let read = command::each_line(rt, space, b'\n', |number, line| {
         answer_line(number, line, spelling, out)
     });
-    if let Err(error) = read {
-        out.fail(error, b"mib row: standard input");
-    }
+    out.fail_if(read.err(), b"mib row: standard input");
 }
 
 fn answer_line(number: u64, line: Result<&[u8], TooLong>, spelling: Spelling, out: &mut Output) {
     match line {
         Ok(case) => answer_case(case, b'\t', Some(number), spelling, out),
-        Err(TooLong) => out.misfit(Some(number), LONG),
+        Err(TooLong) => out.misfit(ROW, Some(number), LONG),
     }
 }
 
@@ -82,7 +80,7 @@ fn answer_case(
 ) {
     match case::read_case(case, separator) {
         Ok(case) => print_case(&case, spelling, out),
-        Err(misfit) => out.misfit(line, misfit),
+        Err(misfit) => out.misfit(ROW, line, misfit),
     }
 }
 
@@ -107,9 +105,7 @@ fn print_set(case: &Case, value: SetValue, spelling: Spelling, out: &mut Output)
     let answer = case.set(value);
     let next = row_status::next(answer, case.state.number);
     out.print(value.word);
-    out.print_tab();
-    out.print(value.name());
-    out.print_tab();
+    out.print(value.column());
     match spelling {
         Spelling::Numbers => out.print_number(row_status::number(answer)),
         Spelling::Words => out.print(case::answer_name(answer)),
