@@ -31,7 +31,7 @@ module _ (text : List ℕ) (count : ℕ) where
             absurd (omega arith)
         go (no within) = omega (arith, within)
 
-    accepted_few : count ≤ most_definitions
+    pub accepted_few : count ≤ most_definitions
     accepted_few =
         let i = reads.read room space accepted_within in
         let same = sym accepted ∙ i.2.answered in

@@ -18,11 +18,11 @@ const TAB: u8 = 9;
 const LINE_END: u8 = 10;
 
 // The words of a record that a line shows.
-const KIND: usize = 0;
+pub const KIND: usize = 0;
 
 const NAME_OFFSET: usize = 1;
 
-const NAME_LENGTH: usize = 2;
+pub const NAME_LENGTH: usize = 2;
 
 const OID_FIRST: usize = 3;
 
@@ -32,11 +32,11 @@ const SYNTAX_OFFSET: usize = 5;
 
 const SYNTAX_LENGTH: usize = 6;
 
-const ACCESS: usize = 7;
+pub const ACCESS: usize = 7;
 
-const STATUS: usize = 8;
+pub const STATUS: usize = 8;
 
-const CLASS: usize = 9;
+pub const CLASS: usize = 9;
 
 // The most bytes of a name, and the most numbers of an OID. A module with more is refused, so nothing is cut; by these bounds a line
 // has room whatever the words say.
@@ -166,15 +166,15 @@ fn write_oid_field(numbers: &[u32], out: &mut [u8], at: usize) -> usize
 
 // A definition as the reader records it: its words, and the text and the numbers that they tell the places of.
 #[derive(Clone, Copy)]
-pub struct Record<'a> {
-    pub text: &'a [u8],
-    pub words: &'a [u32],
-    pub numbers: &'a [u32],
+pub struct Record<'t, 'r> {
+    pub text: &'t [u8],
+    pub words: &'r [u32],
+    pub numbers: &'r [u32],
 }
 
-impl<'a> Record<'a> {
+impl<'t, 'r> Record<'t, 'r> {
     // A word of the record; 0 past its end.
-    fn word(self, i: usize) -> u32
+    pub fn word(self, i: usize) -> u32
         ensures { result ≡ get_or self.entry.words.now i 0 }
     {
         self.words.get(i).copied().unwrap_or(0)
@@ -206,7 +206,7 @@ impl<'a> Record<'a> {
     }
 
     // The bytes of the name.
-    pub fn name(self) -> &'a [u8]
+    pub fn name(self) -> &'t [u8]
         ensures { result.now ≡ name self.entry.text.now self.entry.words.now }
     {
         let length = self.word(NAME_LENGTH) as usize;
@@ -218,7 +218,7 @@ impl<'a> Record<'a> {
     }
 
     // The sub-identifiers of the OID.
-    fn oid(self) -> &'a [u32]
+    fn oid(self) -> &'r [u32]
         ensures { result.now ≡ sub_identifiers self.entry.numbers.now self.entry.words.now }
     {
         let count = self.word(OID_COUNT) as usize;
@@ -230,7 +230,7 @@ impl<'a> Record<'a> {
     }
 
     // The bytes of the syntax.
-    pub fn syntax(self) -> &'a [u8]
+    pub fn syntax(self) -> &'t [u8]
         ensures { result.now ≡ syntax self.entry.text.now self.entry.words.now }
     {
         let length = self.word(SYNTAX_LENGTH) as usize;

@@ -29,7 +29,7 @@ struct Card<'a> {
 
 impl<'a> Card<'a> {
     // The record of these words.
-    fn record(self, words: &'a [u32]) -> Record<'a> {
+    fn record(self, words: &'a [u32]) -> Record<'a, 'a> {
         Record {
             text: self.text,
             words,
