@@ -1,5 +1,11 @@
 // The definitions of a module, counted by kind.
+ghost use Rattle.std.specs.Prelude.{◌≤◌};
+
 use output::{Output, print, print_number};
+use reader::RECORD_WORDS;
+
+// The most records that there are.
+const RECORDS: usize = RECORD_WORDS / records::WIDTH;
 
 // What stands before the count of each kind, from the first on.
 static KINDS: [&[u8]; 7] = [
@@ -13,9 +19,12 @@ static KINDS: [&[u8]; 7] = [
 ];
 
 // How many records are of this kind. Words that are not used are 0, which is no kind.
-fn count_kind(records: &[u32], kind: u32) -> usize {
+fn count_kind(records: &[u32], kind: u32) -> usize
+    ensures { result ≤ 512 }
+{
     records
         .chunks(records::WIDTH)
+        .take(RECORDS)
         .filter(|words| words.first().copied().unwrap_or(0) == kind)
         .count()
 }
