@@ -135,7 +135,7 @@ module _ (room : ℕ) (hint : List ℕ) (value : ℤ) where
   integer_range h e r = simp (le-ltb room 64 h, e, r)
 
   pub integer_text : {form : Form} → 64 ≤ room → read_form hint ≡ Some form → in_range value ≡ true
-      → integer_verdict room hint value ≡ text (signed form value)
+      → integer_verdict room hint value ≡ text (signed (Some form) value)
   unfolding integer_verdict by_form
   integer_text h e r = simp (le-ltb room 64 h, e, r)
 

@@ -44,7 +44,7 @@ octets_verdict room hint value =
 
 -- refusal 32, then 34, or the text
 unfoldable pub by_form : Option Form → ℤ → Verdict
-by_form (Some form) value = cond (in_range value) (text (signed form value)) (refusal 34 0)
+by_form (Some form) value = cond (in_range value) (text (signed (Some form) value)) (refusal 34 0)
 by_form None value = refusal 32 0
 
 -- an integer, with an output buffer of so many bytes: refusals in the order 30, 32, 34

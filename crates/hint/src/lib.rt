@@ -90,5 +90,5 @@ pub fn integer(hint: &[u8], value: i64, out: &mut [u8]) -> Result<usize, Refusal
     if !in_range(value) {
         return Err(Refusal::OutOfRange);
     }
-    Ok(print_signed(form, value, &mut out[..64]))
+    Ok(print_signed(Some(form), value, &mut out[..64]))
 }

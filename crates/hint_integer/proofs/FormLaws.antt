@@ -12,8 +12,7 @@ use Rattle.buffer.specs.Buffer.{byte_at}
 use Rattle.hint_form.specs.Hint.{base_of, number_at, allowed, bounded}
 use Rattle.hint_integer.specs.Form.{integer_format, read_form, read_point, Usable}
 use Rattle.hint_integer.specs.declared.Form.TheVariants.{Base, Point}
-use Rattle.hint_integer.specs.declared.Form.{Form}
-use Rattle.std.proofs.Common.{Option, Some, None}
+use Rattle.std.proofs.Common.{Some, None}
 use Rattle.hint_form.proofs.HintLaws.{and_left, and_right}
 
 -- a hint's form is usable
@@ -27,12 +26,7 @@ base_usable letter = go (eqb letter (code "x")) (eqb letter (code "o")) (eqb let
     go false false true = (lit≤ tt, lit≤ tt)
     go false false false = (lit≤ tt, lit≤ tt)
 
--- a form that was read, if one was
-abbrev pub UsableIf : Option Form → Type 0
-UsableIf (Some form) = Usable form
-UsableIf None = Unit {0}
-
-point_usable : (hint : List ℕ) → UsableIf (read_point hint)
+point_usable : (hint : List ℕ) → Usable (read_point hint)
 unfolding read_point bounded allowed
 point_usable hint = go (front && (leading && least) && end) refl
   where
@@ -48,16 +42,16 @@ point_usable hint = go (front && (leading && least) && end) refl
     end : Bool
     end = eqb (number_at hint 2).next (length hint)
 
-    go : (t : Bool) → (front && (leading && least) && end) ≡ t → UsableIf (cond t (Some (Point (number_at hint 2).value)) None)
+    go : (t : Bool) → (front && (leading && least) && end) ≡ t → Usable (cond t (Some (Point (number_at hint 2).value)) None)
     go true e =
         let number = and_right front (leading && least) (and_left (front && (leading && least)) end e) in
         leb-true (number_at hint 2).value 10 (and_right leading least number)
     go false e = tt
 
-pub form_usable : (hint : List ℕ) → UsableIf (read_form hint)
+pub form_usable : (hint : List ℕ) → Usable (read_form hint)
 unfolding read_form
 form_usable hint = go (eqb (length hint) 1 && integer_format (byte_at hint 0))
   where
-    go : (t : Bool) → UsableIf (cond t (Some (Base (base_of (byte_at hint 0)))) (read_point hint))
+    go : (t : Bool) → Usable (cond t (Some (Base (base_of (byte_at hint 0)))) (read_point hint))
     go true = base_usable (byte_at hint 0)
     go false = point_usable hint

@@ -27,7 +27,8 @@ unfoldable pub read_form : List ℕ → Option Form
 read_form hint =
     cond (eqb (length hint) 1 && integer_format (byte_at hint 0)) (Some (Base (base_of (byte_at hint 0)))) (read_point hint)
 
--- a form that can be printed by: a base from 2 to 16, or at most ten places
-abbrev pub Usable : Form → Type 0
-Usable (Base base) = (2 ≤ base) × (base ≤ 16)
-Usable (Point places) = places ≤ 10
+-- a form that can be printed by: a base from 2 to 16, or at most ten places; none too, which asks nothing
+abbrev pub Usable : Option Form → Type 0
+Usable (Some (Base base)) = (2 ≤ base) × (base ≤ 16)
+Usable (Some (Point places)) = places ≤ 10
+Usable None = Unit {0}

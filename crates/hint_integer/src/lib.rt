@@ -65,21 +65,23 @@ fn magnitude_of(value: i64) -> u64
     }
 }
 
-// Writes the digits of a number in a form, and answers the place after them.
-#[tactic(auto, unfolding(crate::specs::Signed::magnitude))]
-fn print_magnitude(form: Form, n: u64, out: &mut [u8], at: usize) -> usize
+// Writes the digits of a number in a form, and answers the place after them; by no form it writes none.
+#[tactic(auto, using(buffer::proofs::Writing::wrote_none), unfolding(crate::specs::Signed::magnitude))]
+fn print_magnitude(form: Option<Form>, n: u64, out: &mut [u8], at: usize) -> usize
     requires usable { Usable form }
     requires room { at + length (magnitude form n) ≤ length out.old }
     ensures { Wrote (magnitude form n) at result out.old out.new }
 {
     match form {
-        Form::Base(base) => print_digits(n, base, out, at),
-        Form::Point(places) => print_pointed(n, places, out, at),
+        Some(Form::Base(base)) => print_digits(n, base, out, at),
+        Some(Form::Point(places)) => print_pointed(n, places, out, at),
+        None => at,
     }
 }
 
-// Writes an integer in a form from the start of the output, and answers the text's length.
-pub fn print_signed(form: Form, value: i64, out: &mut [u8]) -> usize
+// Writes an integer in a form from the start of the output, and answers the text's length. By no form it writes a minus alone below
+// zero, and else nothing.
+pub fn print_signed(form: Option<Form>, value: i64, out: &mut [u8]) -> usize
     requires usable { Usable form }
     requires range { in_range value ≡ true }
     requires room { 64 ≤ length out.old }

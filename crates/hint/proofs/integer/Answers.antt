@@ -1,12 +1,13 @@
 -- The tests are the verdict's, in its order; the part is zeroed before the text is written.
 -- Assumes nothing.
-use Rattle.std.proofs.Common.{Err, length, refl, sym, ap, subst, ◌∙◌}
+use Rattle.std.proofs.Common.{Some, Err, length, refl, sym, ap, subst, ◌∙◌}
 use mir.Facts.{to_z-of_z}
 use Rattle.hint_integer.specs.Signed.{in_range, signed}
 use Rattle.hint.specs.declared.Refusal.TheVariants.{BadHint, OutOfRange}
 use Rattle.hint.specs.Answer.{integer_verdict}
 use Rattle.buffer.proofs.Writing.{wrote_as}
-use Rattle.hint_integer.proofs.FormLaws.{UsableIf, form_usable}
+use Rattle.hint_integer.specs.Form.{Usable}
+use Rattle.hint_integer.proofs.FormLaws.{form_usable}
 use Rattle.hint.proofs.Answers.{answered_short, answered_refusal, answered_text, integer_short, integer_hint, integer_range, integer_text}
 use Rattle.hint.proofs.integer.Goals as goal
 
@@ -37,7 +38,7 @@ returns-then-not-in_range c =
 
 pub print_signed-requires-clause-usable : goal.print_signed-requires-clause-usable
 print_signed-requires-clause-usable c =
-    subst UsableIf (sym c.form_of.ensures ∙ c.in-Some.is) (form_usable c.args.hint.now)
+    subst Usable (sym c.form_of.ensures ∙ c.in-Some.is) (form_usable c.args.hint.now)
 
 pub returns : goal.returns
 returns c =
@@ -46,4 +47,4 @@ returns c =
     let some = sym c.form_of.ensures ∙ c.in-Some.is in
     let within = sym (c.in_range.ensures ∙ ap in_range same) ∙ c.if-not-in_range.false in
     let why = integer_text (length a.out.now) a.hint.now a.value c.if-out-lt64.false some within in
-    answered_text 64 a.out.now c.clear.new.out c.clear.ensures why (wrote_as (ap (signed c.in-Some.form) same) c.print_signed.ensures)
+    answered_text 64 a.out.now c.clear.new.out c.clear.ensures why (wrote_as (ap (signed (Some c.in-Some.form)) same) c.print_signed.ensures)
