@@ -6,6 +6,7 @@ ghost use Rattle.lexicon.specs.Word.{words, same, between, Within, longest_name,
 ghost use Rattle.lexicon.specs.Word.{slot_count, SlotWord};
 
 use crate::byte::{CAPITAL_HEX, class_of};
+pub use crate::table::LOOKUP_SIZE;
 use crate::table::{LOOKUP, ROW_WIDTH, SLOT_COUNT};
 use index::wide_byte;
 use terminal::FIRST_WORD;

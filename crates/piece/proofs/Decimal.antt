@@ -4,7 +4,6 @@ use mathlib.Core.Path.{◌≡◌, refl, ap, ◌∙◌}
 use mathlib.Core.Bool.{true, false}
 use mathlib.Core.List.{List, [], ◌∷◌, ◌++◌}
 use Prim.Native.Nat.{ℕ, suc, ◌+◌, ◌-◌, ◌*◌, ◌≤◌, ◌<◌}
-use native.Mathlib.Numerals.{add-one}
 use native.Mathlib.Omega.{arith}
 use borrow.Author.Tests.{le-leb, lt-leb}
 use lib.Dec.{leb}
@@ -37,18 +36,6 @@ pub capped_more : (t : List ℕ) (at i : ℕ) {value next : ℕ} → at ≤ i �
     → value ≡ capped (decimal (take (i - at) (drop at t))) → next ≡ capped (10 * value + (get_or t i 0 - 48))
     → next ≡ capped (decimal (take (i + 1 - at) (drop at t)))
 capped_more t at i h l e q = omega (arith, decimal_more t at i h l)
-
--- the same of digits that stand alone
-pub capped_start : 0 ≡ capped (decimal [])
-unfolding decimal_after
-capped_start = refl
-
-pub capped_next : (ds : List ℕ) (k : ℕ) {value next : ℕ} → k < length ds → value ≡ capped (decimal (take k ds))
-    → next ≡ capped (10 * value + (get_or ds k 0 - 48)) → next ≡ capped (decimal (take (k + 1) ds))
-capped_next ds k h e q =
-    let more : decimal (take (k + 1) ds) ≡ 10 * decimal (take k ds) + (get_or ds k 0 - 48) =
-    rw (add-one k, take-suc ds k 0 h) (decimal_snoc 0 (take k ds) (get_or ds k 0)) in
-    omega (arith, e, q, more)
 
 -- of the n digits from `at` to `end`, the value cut off is over a limit exactly if the whole value is
 module _
