@@ -1,13 +1,13 @@
 -- Laws of writing to the output buffer: a write keeps its length, and two writes in a row are one.
 -- Assumes nothing.
 use Prim.Native.Nat.{ℕ, ◌+◌, ◌≤◌, ◌<◌}
-use native.Mathlib.Nat.{add-zero, add_assoc}
+use native.Mathlib.Nat.{add-zero, add_assoc, le_of_lt}
 use native.Mathlib.Numerals.{add-one}
 use native.Mathlib.Omega.{arith}
 use mathlib.Core.Path.{◌≡◌, sym, ap, subst, ◌∙◌}
 use mathlib.Core.List.{List, [], ◌∷◌, ◌++◌, append_assoc}
-use lib.ListN.{length, take, drop, set, length-append, length-take, length-drop, take-append-drop}
-use lib.Seq.{take_at, drop-append-add, drop-drop, set_split}
+use lib.ListN.{length, get_or, take, drop, set, length-append, length-take, length-drop, take-append-drop}
+use lib.Seq.{take_at, drop-append-add, drop-drop, set_split, take-suc, length-take-le}
 use Rattle.buffer.specs.Buffer.{written, Wrote}
 
 -- no bytes change nothing
@@ -60,3 +60,14 @@ wrote_as {o = o} {o₁ = o₁} {at = at} {n = n} e w = subst (λ (l : List ℕ).
 
 pub wrote_none : (o : List ℕ) (at : ℕ) → Wrote [] at at o o
 wrote_none o at = record { next_is = sym (add-zero at); buffer_is = sym (written_none o at) }
+
+-- one byte more of those to be written
+pub written_next : (o : List ℕ) (at : ℕ) (s : List ℕ) (i : ℕ) → at + length s ≤ length o → i < length s
+    → set (written o at (take i s)) (at + i) (get_or s i 0) ≡ written o at (take (i + 1) s)
+written_next o at s i h l =
+    let part : length (take i s) ≡ i = length-take-le i s (le_of_lt l) in
+    let kept : length (written o at (take i s)) ≡ length o = length_written o at (take i s) (omega arith) in
+    written_one (written o at (take i s)) (at + i) (get_or s i 0) (omega arith)
+    ∙ ap (λ (k : ℕ). written (written o at (take i s)) (at + k) (get_or s i 0 ∷ [])) (sym part)
+    ∙ written_more o at (take i s) (get_or s i 0 ∷ []) (omega arith)
+    ∙ ap (λ (l₁ : List ℕ). written o at l₁) (sym (take-suc s i 0 l) ∙ ap (λ (k : ℕ). take k s) (sym (add-one i)))

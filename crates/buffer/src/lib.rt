@@ -21,14 +21,15 @@ pub fn put(out: &mut [u8], at: usize, b: u8) -> usize
     at + 1
 }
 
-// Writes bytes, and answers the place after them.
+// Writes bytes, and answers the place after them. One by one: `copy_from_slice` would have the library for C ask for `memmove`.
 pub fn copy(s: &[u8], out: &mut [u8], at: usize) -> usize
     requires { at + length s.now ≤ length out.old }
     ensures { Wrote s.now at result out.old out.new }
 {
-    let next = at + s.len();
-    out[at..next].copy_from_slice(s);
-    next
+    for (i, b) in s.iter().enumerate() {
+        out[at + i] = *b;
+    }
+    at + s.len()
 }
 
 // Zeroes the first bytes.
